@@ -1,0 +1,128 @@
+-- Records cut from bytes are whole, and whole records put together are cut into themselves. Assumes nothing.
+use mathlib.Core.Path.{_≡_, refl, ap, _∙_}
+use mathlib.Core.Bool.{Bool, true, false, cond, not, _&&_}
+use mathlib.Core.List.{List, [], _∷_, _++_}
+use Prim.Native.Nat.{ℕ, zero, suc, _≤_}
+use native.Mathlib.Omega.{arith}
+use lib.Dec.{eqb, ltb}
+use lib.ListN.{length, take, drop, length-append}
+use lib.Seq.{take-at, drop-at, length-take-le}
+use borrow.Author.Tests.{ltb-false, eqb-true, not-true, le-ltb, eq-eqb}
+use Rattle.theory.proofs.Fold.{All}
+use Rattle.theory.proofs.Sets.{and-l, and-r, and-i, clash}
+use Rattle.theory.proofs.Simulation.{more}
+use Rattle.ops.specs.Kinds.{rowOf, known, bodyLength}
+use Rattle.ops.specs.Ops.{kindOf}
+use Rattle.block.specs.Records.{Cut, nothingLeft, stray, cons, cutBy, cutOf, concat, isDeclaration, declarations, opsFrom}
+
+-- a record of a known kind, with its body
+abbrev pub whole : List ℕ → Bool
+whole r = known (kindOf r) && eqb (length r) (suc (bodyLength (kindOf r)))
+
+abbrev pub AllWhole : List (List ℕ) → Type 0
+AllWhole rs = All (λ r. whole r ≡ true) rs
+
+abbrev pub cut-clean : List (List ℕ) → Cut
+cut-clean rs = record { records = rs; tail = 0 }
+
+-- what is cut is whole
+cut-cons : (k : ℕ) (bytes : List ℕ) (more : Cut) (t s : Bool) → known k ≡ t → ltb (length bytes) (bodyLength k) ≡ s → AllWhole (more .records)
+    → AllWhole ((cond t (cond s (stray 1) (cons (k ∷ take (bodyLength k) bytes) more)) (stray 2)) .records)
+cut-cons k bytes more true true e f h = tt
+cut-cons k bytes more true false e f h = (
+  and-i (known k) (eqb (suc (length (take (bodyLength k) bytes))) (suc (bodyLength k))) e
+      (eq-eqb (suc (length (take (bodyLength k) bytes))) (suc (bodyLength k))
+      (ap suc (length-take-le (bodyLength k) bytes (ltb-false (length bytes) (bodyLength k) f)))),
+  h,
+)
+cut-cons k bytes more false s e f h = tt
+
+pub cut-whole : (n : ℕ) (bytes : List ℕ) → AllWhole ((cutBy n bytes) .records)
+unfolding cutBy
+cut-whole zero bytes = tt
+cut-whole (suc n) [] = tt
+cut-whole (suc n) (k ∷ bytes) =
+    cut-cons k bytes (cutBy n (drop (bodyLength k) bytes)) (known k) (ltb (length bytes) (bodyLength k)) refl refl (cut-whole n (drop (bodyLength k) bytes))
+
+-- a whole record in front is the first that is cut
+cut-first : (n k : ℕ) (body bytes : List ℕ) → whole (k ∷ body) ≡ true → cutBy (suc n) (k ∷ (body ++ bytes)) ≡ cons (k ∷ body) (cutBy n bytes)
+unfolding cutBy
+cut-first n k body bytes h =
+    let e : length body ≡ bodyLength k = omega (arith, eqb-true (length (k ∷ body)) (suc (bodyLength k)) (and-r (known k) (eqb (length (k ∷ body)) (suc (bodyLength k))) h)) in
+    let f : ltb (length (body ++ bytes)) (bodyLength k) ≡ false = le-ltb (length (body ++ bytes)) (bodyLength k) (omega (arith, length-append body bytes)) in
+    rw (and-l (known k) (eqb (length (k ∷ body)) (suc (bodyLength k))) h, f, take-at body bytes (bodyLength k) e, drop-at body bytes (bodyLength k) e)
+
+cut-none : (n : ℕ) → cutBy n [] ≡ nothingLeft
+unfolding cutBy
+cut-none zero = refl
+cut-none (suc n) = refl
+
+no-record : whole [] ≡ false
+unfolding rowOf
+no-record = refl
+
+cut-records : (rs : List (List ℕ)) (n : ℕ) → AllWhole rs → length (concat rs) ≤ n → cutBy n (concat rs) ≡ cut-clean rs
+cut-records [] n h l = cut-none n
+cut-records ([] ∷ rs) n h l = clash (whole []) (h .0) no-record
+cut-records ((k ∷ body) ∷ rs) zero h l = absurd (omega arith)
+cut-records ((k ∷ body) ∷ rs) (suc n) h l =
+    cut-first n k body (concat rs) (h .0)
+    ∙ ap (cons (k ∷ body)) (cut-records rs n (h .1) (omega (arith, length-append body (concat rs))))
+
+pub cut-concat : (rs : List (List ℕ)) → AllWhole rs → cutOf (concat rs) ≡ cut-clean rs
+unfolding cutOf
+cut-concat rs h = cut-records rs (length (concat rs)) h (omega arith)
+
+-- the declarations and the records from the first op on
+pub split-records : (rs : List (List ℕ)) → declarations rs ++ opsFrom rs ≡ rs
+split-records [] = refl
+split-records (r ∷ rs) = go (isDeclaration r) (split-records rs)
+  where
+    go : (b : Bool) → declarations rs ++ opsFrom rs ≡ rs → cond b (r ∷ declarations rs) [] ++ cond b (opsFrom rs) (r ∷ rs) ≡ r ∷ rs
+    go true e = ap (λ (q : List (List ℕ)). r ∷ q) e
+    go false e = refl
+
+abbrev pub AllDeclared : List (List ℕ) → Type 0
+AllDeclared rs = All (λ r. isDeclaration r ≡ true) rs
+
+pub declared-all : (rs : List (List ℕ)) → AllDeclared (declarations rs)
+declared-all [] = tt
+declared-all (r ∷ rs) = go (isDeclaration r) refl (declared-all rs)
+  where
+    go : (b : Bool) → isDeclaration r ≡ b → AllDeclared (declarations rs) → AllDeclared (cond b (r ∷ declarations rs) [])
+    go true e h = (e, h)
+    go false e h = tt
+
+-- the first record is an op, if there is one
+abbrev pub headOp : List (List ℕ) → Bool
+headOp [] = true
+headOp (r ∷ rs) = not (isDeclaration r)
+
+pub ops-head : (rs : List (List ℕ)) → headOp (opsFrom rs) ≡ true
+ops-head [] = refl
+ops-head (r ∷ rs) = go (isDeclaration r) refl (ops-head rs)
+  where
+    go : (b : Bool) → isDeclaration r ≡ b → headOp (opsFrom rs) ≡ true → headOp (cond b (opsFrom rs) (r ∷ rs)) ≡ true
+    go true e h = h
+    go false e h = ap not e
+
+head-split : (os : List (List ℕ)) → headOp os ≡ true → (declarations os ≡ []) × (opsFrom os ≡ os)
+head-split [] h = (refl, refl)
+head-split (o ∷ os) h = let e : isDeclaration o ≡ false = not-true (isDeclaration o) h in rw e (refl, refl)
+
+-- declarations and then ops come apart again
+pub split-again : (ds os : List (List ℕ)) → AllDeclared ds → headOp os ≡ true → (declarations (ds ++ os) ≡ ds) × (opsFrom (ds ++ os) ≡ os)
+split-again [] os h k = head-split os k
+split-again (d ∷ ds) os h k = let p = split-again ds os (h .1) k in rw (h .0) (ap (λ (q : List (List ℕ)). d ∷ q) (p .0), p .1)
+
+pub all-append : {A : Type 0} (P : A → Type 0) (xs ys : List A) → All P xs → All P ys → All P (xs ++ ys)
+all-append P [] ys h k = k
+all-append P (x ∷ xs) ys h k = (h .0, all-append P xs ys (h .1) k)
+
+pub all-left : {A : Type 0} (P : A → Type 0) (xs ys : List A) → All P (xs ++ ys) → All P xs
+all-left P [] ys h = tt
+all-left P (x ∷ xs) ys h = (h .0, all-left P xs ys (h .1))
+
+pub all-right : {A : Type 0} (P : A → Type 0) (xs ys : List A) → All P (xs ++ ys) → All P ys
+all-right P [] ys h = h
+all-right P (x ∷ xs) ys h = all-right P xs ys (h .1)

@@ -1,0 +1,214 @@
+-- The check accepts what fold and prune leave of accepted ops, but for the rule of temporaries. Assumes nothing.
+use mathlib.Core.Path.{_≡_, refl, sym, ap, ap₂, _∙_, subst}
+use mathlib.Core.Bool.{Bool, true, false, cond, not, _&&_, false≢true}
+use mathlib.Core.List.{List, [], _∷_, _++_}
+use Prim.Native.Nat.{ℕ, suc, _≤_}
+use native.Mathlib.Omega.{arith}
+use lib.Dec.{eqb, ltb}
+use lib.ListN.{length, getD}
+use borrow.Author.Tests.{ltb-true, eqb-true, lt-ltb, eq-eqb}
+use native.Mathlib.Nat.{le-trans, le-refl}
+use Rattle.theory.specs.Fold.{Known, isCalc, inputs, baseRule}
+use Rattle.theory.specs.Machine.{View, calc, access, label, jump, branch, leave, reads}
+use Rattle.theory.specs.Sets.{Vars}
+use Rattle.theory.proofs.Accept.{Lenient, Admits}
+use Rattle.theory.proofs.Rule.{Puts, same, folds, puts, IsPut, view-put}
+use Rattle.theory.proofs.Sets.{and-l, and-r, and-i, clash}
+use Rattle.ops.specs.Kinds.{at, one, rowOf, known, bodyLength}
+use Rattle.ops.specs.Ops.{kindOf, rowAt, insBy, Fault, viewBy, viewOf, tcg, moviOf, folding}
+use Rattle.ops.proofs.Folding.{Movi, movi-facts, states, movi-for, constants}
+use Rattle.block.specs.Checks.{endRules}
+use Rattle.block.specs.Records.{isDeclaration}
+use Rattle.block.specs.Rules.{Seen, allBelow, operandsOf, rule4, haveWidths, rule5, rule6, labelFree, nextLabels, nextTargets, rule7, rule9, rule10}
+use Rattle.block.specs.Rules.{rule7end, passed}
+use Rattle.block.proofs.Accepts.{allMet}
+use Rattle.block.proofs.Checker.{opOk, checker}
+use Rattle.block.proofs.Cut.{whole}
+
+-- whatever is accepted after x is accepted after y
+pub record Le (x y : Seen) : Type 0 where
+  pub classes : y .classes ≡ x .classes
+  pub widths : y .widths ≡ x .widths
+  pub labels : y .labels ≡ x .labels
+  pub targets : y .targets ≡ x .targets
+  pub ops : y .ops ≤ x .ops
+  pub last : x .last ≡ 0x04 → y .last ≡ 0x04
+
+rules-le : (x y : Seen) (o : List ℕ) → Le x y → (rule9 x o && (rule4 x o && (rule5 x o && (rule6 x o && rule7 x o)))) ≡ true
+    → (rule9 y o && (rule4 y o && (rule5 y o && (rule6 y o && rule7 y o)))) ≡ true
+unfolding rule9 rule4 rule5 rule6 rule7
+rules-le x y o l h =
+    and-i (rule9 y o) _ (lt-ltb (y .ops) 256 (omega (arith, l .ops, ltb-true (x .ops) 256 (and-l (rule9 x o) _ h))))
+    (rw (l .classes, l .widths, l .labels) (and-r (rule9 x o) (rule4 x o && (rule5 x o && (rule6 x o && rule7 x o))) h))
+
+ok-le : (x y : Seen) (o : List ℕ) → Le x y → opOk x o ≡ true → opOk y o ≡ true
+ok-le x y o l h =
+    let p = and-r (whole o) (not (isDeclaration o) && (rule9 x o && (rule4 x o && (rule5 x o && (rule6 x o && rule7 x o))))) h in
+    and-i (whole o) (not (isDeclaration o) && (rule9 y o && (rule4 y o && (rule5 y o && (rule6 y o && rule7 y o)))))
+    (and-l (whole o) (not (isDeclaration o) && (rule9 x o && (rule4 x o && (rule5 x o && (rule6 x o && rule7 x o))))) h)
+    (and-i (not (isDeclaration o)) (rule9 y o && (rule4 y o && (rule5 y o && (rule6 y o && rule7 y o))))
+    (and-l (not (isDeclaration o)) (rule9 x o && (rule4 x o && (rule5 x o && (rule6 x o && rule7 x o)))) p)
+    (rules-le x y o l (and-r (not (isDeclaration o)) (rule9 x o && (rule4 x o && (rule5 x o && (rule6 x o && rule7 x o)))) p)))
+
+next-le : (x y : Seen) (o : List ℕ) → Le x y → Le (passed x o) (passed y o)
+next-le x y o l =
+    record {
+      classes = l .classes;
+      widths = l .widths;
+      labels = ap (λ (f : Vars). nextLabels f (viewOf o)) (l .labels);
+      targets = ap (λ (f : Vars). nextTargets f (viewOf o)) (l .targets);
+      ops = omega (arith, l .ops);
+      last = λ e. e;
+    }
+
+end-le : (x y : Seen) → Le x y → allMet (endRules x) ≡ true → allMet (endRules y) ≡ true
+unfolding rule10 rule7end
+end-le x y l h =
+    and-i (eqb (y .last) 0x04) _ (eq-eqb (y .last) 0x04 (l .last (eqb-true (x .last) 0x04 (and-l (rule10 x) _ h))))
+    (rw (l .targets, l .labels) (and-r (rule10 x) (rule7end x && true) h))
+
+-- a pure op marks no label and jumps to none, and is no exit
+calc-labels : (labels targets : Vars) (w : View ℕ (List ℕ) Fault) → isCalc w ≡ true → (nextLabels labels w ≡ labels) × (nextTargets targets w ≡ targets)
+calc-labels labels targets (calc outs ins f) c = (refl, refl)
+calc-labels labels targets (access outs ins f) c = absurd (false≢true c)
+calc-labels labels targets (label k) c = absurd (false≢true c)
+calc-labels labels targets (jump k) c = absurd (false≢true c)
+calc-labels labels targets (branch ins f k) c = absurd (false≢true c)
+calc-labels labels targets (leave x) c = absurd (false≢true c)
+
+exit-row : (k : ℕ) (r : List ℕ) → k ≡ 0x04 → viewBy (rowOf k) ((rowOf k) .does) r ≡ leave (at r 1)
+unfolding rowOf
+exit-row k r e = rw e
+
+pub exit-view : (o : List ℕ) → kindOf o ≡ 0x04 → viewOf o ≡ leave (at o 1)
+unfolding viewOf
+exit-view o e = exit-row (kindOf o) o e
+
+no-exit : {A : Type 0} (o : List ℕ) → isCalc (viewOf o) ≡ true → kindOf o ≡ 0x04 → A
+no-exit o c e = clash (isCalc (viewOf o)) c (ap isCalc (exit-view o e))
+
+drop-ok : (x : Seen) (o : List ℕ) → isCalc (viewOf o) ≡ true → Le (passed x o) x
+drop-ok x o c =
+    let l = calc-labels (x .labels) (x .targets) (viewOf o) c in
+    record {
+      classes = refl;
+      widths = refl;
+      labels = sym (l .0);
+      targets = sym (l .1);
+      ops = omega arith;
+      last = λ e. no-exit o c e;
+    }
+
+pub lenient : Lenient tcg checker
+lenient =
+    record {
+      Le = Le;
+      le-refl = λ x. record { classes = refl; widths = refl; labels = refl; targets = refl; ops = omega arith; last = λ e. e };
+      le-trans = λ x y z a b. record {
+        classes = b .classes ∙ a .classes;
+        widths = b .widths ∙ a .widths;
+        labels = b .labels ∙ a .labels;
+        targets = b .targets ∙ a .targets;
+        ops = omega (arith, a .ops, b .ops);
+        last = λ e. b .last (a .last e);
+      };
+      ok-le = ok-le;
+      next-le = next-le;
+      fin-le = end-le;
+      drop-ok = drop-ok;
+    }
+
+-- a movi in the place of an accepted op with the same output is accepted
+movi-kind : (b : Bool) → eqb (cond b 0x10 0x90) 0x01 ≡ false
+movi-kind true = refl
+movi-kind false = refl
+
+module _ (x : Seen) (o : List ℕ) (w v : ℕ) (one : (rowAt o) .outs ≡ w ∷ []) (m : Movi w (at o 1) v (moviOf w (at o 1) v)) where
+  movi-operands : operandsOf (moviOf w (at o 1) v) ≡ at o 1 ∷ []
+  movi-operands = rw (m .outs, m .ins)
+
+  first-operand : operandsOf o ≡ at o 1 ∷ insBy (rowAt o) o
+  first-operand = rw one
+
+  movi-4 : rule4 x o ≡ true → rule4 x (moviOf w (at o 1) v) ≡ true
+  unfolding rule4
+  movi-4 h =
+      let k : (ltb (at o 1) (length (x .classes)) && allBelow (length (x .classes)) (insBy (rowAt o) o)) ≡ true = sym (ap (allBelow (length (x .classes))) first-operand) ∙ h in
+      ap (allBelow (length (x .classes))) movi-operands ∙ and-i (ltb (at o 1) (length (x .classes))) true (and-l (ltb (at o 1) (length (x .classes))) _ k) refl
+
+  movi-5 : rule5 x o ≡ true → rule5 x (moviOf w (at o 1) v) ≡ true
+  unfolding rule5
+  movi-5 h =
+      let k : (eqb (getD (x .widths) (at o 1) 0) w && haveWidths (x .widths) (insBy (rowAt o) o) ((rowAt o) .ins)) ≡ true =
+      sym (ap₂ (haveWidths (x .widths)) first-operand (ap (λ (t : List ℕ). t ++ (rowAt o) .ins) one)) ∙ h in
+      ap₂ (haveWidths (x .widths)) movi-operands (ap₂ (λ (s t : List ℕ). s ++ t) (m .widths) (m .no-inputs))
+      ∙ and-i (eqb (getD (x .widths) (at o 1) 0) w) true (and-l (eqb (getD (x .widths) (at o 1) 0) w) _ k) refl
+
+  movi-9 : rule9 x o ≡ true → rule9 x (moviOf w (at o 1) v) ≡ true
+  unfolding rule9
+  movi-9 h = h
+
+  movi-6 : rule6 x (moviOf w (at o 1) v) ≡ true
+  unfolding rule6
+  movi-6 = m .rest
+
+  movi-7 : rule7 x (moviOf w (at o 1) v) ≡ true
+  unfolding rule7
+  movi-7 = ap (labelFree (x .labels)) (m .view)
+
+  movi-whole : whole (moviOf w (at o 1) v) ≡ true
+  movi-whole =
+      and-i (known (kindOf (moviOf w (at o 1) v))) (eqb (length (moviOf w (at o 1) v)) (suc (bodyLength (kindOf (moviOf w (at o 1) v)))))
+      (m .is-known) (eq-eqb (length (moviOf w (at o 1) v)) (suc (bodyLength (kindOf (moviOf w (at o 1) v)))) (m .long))
+
+  movi-ok : opOk x o ≡ true → opOk x (moviOf w (at o 1) v) ≡ true
+  movi-ok h =
+      let a = and-r (not (isDeclaration o)) (rule9 x o && (rule4 x o && (rule5 x o && (rule6 x o && rule7 x o))))
+      (and-r (whole o) (not (isDeclaration o) && (rule9 x o && (rule4 x o && (rule5 x o && (rule6 x o && rule7 x o))))) h) in
+      let b = and-r (rule9 x o) (rule4 x o && (rule5 x o && (rule6 x o && rule7 x o))) a in
+      let c = and-r (rule4 x o) (rule5 x o && (rule6 x o && rule7 x o)) b in
+      and-i (whole o′) _ movi-whole
+      (and-i (not (isDeclaration o′)) _ (ap not (movi-kind (eqb w 32)))
+      (and-i (rule9 x o′) _ (movi-9 (and-l (rule9 x o) _ a))
+      (and-i (rule4 x o′) _ (movi-4 (and-l (rule4 x o) _ b))
+      (and-i (rule5 x o′) _ (movi-5 (and-l (rule5 x o) _ c))
+      (and-i (rule6 x o′) _ movi-6 movi-7)))))
+    where
+      o′ : List ℕ
+      o′ = moviOf w (at o 1) v
+
+-- what fold puts in place
+put-ok : (x : Seen) (k : Known ℕ) (o o′ : List ℕ) → Puts tcg folding constants k o o′ → opOk x o ≡ true
+    → (opOk x o′ ≡ true) × Le (passed x o) (passed x o′) × Unit {0}
+put-ok x k o o′ (same e) h = rw (← e) (h, record { classes = refl; widths = refl; labels = refl; targets = refl; ops = omega arith; last = λ q. q }, tt)
+put-ok x k o o′ (folds outs ins f xs vs t e a g p d w) h =
+    let s = states o outs ins f xs vs t e g in
+    let q : o′ ≡ moviOf (s .width) (at o 1) (s .value) = p ∙ movi-for o vs s in
+    let m = movi-facts (s .width) (at o 1) (s .value) (s .wide) (s .fits) in
+    let c : isCalc (viewOf o) ≡ true = ap isCalc e in
+    let l = calc-labels (x .labels) (x .targets) (viewOf o) c in
+    let l′ = calc-labels (x .labels) (x .targets) (viewOf o′) (ap isCalc w) in (
+      ap (opOk x) q ∙ movi-ok x o (s .width) (s .value) (s .one-out) m h,
+      record {
+        classes = refl;
+        widths = refl;
+        labels = l′ .0 ∙ sym (l .0);
+        targets = l′ .1 ∙ sym (l .1);
+        ops = omega arith;
+        last = λ z. no-exit o c z;
+      },
+      tt,
+    )
+
+pub admits : Admits tcg checker lenient (baseRule tcg folding)
+unfolding lenient
+admits =
+    record {
+      Good = λ k. Unit {0};
+      good-none = tt;
+      put-ok = λ x k o o′ u q h. put-ok x k o o′ (puts tcg folding constants k o o′ q) h;
+      omit-ok = λ x k o q. absurd (subst (IsPut tcg folding constants) q (view-put tcg folding constants o (viewOf o) (reads k (inputs (viewOf o)))));
+      Skips = ⊥;
+      cut-ok = λ x k o o′ q. absurd (subst (IsPut tcg folding constants) q (view-put tcg folding constants o (viewOf o) (reads k (inputs (viewOf o)))));
+      skip-ok = λ x o n e. absurd n;
+    }

@@ -1,0 +1,5 @@
+pub mod Cut
+pub mod Accepts
+pub mod Checker
+pub mod Lenient
+pub mod Parts

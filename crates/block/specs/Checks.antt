@@ -1,0 +1,46 @@
+-- The check: the first broken rule, by number and place. Assumes nothing.
+use Prim.Native.Nat.{ℕ, suc, _+_}
+use mathlib.Core.Bool.{Bool, true, false, cond}
+use mathlib.Core.List.{List, [], _∷_}
+use lib.Dec.{eqb}
+use lib.ListN.{length}
+use Rattle.block.specs.declared.Check.{Check}
+use Rattle.block.specs.declared.Check.the-variants.{Accepted, Refused}
+use Rattle.block.specs.Records.{Cut, cutOf, isDeclaration}
+use Rattle.block.specs.Rules.{Seen, start, next, rule3, rule4, rule5, rule6, rule7, rule8, rule9, rule10, rule7end}
+
+-- a rule's number, and whether it is met
+pub record Finding : Type 0 where
+  pub number : ℕ
+  pub met : Bool
+
+abbrev pub asks : ℕ → Bool → Finding
+asks number met = record { number = number; met = met }
+
+-- the number of the first rule that is not met; 0 if all are
+unfoldable pub firstBroken : List Finding → ℕ
+firstBroken [] = 0
+firstBroken (x ∷ xs) = cond (x .met) (firstBroken xs) (x .number)
+
+-- "Within one: 2, 1, then 3 or 9, then 4, 5, 6, 7, 8" (2 and 1 are the cut's)
+abbrev pub opRules : Seen → List ℕ → List Finding
+opRules s r =
+    asks 9 (rule9 s r) ∷ asks 4 (rule4 s r) ∷ asks 5 (rule5 s r) ∷ asks 6 (rule6 s r) ∷ asks 7 (rule7 s r) ∷ asks 8 (rule8 s r) ∷ []
+
+abbrev pub rulesOf : Seen → List ℕ → List Finding
+rulesOf s r = cond (isDeclaration r) (asks 3 (rule3 s r) ∷ []) (opRules s r)
+
+-- "After the last record 10 comes before 7."
+abbrev pub endRules : Seen → List Finding
+endRules s = asks 10 (rule10 s) ∷ asks 7 (rule7end s) ∷ []
+
+abbrev pub answer : ℕ → ℕ → Check → Check
+answer number place go = cond (eqb number 0) go (Refused number place)
+
+-- "Records are read in order and the first bad one answers." place: where the next record starts
+unfoldable pub checkFrom : Seen → ℕ → List (List ℕ) → ℕ → Check
+checkFrom s place [] tail = answer tail place (answer (firstBroken (endRules s)) place Accepted)
+checkFrom s place (r ∷ rs) tail = let go = checkFrom (next s r) (place + length r) rs tail in answer (firstBroken (rulesOf s r)) place go
+
+unfoldable pub checkOf : List ℕ → Check
+checkOf block = checkFrom start 0 ((cutOf block) .records) ((cutOf block) .tail)

@@ -1,0 +1,72 @@
+-- A block's bytes cut into records. Assumes nothing.
+use Prim.Native.Nat.{ℕ, zero, suc, _+_}
+use mathlib.Core.Bool.{Bool, true, false, cond, not}
+use mathlib.Core.List.{List, [], _∷_, _++_, map}
+use lib.Dec.{eqb, ltb}
+use lib.ListN.{length, take, drop}
+use Rattle.ops.specs.Kinds.{known, bodyLength, at}
+use Rattle.ops.specs.Ops.{kindOf}
+
+-- the whole records of a block, and the rule that the record after them breaks: 2, unknown kind; 1, it runs past the end; 0, none follows
+pub record Cut : Type 0 where
+  pub records : List (List ℕ)
+  pub tail : ℕ
+
+abbrev pub nothingLeft : Cut
+nothingLeft = record { records = []; tail = 0 }
+
+abbrev pub stray : ℕ → Cut
+stray rule = record { records = []; tail = rule }
+
+abbrev pub cons : List ℕ → Cut → Cut
+cons r c = record { records = r ∷ c .records; tail = c .tail }
+
+-- "one byte of kind, then a body whose length the kind fixes"; the number bounds the records
+unfoldable pub cutBy : ℕ → List ℕ → Cut
+cutBy zero bytes = nothingLeft
+cutBy (suc n) [] = nothingLeft
+cutBy (suc n) (k ∷ bytes) =
+    let more = cons (k ∷ take (bodyLength k) bytes) (cutBy n (drop (bodyLength k) bytes)) in
+    cond (known k) (cond (ltb (length bytes) (bodyLength k)) (stray 1) more) (stray 2)
+
+unfoldable pub cutOf : List ℕ → Cut
+cutOf block = cutBy (length block) block
+
+abbrev pub recordsOf : List ℕ → List (List ℕ)
+recordsOf block = (cutOf block) .records
+
+-- the bytes of records
+abbrev pub concat : List (List ℕ) → List ℕ
+concat [] = []
+concat (r ∷ rs) = r ++ concat rs
+
+abbrev pub isDeclaration : List ℕ → Bool
+isDeclaration r = eqb (kindOf r) 0x01
+
+-- "All declarations stand before the first op": the declarations, and the records from the first op on
+abbrev pub declarations : List (List ℕ) → List (List ℕ)
+declarations [] = []
+declarations (r ∷ rs) = cond (isDeclaration r) (r ∷ declarations rs) []
+
+abbrev pub opsFrom : List (List ℕ) → List (List ℕ)
+opsFrom [] = []
+opsFrom (r ∷ rs) = cond (isDeclaration r) (opsFrom rs) (r ∷ rs)
+
+-- "A declaration has kind 01 and body class, type. Class 0 is a global, 1 a local temporary, 2 a temporary. Type 0 is 32 bits, 1 is 64 bits."
+abbrev pub classOf : List ℕ → ℕ
+classOf r = at r 1
+
+abbrev pub typeOf : List ℕ → ℕ
+typeOf r = at r 2
+
+abbrev pub widthOf : ℕ → ℕ
+widthOf type = cond (eqb type 0) 32 64
+
+-- the classes and widths of the variables, "numbered from 0 in order"
+abbrev pub classesOf : List (List ℕ) → List ℕ
+classesOf [] = []
+classesOf (d ∷ ds) = classOf d ∷ classesOf ds
+
+abbrev pub widthsOf : List (List ℕ) → List ℕ
+widthsOf [] = []
+widthsOf (d ∷ ds) = widthOf (typeOf d) ∷ widthsOf ds

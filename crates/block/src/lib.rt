@@ -1,0 +1,5 @@
+// The check's answer: a refusal carries the number of the rule and the place of the record that breaks it.
+pub enum Check {
+    Accepted,
+    Refused { number: u8, place: usize },
+}

@@ -1,0 +1,22 @@
+-- Case 12, and the examples of the mistakes, by computation. Assumes nothing.
+use mathlib.Core.Path.{refl}
+use Rattle.word.specs.Word.{byDivisor}
+use Rattle.memory.specs.Access.{flagsOk, loaded, loadAt}
+use Rattle.memory.specs.Bytes.{lowFirst, bytesOf}
+use Rattle.ops.specs.Eval.{unaryOf, logicOf, divideOf}
+use Rattle.ops.specs.Kinds.{wideRow, rowOf}
+use Rattle.ops.specs.Ops.{viewOf}
+use Rattle.block.specs.Checks.{firstBroken, checkFrom, checkOf}
+use Rattle.block.specs.Records.{cutBy, cutOf}
+use Rattle.block.specs.Rules.{rule3, rule4, rule5, rule6, rule7, rule8, rule9, rule10, rule7end, next}
+use Rattle.runner.specs.Runs.{fits, runOps, runChecked, runOf}
+use Rattle.optimiser.specs.Passes.{passOps, resultOf, passChecked, passOf}
+use Rattle.cases.specs.Examples.{source12, result12, Case12, writeBeforeLoad, deadLoad, loadIntoGlobal, divisionByZero, knownAtLabel, Mistakes}
+
+pub case-12 : Case12
+unfolding Case12 source12 result12 passOf passChecked passOps resultOf checkOf checkFrom cutOf cutBy firstBroken rule3 rule4 rule5 rule6 rule7 rule8 rule9 rule10 rule7end next runOf runChecked runOps fits viewOf rowOf wideRow unaryOf logicOf lowFirst bytesOf
+case-12 = (refl, refl, refl)
+
+pub mistakes : Mistakes
+unfolding Mistakes writeBeforeLoad deadLoad loadIntoGlobal divisionByZero knownAtLabel passOf passChecked passOps resultOf checkOf checkFrom cutOf cutBy firstBroken rule3 rule4 rule5 rule6 rule7 rule8 rule9 rule10 rule7end next runOf runChecked runOps fits viewOf rowOf wideRow unaryOf logicOf divideOf byDivisor flagsOk loadAt loaded lowFirst bytesOf
+mistakes = (refl, refl, refl, refl, refl, refl, refl, refl, refl, refl)

@@ -1,0 +1,18 @@
+-- The marked cases hold of the definitions, by computation. Assumes nothing.
+use mathlib.Core.Path.{refl}
+use Rattle.word.specs.Condition.{ltsW, lesW, condW}
+use Rattle.word.specs.Word.{sarW, divsW, remsW, extendW, byDivisor, bySigned, byCount}
+use Rattle.memory.specs.Access.{loaded, loadAt}
+use Rattle.memory.specs.Bytes.{lowFirst, highFirst}
+use Rattle.ops.specs.Eval.{convertOf, unaryOf, logicOf, divideOf, shiftOf, setcondOf, movcondOf}
+use Rattle.ops.specs.Kinds.{wideRow, rowOf}
+use Rattle.ops.specs.Ops.{evalOf, viewOf}
+use Rattle.block.specs.Checks.{firstBroken, checkFrom, checkOf}
+use Rattle.block.specs.Records.{cutBy, cutOf}
+use Rattle.block.specs.Rules.{rule3, rule4, rule5, rule6, rule7, rule8, rule9, rule10, rule7end, next}
+use Rattle.runner.specs.Runs.{fits, runOps, runChecked, runOf}
+use Rattle.cases.specs.Marked.{marked, MarkedCases}
+
+pub marked-cases : MarkedCases
+unfolding MarkedCases marked checkOf checkFrom cutOf cutBy firstBroken rule3 rule4 rule5 rule6 rule7 rule8 rule9 rule10 rule7end next runOf runChecked runOps fits evalOf viewOf rowOf wideRow convertOf unaryOf logicOf divideOf shiftOf setcondOf movcondOf condW ltsW lesW byDivisor bySigned byCount divsW remsW sarW extendW loadAt loaded lowFirst highFirst
+marked-cases = refl

@@ -1,0 +1,48 @@
+-- The table of kinds against document 01's ranges of kinds. Proved in proofs/Table.antt. Assumes nothing.
+use Prim.Native.Nat.{ℕ, zero, suc, _+_}
+use mathlib.Core.Path.{_≡_}
+use mathlib.Core.Bool.{Bool, true, false, not, _&&_, _||_}
+use lib.Dec.{eqb}
+use Rattle.ops.specs.Kinds.{rowOf, known, bodyLength, outputCount, pureKind, between}
+use Rattle.ops.specs.Ops.{foldableRow}
+
+abbrev pub agree : Bool → Bool → Bool
+agree true b = b
+agree false b = not b
+
+-- a range of kinds from 10 on, in either width
+abbrev pub either : ℕ → ℕ → ℕ → Bool
+either lo hi k = between lo hi k || between (0x80 + lo) (0x80 + hi) k
+
+abbrev pub given : Bool → ℕ → ℕ → Bool
+given test n m = not test || eqb n m
+
+-- the kinds there are, those that fold ("kinds 05 to 07 or 11 to 29 (either width)"), and the pure ones ("kinds 05 to 07 and 10 to 29 in either width")
+abbrev pub kindRow : ℕ → Bool
+kindRow k =
+    agree (known k) (between 0x01 0x07 k || either 0x10 0x2C k)
+    && agree (foldableRow (rowOf k)) (between 0x05 0x07 k || either 0x11 0x29 k)
+    && agree (pureKind k) (between 0x05 0x07 k || either 0x10 0x29 k)
+
+-- the lengths of the bodies in document 01's table of ops, and of the declaration
+abbrev pub lengthRow : ℕ → Bool
+lengthRow k =
+    given (eqb k 0x01) (bodyLength k) 2
+    && given (between 0x02 0x04 k) (bodyLength k) 1
+    && given (between 0x05 0x07 k || either 0x11 0x13 k) (bodyLength k) 2
+    && given (either 0x10 0x10 k) (bodyLength k) 9
+    && given (either 0x14 0x27 k || either 0x2B 0x2C k) (bodyLength k) 3
+    && given (either 0x28 0x28 k || either 0x2A 0x2A k) (bodyLength k) 4
+    && given (either 0x29 0x29 k) (bodyLength k) 6
+
+-- an output for each pure op and each load, none for any other
+abbrev pub outputRow : ℕ → Bool
+outputRow k = given (pureKind k || either 0x2B 0x2B k) (outputCount k) 1 && given (not (pureKind k || either 0x2B 0x2B k)) (outputCount k) 0
+
+abbrev pub allKinds : (ℕ → Bool) → ℕ → Bool
+allKinds test zero = true
+allKinds test (suc n) = test n && allKinds test n
+
+-- every kind, 00 to FF
+unfoldable pub KindTable : Type 0
+KindTable = allKinds (λ k. kindRow k && lengthRow k && outputRow k) 256 ≡ true

@@ -1,0 +1,98 @@
+-- A check that reads the ops in order accepts what the pass makes of a block that it accepts, but for the rule of temporaries. Assumes nothing.
+use mathlib.Core.Path.{_≡_, refl}
+use mathlib.Core.Bool.{Bool, true, false}
+use mathlib.Core.List.{[], _∷_}
+use mathlib.Core.Logic.{_⊎_, inl, inr}
+use Rattle.theory.specs.Checker.{Checker, checks}
+use Rattle.theory.specs.Fold.{Known, nothing, Rewrite, put, omit, cut, Mode, on, off, isCalc, learned, anyLabel, Rule, emit, resume, ruleAt, fold}
+use Rattle.theory.specs.Fold.{pass}
+use Rattle.theory.specs.Machine.{View, calc, access, label, jump, branch, leave, Lang, Prog}
+use Rattle.theory.specs.Prune.{dead, pruneBy, live}
+use Rattle.theory.specs.Sets.{Vars}
+use Rattle.theory.proofs.Sets.{and-l, and-r, and-i, tell}
+
+-- Le x y: whatever is accepted after x is accepted after y
+pub record Lenient (L : Lang) (C : Checker L) : Type 1 where
+  pub Le : C .Seen → C .Seen → Type 0
+  pub le-refl : (x : C .Seen) → Le x x
+  pub le-trans : (x y z : C .Seen) → Le x y → Le y z → Le x z
+  pub ok-le : (x y : C .Seen) (o : L .Op) → Le x y → C .ok x o ≡ true → C .ok y o ≡ true
+  pub next-le : (x y : C .Seen) (o : L .Op) → Le x y → Le (C .next x o) (C .next y o)
+  pub fin-le : (x y : C .Seen) → Le x y → C .fin x ≡ true → C .fin y ≡ true
+  -- a pure op may go
+  pub drop-ok : (x : C .Seen) (o : L .Op) → isCalc (L .view o) ≡ true → Le (C .next x o) x
+
+-- what a rule of fold has to show of what it puts in place; Good: what is known of the known values
+pub record Admits (L : Lang) (C : Checker L) (N : Lenient L C) (rule : Rule L) : Type 1 where
+  pub Good : Known (L .Val) → Type 0
+  pub good-none : Good nothing
+  pub put-ok : (x : C .Seen) (k : Known (L .Val)) (o o′ : L .Op) → Good k → ruleAt L rule k o ≡ put o′ → C .ok x o ≡ true
+      → (C .ok x o′ ≡ true) × N .Le (C .next x o) (C .next x o′) × Good (learned k (L .view o′))
+  pub omit-ok : (x : C .Seen) (k : Known (L .Val)) (o : L .Op) → ruleAt L rule k o ≡ omit → N .Le (C .next x o) x
+  -- what holds once the rule has cut, up to the next label; nothing where it never cuts
+  pub Skips : Type 0
+  pub cut-ok : (x : C .Seen) (k : Known (L .Val)) (o o′ : L .Op) → ruleAt L rule k o ≡ cut o′ → (C .ok x o′ ≡ true) × N .Le (C .next x o) (C .next x o′) × Skips
+  pub skip-ok : (x : C .Seen) (o : L .Op) → Skips → anyLabel (L .view o) ≡ false → N .Le (C .next x o) x
+
+module _ (L : Lang) (C : Checker L) (N : Lenient L C) where
+  dead-calc : (w : View (L .Val) (L .Mem) (L .Flt)) (l : Vars) → dead w l ≡ true → isCalc w ≡ true
+  dead-calc (calc outs ins f) l h = refl
+  dead-calc (access outs ins f) l h = h
+  dead-calc (label k) l h = h
+  dead-calc (jump k) l h = h
+  dead-calc (branch ins f k) l h = h
+  dead-calc (leave x) l h = h
+
+  pub prune-checks : (note : Prog L → Vars) (r : Prog L) (x y : C .Seen) → N .Le x y → checks L C x r ≡ true → checks L C y (pruneBy L note r) ≡ true
+  prune-checks note [] x y h c = N .fin-le x y h c
+  prune-checks note (o ∷ r) x y h c =
+      go (tell (dead (L .view o) (note r))) (λ u g. prune-checks note r (C .next x o) u g (and-r (C .ok x o) (checks L C (C .next x o) r) c))
+    where
+      go : (dead (L .view o) (note r) ≡ true) ⊎ (dead (L .view o) (note r) ≡ false)
+          → ((u : C .Seen) → N .Le (C .next x o) u → checks L C u (pruneBy L note r) ≡ true) → checks L C y (pruneBy L note (o ∷ r)) ≡ true
+      go (inl d) ih = rw d (ih y (N .le-trans (C .next x o) x y (N .drop-ok x o (dead-calc (L .view o) (note r) d)) h))
+      go (inr d) ih =
+          rw d
+          (and-i (C .ok y o) (checks L C (C .next y o) (pruneBy L note r)) (N .ok-le x y o h (and-l (C .ok x o) (checks L C (C .next x o) r) c))
+          (ih (C .next y o) (N .next-le x y o h)))
+
+  module _ (rule : Rule L) (A : Admits L C N rule) where
+    abbrev Fine : Mode (L .Val) → Type 0
+    Fine (on k) = A .Good k
+    Fine off = A .Skips
+
+    pub fold-checks : (r : Prog L) (m : Mode (L .Val)) (x y : C .Seen) → Fine m → N .Le x y → checks L C x r ≡ true → checks L C y (fold L rule r m) ≡ true
+    fold-checks [] m x y g h c = N .fin-le x y h c
+    fold-checks (o ∷ r) (on k) x y g h c =
+        go (ruleAt L rule k o) refl (λ n u f t. fold-checks r n (C .next x o) u f t (and-r (C .ok x o) (checks L C (C .next x o) r) c))
+      where
+        oky : C .ok y o ≡ true
+        oky = N .ok-le x y o h (and-l (C .ok x o) (checks L C (C .next x o) r) c)
+
+        go : (z : Rewrite (L .Op)) → ruleAt L rule k o ≡ z
+            → ((n : Mode (L .Val)) (u : C .Seen) → Fine n → N .Le (C .next x o) u → checks L C u (fold L rule r n) ≡ true)
+            → checks L C y (emit L rule k (fold L rule r) z) ≡ true
+        go (put o′) q ih =
+            let p = A .put-ok y k o o′ g q oky in
+            and-i (C .ok y o′) (checks L C (C .next y o′) (fold L rule r (on (learned k (L .view o′))))) (p .0)
+            (ih (on (learned k (L .view o′))) (C .next y o′) (p .2) (N .le-trans (C .next x o) (C .next y o) (C .next y o′) (N .next-le x y o h) (p .1)))
+        go omit q ih = ih (on k) y g (N .le-trans (C .next x o) x y (A .omit-ok x k o q) h)
+        go (cut o′) q ih =
+            let p = A .cut-ok y k o o′ q in
+            and-i (C .ok y o′) (checks L C (C .next y o′) (fold L rule r off)) (p .0)
+            (ih off (C .next y o′) (p .2) (N .le-trans (C .next x o) (C .next y o) (C .next y o′) (N .next-le x y o h) (p .1)))
+    fold-checks (o ∷ r) off x y g h c =
+        go (anyLabel (L .view o)) refl (λ n u f t. fold-checks r n (C .next x o) u f t (and-r (C .ok x o) (checks L C (C .next x o) r) c))
+      where
+        go : (b : Bool) → anyLabel (L .view o) ≡ b
+            → ((n : Mode (L .Val)) (u : C .Seen) → Fine n → N .Le (C .next x o) u → checks L C u (fold L rule r n) ≡ true)
+            → checks L C y (resume L rule o (fold L rule r) b) ≡ true
+        go true e ih =
+            and-i (C .ok y o) (checks L C (C .next y o) (fold L rule r (on nothing))) (N .ok-le x y o h (and-l (C .ok x o) (checks L C (C .next x o) r) c))
+            (ih (on nothing) (C .next y o) (A .good-none) (N .next-le x y o h))
+        go false e ih = ih off y g (N .le-trans (C .next x o) x y (A .skip-ok x o g e) h)
+
+    -- what the pass makes of a block that is accepted from x on is accepted from there on
+    pub pass-checks : (glob kept : Vars) (b : Prog L) (x : C .Seen) → checks L C x b ≡ true → checks L C x (pass L rule glob kept b) ≡ true
+    pass-checks glob kept b x c =
+        prune-checks (live L glob kept) (fold L rule b (on nothing)) x x (N .le-refl x) (fold-checks b (on nothing) x x (A .good-none) (N .le-refl x) c)

@@ -1,0 +1,232 @@
+-- What fold makes of a block does what the block did. Assumes nothing.
+use mathlib.Core.Path.{_≡_, refl, sym, ap, _∙_}
+use mathlib.Core.Bool.{Bool, true, false, cond, false≢true, true≢false}
+use mathlib.Core.Option.{Option, none, some}
+use mathlib.Core.List.{List, [], _∷_}
+use mathlib.Core.Logic.{_⊎_, inl, inr}
+use Prim.Native.Nat.{ℕ}
+use lib.Dec.{eqb}
+use Rattle.theory.specs.Fold.{Known, nothing, Rewrite, put, omit, cut, Mode, on, off, somes, given, learned, anyLabel, Rule, emit, ruleAt, fold}
+use Rattle.theory.specs.Machine.{Touch, faults, gives, View, calc, access, label, jump, branch, leave, Lang, unstated, State, Effect, falls, jumps}
+use Rattle.theory.specs.Machine.{stops, headOr, tailOf, upd, reads, writes, afterCalc, afterAccess, effect, isLabel, St, Prog, seek, Dest, moved}
+use Rattle.theory.specs.Machine.{run}
+use Rattle.theory.proofs.Sets.{tell}
+use Rattle.theory.proofs.Simulation.{definite, Follows, drops, moves, ends, open-end, Matches, simulates}
+
+module _ {Val : Type 0} where
+  -- what is known is so
+  abbrev pub Right : Known Val → (ℕ → Val) → Type 0
+  Right k e = (v : ℕ) (x : Val) → k v ≡ some x → e v ≡ x
+
+abbrev isSome : {A : Type 0} → Option A → Bool
+isSome none = false
+isSome (some a) = true
+
+pub no-some {ℓ} : {A : Type 0} {B : Type ℓ} {a : A} → none ≡ some a → B
+no-some e = absurd (false≢true (ap isSome e))
+
+module _ {Val : Type 0} (z : Val) where
+  right-upd : (k : Known Val) (e : ℕ → Val) (o : ℕ) (x : Option Val) (y : Val) → Right k e → ((a : Val) → x ≡ some a → y ≡ a)
+      → Right (upd k o x) (upd e o y)
+  right-upd k e o x y r h v a q = go (eqb o v) q
+    where
+      go : (t : Bool) → cond t x (k v) ≡ some a → cond t y (e v) ≡ a
+      go true p = h a p
+      go false p = r v a p
+
+  right-none : (outs : List ℕ) (vs : List Val) (k : Known Val) (e : ℕ → Val) → Right k e → Right (writes none k outs []) (writes z e outs vs)
+  right-none [] vs k e r = r
+  right-none (o ∷ os) vs k e r = right-none os (tailOf vs) (upd k o none) (upd e o (headOr z vs)) (right-upd k e o none (headOr z vs) r (λ a q. no-some q))
+
+  right-some : (outs : List ℕ) (vs : List Val) (k : Known Val) (e : ℕ → Val) → Right k e → Right (writes none k outs (somes vs)) (writes z e outs vs)
+  right-some [] vs k e r = r
+  right-some (o ∷ os) [] k e r = right-none (o ∷ os) [] k e r
+  right-some (o ∷ os) (v ∷ vs) k e r = right-some os vs (upd k o (some v)) (upd e o v) (right-upd k e o (some v) v r (λ a q. cc))
+
+  right-nothing : (e : ℕ → Val) → Right nothing e
+  right-nothing e v x q = no-some q
+
+  module _ {Mem Flt : Type 0} where
+    -- the state in which an effect leaves the next op, if it falls through
+    abbrev pub Leaves : (State Val Mem → Type 0) → Effect Val Mem Flt → Type 0
+    Leaves P (falls t) = P t
+    Leaves P (jumps j) = Unit {0}
+    Leaves P (stops x) = Unit {0}
+
+    right-learned : (w : View Val Mem Flt) (k : Known Val) (s : State Val Mem) → Right k (s .env) → Leaves (λ t. Right (learned k w) (t .env)) (effect z w s)
+    right-learned (calc outs [] f) k s r = go (f [])
+      where
+        go : (x : Option (List Val)) → Leaves (λ t. Right (writes none k outs (given x)) (t .env)) (afterCalc z outs s x)
+        go none = tt
+        go (some vs) = right-some outs vs k (s .env) r
+    right-learned (calc outs (i ∷ is) f) k s r = go (f (reads (s .env) (i ∷ is)))
+      where
+        go : (x : Option (List Val)) → Leaves (λ t. Right (writes none k outs []) (t .env)) (afterCalc z outs s x)
+        go none = tt
+        go (some vs) = right-none outs vs k (s .env) r
+    right-learned (access outs ins f) k s r = go (f (s .mem) (reads (s .env) ins))
+      where
+        go : (x : Touch Val Mem Flt) → Leaves (λ t. Right (writes none k outs []) (t .env)) (afterAccess z outs s x)
+        go (faults x) = tt
+        go (gives vs m) = right-none outs vs k (s .env) r
+    right-learned (label j) k s r = right-nothing (s .env)
+    right-learned (jump j) k s r = tt
+    right-learned (branch ins f j) k s r = go (f (reads (s .env) ins))
+      where
+        go : (x : Bool) → Leaves (λ t. Right nothing (t .env)) (cond x (jumps j) (falls s))
+        go true = tt
+        go false = right-nothing (s .env)
+    right-learned (leave x) k s r = tt
+
+-- at a label nothing is known
+pub any-learned : {Val Mem Flt : Type 0} (k : Known Val) (w : View Val Mem Flt) → anyLabel w ≡ true → learned k w ≡ nothing
+any-learned k (calc outs ins f) e = absurd (false≢true e)
+any-learned k (access outs ins f) e = absurd (false≢true e)
+any-learned k (label l) e = refl
+any-learned k (jump l) e = absurd (false≢true e)
+any-learned k (branch ins f l) e = absurd (false≢true e)
+any-learned k (leave x) e = absurd (false≢true e)
+
+-- the ops of a program each have a property
+abbrev pub All : {Op : Type 0} → (Op → Type 0) → List Op → Type 0
+All P [] = Unit {0}
+All P (o ∷ r) = P o × All P r
+
+pub seek-all : (L : Lang) (P : L .Op → Type 0) (k : ℕ) (r : Prog L) → All P r → All P (seek L k r)
+seek-all L P k [] h = h
+seek-all L P k (o ∷ r) h = go (isLabel k (L .view o)) (seek-all L P k r (h .1))
+  where
+    go : (b : Bool) → All P (seek L k r) → All P (cond b (o ∷ r) (seek L k r))
+    go true ih = h
+    go false ih = ih
+
+-- what a rule of fold has to show, once for each op that it puts in place.
+-- Ok: what the check says of an op; Fit: what it then says of the values that variables hold, as that each fits its width
+pub record Sound (L : Lang) (rule : Rule L) (Ok : L .Op → Type 0) (Fit : (ℕ → L .Val) → Type 0) : Type 0 where
+  pub fits : (o : L .Op) (s : St L) → Ok o → Fit (s .env) → Leaves (L .zeroV) (λ t. Fit (t .env)) (effect (L .zeroV) (L .view o) s)
+  pub put-right : (k : Known (L .Val)) (o o′ : L .Op) (s : St L) → ruleAt L rule k o ≡ put o′ → Right k (s .env) → Ok o → Fit (s .env)
+      → (effect (L .zeroV) (L .view o) s ≡ stops unstated) ⊎ (effect (L .zeroV) (L .view o′) s ≡ effect (L .zeroV) (L .view o) s)
+  pub omit-right : (k : Known (L .Val)) (o : L .Op) (s : St L) → ruleAt L rule k o ≡ omit → Right k (s .env) → Ok o → Fit (s .env)
+      → (effect (L .zeroV) (L .view o) s ≡ stops unstated) ⊎ (effect (L .zeroV) (L .view o) s ≡ falls s)
+  pub cut-right : (k : Known (L .Val)) (o o′ : L .Op) (s : St L) → ruleAt L rule k o ≡ cut o′ → Right k (s .env) → Ok o → Fit (s .env)
+      → (j : ℕ) × (effect (L .zeroV) (L .view o) s ≡ jumps j) × (effect (L .zeroV) (L .view o′) s ≡ jumps j)
+  -- labels stay, and no other op becomes one
+  pub label-stays : (k : Known (L .Val)) (o : L .Op) → anyLabel (L .view o) ≡ true → ruleAt L rule k o ≡ put o
+  pub put-plain : (k : Known (L .Val)) (o o′ : L .Op) → anyLabel (L .view o) ≡ false → ruleAt L rule k o ≡ put o′ → anyLabel (L .view o′) ≡ false
+  pub cut-plain : (k : Known (L .Val)) (o o′ : L .Op) → ruleAt L rule k o ≡ cut o′ → anyLabel (L .view o′) ≡ false
+
+module _ (L : Lang) (rule : Rule L) (Ok : L .Op → Type 0) (Fit : (ℕ → L .Val) → Type 0) (good : Sound L rule Ok Fit) where
+  label-any : (k : ℕ) (w : View (L .Val) (L .Mem) (L .Flt)) → isLabel k w ≡ true → anyLabel w ≡ true
+  label-any k (calc outs ins f) e = e
+  label-any k (access outs ins f) e = e
+  label-any k (label l) e = refl
+  label-any k (jump l) e = e
+  label-any k (branch ins f l) e = e
+  label-any k (leave x) e = e
+
+  any-none : (k : ℕ) (w : View (L .Val) (L .Mem) (L .Flt)) → anyLabel w ≡ false → isLabel k w ≡ false
+  any-none k (calc outs ins f) e = refl
+  any-none k (access outs ins f) e = refl
+  any-none k (label l) e = absurd (true≢false e)
+  any-none k (jump l) e = refl
+  any-none k (branch ins f l) e = refl
+  any-none k (leave x) e = refl
+
+  -- at a label fold starts anew, whatever it knew
+  fold-label : (o : L .Op) (r : Prog L) (m : Mode (L .Val)) → anyLabel (L .view o) ≡ true → fold L rule (o ∷ r) m ≡ o ∷ fold L rule r (on nothing)
+  fold-label o r (on k) e = rw (good .label-stays k o e, any-learned k (L .view o) e)
+  fold-label o r off e = rw e
+
+  -- any other op is no label after fold
+  fold-plain : (j : ℕ) (o : L .Op) (r : Prog L) (m : Mode (L .Val)) → anyLabel (L .view o) ≡ false
+      → (n : Mode (L .Val)) × (seek L j (fold L rule (o ∷ r) m) ≡ seek L j (fold L rule r n))
+  fold-plain j o r (on k) e = go (ruleAt L rule k o) refl
+    where
+      go : (x : Rewrite (L .Op)) → ruleAt L rule k o ≡ x → (n : Mode (L .Val)) × (seek L j (emit L rule k (fold L rule r) x) ≡ seek L j (fold L rule r n))
+      go (put o′) q = (on (learned k (L .view o′)), rw (any-none j (L .view o′) (good .put-plain k o o′ e q)))
+      go omit q = (on k, refl)
+      go (cut o′) q = (off, rw (any-none j (L .view o′) (good .cut-plain k o o′ q)))
+  fold-plain j o r off e = (off, rw e)
+
+  seek-fold : (j : ℕ) (r : Prog L) (m : Mode (L .Val)) → seek L j (fold L rule r m) ≡ fold L rule (seek L j r) (on nothing)
+  seek-fold j [] m = refl
+  seek-fold j (o ∷ r) m = go (tell (isLabel j (L .view o))) (tell (anyLabel (L .view o))) (seek-fold j r)
+    where
+      go : (isLabel j (L .view o) ≡ true) ⊎ (isLabel j (L .view o) ≡ false) → (anyLabel (L .view o) ≡ true) ⊎ (anyLabel (L .view o) ≡ false)
+          → ((n : Mode (L .Val)) → seek L j (fold L rule r n) ≡ fold L rule (seek L j r) (on nothing))
+          → seek L j (fold L rule (o ∷ r) m) ≡ fold L rule (seek L j (o ∷ r)) (on nothing)
+      go (inl e) a ih =
+          let y : anyLabel (L .view o) ≡ true = label-any j (L .view o) e in
+          rw (fold-label o r m y, e) (sym (fold-label o r (on nothing) y))
+      go (inr e) (inl a) ih = rw (fold-label o r m a, e) (ih (on nothing))
+      go (inr e) (inr a) ih = let p = fold-plain j o r m a in rw (p .1, e) (ih (p .0))
+
+  pub record Folded (r : Prog L) (s : St L) (r′ : Prog L) (s′ : St L) : Type 0 where
+    pub k : Known (L .Val)
+    pub prog : r′ ≡ fold L rule r (on k)
+    pub right : Right k (s .env)
+    pub oks : All Ok r
+    pub fit : Fit (s .env)
+    pub same : s′ ≡ s
+
+  -- where a jump goes, fold starts anew
+  pub record Anew (d d′ : Dest L) : Type 0 where
+    pub dest-fold : (k : ℕ) (r : Prog L) (m : Mode (L .Val)) → d′ k (fold L rule r m) ≡ fold L rule (d k r) (on nothing)
+    pub dest-oks : (k : ℕ) (r : Prog L) → All Ok r → All Ok (d k r)
+
+  pub forward-anew : Anew (seek L) (seek L)
+  forward-anew = record { dest-fold = seek-fold; dest-oks = seek-all L Ok }
+
+  pub anywhere-anew : (b : Prog L) → All Ok b → Anew (λ k r. seek L k b) (λ k r. seek L k (fold L rule b (on nothing)))
+  anywhere-anew b h = record { dest-fold = λ k r m. seek-fold k b (on nothing); dest-oks = λ k r _. seek-all L Ok k b h }
+
+  module _ (d d′ : Dest L) (at : Anew d d′) where
+    at-fold : (r : Prog L) (s : St L) (k : Known (L .Val)) → Right k (s .env) → All Ok r → Fit (s .env)
+        → Follows L d d′ Folded (λ a b. b ≡ a) r s (fold L rule r (on k)) s
+    at-fold [] s k h c f = ends refl refl refl
+    at-fold (o ∷ r) s k h c f = go (ruleAt L rule k o) refl
+      where
+        z : L .Val
+        z = L .zeroV
+
+        puts : (o′ : L .Op) → (effect z (L .view o) s ≡ stops unstated) ⊎ (effect z (L .view o′) s ≡ effect z (L .view o) s)
+            → Follows L d d′ Folded (λ a b. b ≡ a) (o ∷ r) s (o′ ∷ fold L rule r (on (learned k (L .view o′)))) s
+        puts o′ (inl e) = open-end (ap (moved L d r s) e)
+        puts o′ (inr e) = by (effect z (L .view o′) s) refl (right-learned z (L .view o′) k s h) (rw e (good .fits o s (c .0) f))
+          where
+            by : (x : Effect (L .Val) (L .Mem) (L .Flt)) → effect z (L .view o′) s ≡ x → Leaves z (λ t. Right (learned k (L .view o′)) (t .env)) x → Leaves z (λ t. Fit (t .env)) x
+                → Follows L d d′ Folded (λ a b. b ≡ a) (o ∷ r) s (o′ ∷ fold L rule r (on (learned k (L .view o′)))) s
+            by (falls t) q l g =
+                moves (ap (moved L d r s) (sym e ∙ q)) (ap (moved L d′ (fold L rule r (on (learned k (L .view o′)))) s) q)
+                (record { k = learned k (L .view o′); prog = refl; right = l; oks = c .1; fit = g; same = refl })
+            by (jumps j) q l g =
+                moves (ap (moved L d r s) (sym e ∙ q)) (ap (moved L d′ (fold L rule r (on (learned k (L .view o′)))) s) q)
+                (record { k = nothing; prog = at .dest-fold j r (on (learned k (L .view o′))); right = right-nothing z (s .env); oks = at .dest-oks j r (c .1); fit = f; same = refl })
+            by (stops x) q l g = ends (ap (moved L d r s) (sym e ∙ q)) (ap (moved L d′ (fold L rule r (on (learned k (L .view o′)))) s) q) refl
+
+        omits : (effect z (L .view o) s ≡ stops unstated) ⊎ (effect z (L .view o) s ≡ falls s)
+            → Follows L d d′ Folded (λ a b. b ≡ a) (o ∷ r) s (fold L rule r (on k)) s
+        omits (inl e) = open-end (ap (moved L d r s) e)
+        omits (inr e) = drops (ap (moved L d r s) e) (record { k = k; prog = refl; right = h; oks = c .1; fit = f; same = refl })
+
+        cuts : (o′ : L .Op) → (j : ℕ) × (effect z (L .view o) s ≡ jumps j) × (effect z (L .view o′) s ≡ jumps j)
+            → Follows L d d′ Folded (λ a b. b ≡ a) (o ∷ r) s (o′ ∷ fold L rule r off) s
+        cuts o′ p =
+            moves (ap (moved L d r s) (p .1)) (ap (moved L d′ (fold L rule r off) s) (p .2))
+            (record { k = nothing; prog = at .dest-fold (p .0) r off; right = right-nothing z (s .env); oks = at .dest-oks (p .0) r (c .1); fit = f; same = refl })
+
+        go : (x : Rewrite (L .Op)) → ruleAt L rule k o ≡ x → Follows L d d′ Folded (λ a b. b ≡ a) (o ∷ r) s (emit L rule k (fold L rule r) x) s
+        go (put o′) q = puts o′ (good .put-right k o o′ s q h (c .0) f)
+        go omit q = omits (good .omit-right k o s q h (c .0) f)
+        go (cut o′) q = cuts o′ (good .cut-right k o o′ s q h (c .0) f)
+
+    folded-follows : (r : Prog L) (s : St L) (r′ : Prog L) (s′ : St L) → Folded r s r′ s′ → Follows L d d′ Folded (λ a b. b ≡ a) r s r′ s′
+    folded-follows r s r′ s′ x = rw (x .prog, x .same) (at-fold r s (x .k) (x .right) (x .oks) (x .fit))
+
+    -- what fold makes ends as the block did, in the same state and in no more ops
+    pub fold-right : (n : ℕ) (r : Prog L) (s : St L) → All Ok r → Fit (s .env) → definite ((run L d n r s) .end) ≡ true
+        → Matches L (λ a b. b ≡ a) (run L d n r s) (run L d′ n (fold L rule r (on nothing)) s)
+    fold-right n r s c g f =
+        simulates L d d′ Folded (λ a b. b ≡ a) folded-follows n r s (fold L rule r (on nothing)) s
+        (record { k = nothing; prog = refl; right = right-nothing (L .zeroV) (s .env); oks = c; fit = g; same = refl })
+        f

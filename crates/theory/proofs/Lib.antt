@@ -1,0 +1,11 @@
+pub mod Sets
+pub mod Simulation
+pub mod PruneBy
+pub mod Liveness
+pub mod Fold
+pub mod Again
+pub mod Rule
+pub mod Scope
+pub mod Accept
+pub mod Pass
+pub mod Ends

@@ -1,0 +1,161 @@
+-- A machine for blocks. A program is a list of ops, each seen through its view; no op kind is named here. Assumes nothing.
+use Prim.Native.Nat.{ℕ, zero, suc}
+use mathlib.Core.Bool.{Bool, true, false, cond}
+use mathlib.Core.Option.{Option, none, some}
+use mathlib.Core.List.{List, [], _∷_}
+use lib.Dec.{eqb}
+use lib.ListN.{length}
+
+-- what an access does: it faults, or gives the values of its outputs and the next memory
+pub data Touch (Val Mem Flt : Type 0) : Type 0 where
+  faults : Flt → Touch Val Mem Flt
+  gives : List Val → Mem → Touch Val Mem Flt
+
+-- what the theory sees of an op: its outputs, its inputs, and what it does with the inputs' values.
+-- calc: a pure op, none where no result is stated. access: a load or store. leave: the exit, with the variable that it gives
+pub data View (Val Mem Flt : Type 0) : Type 0 where
+  calc : List ℕ → List ℕ → (List Val → Option (List Val)) → View Val Mem Flt
+  access : List ℕ → List ℕ → (Mem → List Val → Touch Val Mem Flt) → View Val Mem Flt
+  label : ℕ → View Val Mem Flt
+  jump : ℕ → View Val Mem Flt
+  branch : List ℕ → (List Val → Bool) → ℕ → View Val Mem Flt
+  leave : ℕ → View Val Mem Flt
+
+pub record Lang : Type 1 where
+  pub Op : Type 0
+  pub Val : Type 0
+  pub Mem : Type 0
+  pub Flt : Type 0
+  pub zeroV : Val
+  pub view : Op → View Val Mem Flt
+
+-- how a run ends: an exit with a value, a fault, an op without a stated result;
+-- past the last op; or with its steps used up
+pub data End (Val Flt : Type 0) : Type 0 where
+  exit : Val → End Val Flt
+  fault : Flt → End Val Flt
+  unstated : End Val Flt
+  fell : End Val Flt
+  spent : End Val Flt
+
+pub record State (Val Mem : Type 0) : Type 0 where
+  pub env : ℕ → Val
+  pub mem : Mem
+
+-- what one op does: it leaves a state to the next op, jumps, or ends the run (the last two change no state)
+pub data Effect (Val Mem Flt : Type 0) : Type 0 where
+  falls : State Val Mem → Effect Val Mem Flt
+  jumps : ℕ → Effect Val Mem Flt
+  stops : End Val Flt → Effect Val Mem Flt
+
+abbrev pub headOr : {A : Type 0} → A → List A → A
+headOr z [] = z
+headOr z (v ∷ vs) = v
+
+abbrev pub tailOf : {A : Type 0} → List A → List A
+tailOf [] = []
+tailOf (v ∷ vs) = vs
+
+-- a function changed at one number
+abbrev pub upd : {A : Type 0} → (ℕ → A) → ℕ → A → ℕ → A
+upd e o a v = cond (eqb o v) a (e v)
+
+-- the values of the inputs
+abbrev pub reads : {A : Type 0} → (ℕ → A) → List ℕ → List A
+reads e [] = []
+reads e (i ∷ is) = e i ∷ reads e is
+
+-- the outputs written, in order
+abbrev pub writes : {A : Type 0} → A → (ℕ → A) → List ℕ → List A → ℕ → A
+writes z e [] vs = e
+writes z e (o ∷ os) vs = writes z (upd e o (headOr z vs)) os (tailOf vs)
+
+module _ {Val Mem Flt : Type 0} where
+  abbrev pub afterCalc : Val → List ℕ → State Val Mem → Option (List Val) → Effect Val Mem Flt
+  afterCalc z outs s none = stops unstated
+  afterCalc z outs s (some vs) = falls (record { env = writes z (s .env) outs vs; mem = s .mem })
+
+  abbrev pub afterAccess : Val → List ℕ → State Val Mem → Touch Val Mem Flt → Effect Val Mem Flt
+  afterAccess z outs s (faults f) = stops (fault f)
+  afterAccess z outs s (gives vs m) = falls (record { env = writes z (s .env) outs vs; mem = m })
+
+  abbrev pub effect : Val → View Val Mem Flt → State Val Mem → Effect Val Mem Flt
+  effect z (calc outs ins f) s = afterCalc z outs s (f (reads (s .env) ins))
+  effect z (access outs ins f) s = afterAccess z outs s (f (s .mem) (reads (s .env) ins))
+  effect z (label l) s = falls s
+  effect z (jump l) s = jumps l
+  effect z (branch ins f l) s = cond (f (reads (s .env) ins)) (jumps l) (falls s)
+  effect z (leave x) s = stops (exit (s .env x))
+
+  abbrev pub isLabel : ℕ → View Val Mem Flt → Bool
+  isLabel k (calc outs ins f) = false
+  isLabel k (access outs ins f) = false
+  isLabel k (label l) = eqb l k
+  isLabel k (jump l) = false
+  isLabel k (branch ins f l) = false
+  isLabel k (leave x) = false
+
+module _ (L : Lang) where
+  abbrev pub St : Type 0
+  St = State (L .Val) (L .Mem)
+
+  abbrev pub Prog : Type 0
+  Prog = List (L .Op)
+
+-- a run's end, the state that the completed ops left, the number of ops run, and the ops from the one that ended it on
+pub record Result (L : Lang) : Type 0 where
+  pub end : End (L .Val) (L .Flt)
+  pub state : St L
+  pub count : ℕ
+  pub left : Prog L
+
+-- the op that exits or faults counts; the op without a stated result, and the one that is due when the steps are used up, do not
+abbrev pub cost : {Val Flt : Type 0} → End Val Flt → ℕ
+cost (exit v) = 1
+cost (fault f) = 1
+cost unstated = 0
+cost fell = 0
+cost spent = 0
+
+-- what one step comes to: the ops still to run and the state, or an end
+pub data Move (L : Lang) : Type 0 where
+  goes : Prog L → St L → Move L
+  halts : End (L .Val) (L .Flt) → Move L
+
+module _ (L : Lang) where
+  -- from the label k on; nothing if there is none
+  abbrev pub seek : ℕ → Prog L → Prog L
+  seek k [] = []
+  seek k (o ∷ r) = cond (isLabel k (L .view o)) (o ∷ r) (seek k r)
+
+  -- where a jump goes on, from its label and the ops that follow it: `seek`, where jumps go forward only
+  abbrev pub Dest : Type 0
+  Dest = ℕ → Prog L → Prog L
+
+  abbrev pub moved : Dest → Prog L → St L → Effect (L .Val) (L .Mem) (L .Flt) → Move L
+  moved d r s (falls t) = goes r t
+  moved d r s (jumps k) = goes (d k r) s
+  moved d r s (stops e) = halts e
+
+  abbrev pub step : Dest → Prog L → St L → Move L
+  step d [] s = halts fell
+  step d (o ∷ r) s = moved d r s (effect (L .zeroV) (L .view o) s)
+
+  abbrev pub ended : End (L .Val) (L .Flt) → Prog L → St L → Result L
+  ended e r s = record { end = e; state = s; count = cost e; left = r }
+
+  abbrev pub counted : Result L → Result L
+  counted r = record { end = r .end; state = r .state; count = suc (r .count); left = r .left }
+
+  abbrev pub after : (Prog L → St L → Result L) → Prog L → St L → Move L → Result L
+  after go r s (goes q t) = counted (go q t)
+  after go r s (halts e) = ended e r s
+
+  -- a run of at most n steps
+  abbrev pub run : Dest → ℕ → Prog L → St L → Result L
+  run d zero r s = ended spent r s
+  run d (suc n) r s = after (run d n) r s (step d r s)
+
+  -- a whole run where jumps go forward: a step for each op is enough
+  abbrev pub runs : Prog L → St L → Result L
+  runs b s = run (seek) (suc (length b)) b s

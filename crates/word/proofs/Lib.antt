@@ -1,0 +1,3 @@
+-- Laws of words, once over the width. Assumes nothing.
+pub mod Tests
+pub mod Fits
