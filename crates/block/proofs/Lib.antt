@@ -3,3 +3,4 @@ pub mod Accepts
 pub mod Checker
 pub mod Lenient
 pub mod Parts
+pub mod Operands

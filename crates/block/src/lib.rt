@@ -1,3 +1,6 @@
+// Blocks: their records and the rules that they must meet.
+pub mod rules;
+
 // The check's answer: a refusal carries the number of the rule and the place of the record that breaks it.
 pub enum Check {
     Accepted,

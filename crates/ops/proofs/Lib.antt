@@ -1,3 +1,5 @@
 pub mod Fits
 pub mod Folding
 pub mod Sizes
+pub mod Ranges
+pub mod Table

@@ -1,3 +1,4 @@
 pub mod Eval
 pub mod Kinds
 pub mod Ops
+pub mod Table

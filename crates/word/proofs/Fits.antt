@@ -3,19 +3,19 @@ use mathlib.Core.Path.{_≡_, refl, _∙_, subst}
 use mathlib.Core.Bool.{Bool, true, false, _&&_, _||_}
 use mathlib.Core.Option.{Option, none, some}
 use Prim.Native.Nat.{ℕ, zero, suc, _+_, _-_, _*_, _/_, _%_, _^_, _≤_, _<_, zero-le, suc-le-suc}
-use native.Mathlib.Nat.{sub-add-cancel, mul-mod-left, add-zero, mod-lt, mod-le, add-comm, le-of-lt, lt-of-le-of-lt, div-le-self}
+use native.Mathlib.Nat.{mod-lt, mod-le, le-of-lt, lt-of-le-of-lt, div-le-self}
 use native.Mathlib.Omega.{arith}
-use lib.Arith.{digits-lt, sub-sub-self}
 use lib.Bits.{bitAnd, bitOr, bitXor, and-lt, or-lt}
 use lib.Dec.{ltb, eqb}
 use lib.IntN.{ℤ, pos, negsuc, negℤ, natAbs}
-use lib.Pow.{pow-add, pow-pos, pow-mono, mod-pow-add, shl-shr, shr-lt, ones-sub-lt, pow-sub-lt}
+use lib.Pow.{pow-pos, pow-mono, ones-sub-lt, pow-sub-lt}
 use lib.Signed.{quotZ, remZ, shrZ}
 use mir.Val.{sel}
 use borrow.Author.Tests.{ltb-true, ltb-false}
 use Rattle.word.specs.Word.{addW, subW, mulW, negW, notW, andcW, orcW, eqvW, nandW, norW, shlW, shrW, sarW, rotlW, rotrW, signedW, bitsW, divsW, remsW, extendW}
 use Rattle.word.specs.Word.{byDivisor, bySigned, byCount}
 use Rattle.word.proofs.Tests.{cond-told}
+use Rattle.word.proofs.Rotate.{turned, turned-r}
 
 -- what is taken modulo the power
 pub mod-fits : (w a : ℕ) → a % 2 ^ w < 2 ^ w
@@ -66,22 +66,12 @@ remu-fits w a b h = lt-of-le-of-lt (mod-le a b) h
 pub shr-fits : (w a k : ℕ) → a < 2 ^ w → shrW w a k < 2 ^ w
 shr-fits w a k h = divu-fits w a (2 ^ k) h
 
--- rotates: the bits that stay, above those that come round
-module _ (j k a : ℕ) (h : a < 2 ^ (j + k)) where
-  kept : (a * 2 ^ k) % 2 ^ (j + k) ≡ a % 2 ^ j * 2 ^ k
-  kept = mod-pow-add (a * 2 ^ k) j k ∙ (λ i. (shl-shr a k i % 2 ^ j) * 2 ^ k + mul-mod-left a (2 ^ k) i) ∙ add-zero (a % 2 ^ j * 2 ^ k)
-
-  wraps : (a * 2 ^ k) % 2 ^ (j + k) + a / 2 ^ j < 2 ^ (j + k)
-  wraps = rw (kept, pow-add 2 j k) (digits-lt (mod-lt a (pow-pos j)) (shr-lt k j (rw (add-comm k j) h)))
-
-turned : (w a k : ℕ) → k ≤ w → a < 2 ^ w → rotlW w a k < 2 ^ w
-turned w a k l h = subst (λ (n : ℕ). (a * 2 ^ k) % 2 ^ n + a / 2 ^ (w - k) < 2 ^ n) (sub-add-cancel l) (wraps (w - k) k a (rw (sub-add-cancel l) h))
-
+-- rotates
 pub rotl-fits : (w a k : ℕ) → k < w → a < 2 ^ w → rotlW w a k < 2 ^ w
-rotl-fits w a k l h = turned w a k (le-of-lt l) h
+rotl-fits w a k l h = turned w k (le-of-lt l) h
 
 pub rotr-fits : (w a k : ℕ) → k < w → a < 2 ^ w → rotrW w a k < 2 ^ w
-rotr-fits w a k l h = subst (λ (n : ℕ). shlW w a (w - k) + a / 2 ^ n < 2 ^ w) (sub-sub-self (le-of-lt l)) (turned w a (w - k) (omega arith) h)
+rotr-fits w a k l h = turned-r w k (le-of-lt l) h
 
 -- signed: what is no further from zero than a's reading
 signed-near : (w a : ℕ) → a < 2 ^ w → natAbs (signedW w a) < 2 ^ w

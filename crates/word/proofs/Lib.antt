@@ -1,3 +1,8 @@
--- Laws of words, once over the width. Assumes nothing.
+-- Laws over the width.
 pub mod Tests
+pub mod Product
+pub mod Rotate
+pub mod Signed
+pub mod Picks
+pub mod Widen
 pub mod Fits

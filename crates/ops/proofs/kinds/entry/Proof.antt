@@ -1,0 +1,54 @@
+-- `entry` gives the entry of every kind: one computed test of the whole table. Assumes nothing.
+use mathlib.Core.Path.{_≡_, refl}
+use mathlib.Core.Bool.{Bool, true}
+use mathlib.Core.List.{List, [], _∷_}
+use Prim.Native.Nat.{ℕ}
+use native.Mathlib.Omega.{arith}
+use lib.Dec.{eqb}
+use lib.ListN.{getD}
+use borrow.Author.Needs.{needs}
+use borrow.Author.Tests.{eqb-true}
+use Rattle.ops.specs.Kinds.{rowOf, wideRow}
+use Rattle.ops.specs.Table.{entryOf}
+use Rattle.ops.proofs.Ranges.{every, listed}
+use Rattle.ops.proofs.kinds.entry.Statement.{statement}
+use Rattle.ops.proofs.kinds.entry.Tie as tie
+
+abbrev entries : List ℕ
+entries =
+    0 ∷ 0x000002 ∷ 0x000001 ∷ 0x000001 ∷ 0x010101 ∷ 0x011212 ∷ 0x011212 ∷ 0x021212 ∷ 0 ∷ 0 ∷ 0 ∷ 0 ∷ 0 ∷ 0 ∷ 0 ∷ 0 ∷
+    0x001119 ∷ 0x001212 ∷ 0x001212 ∷ 0x001212 ∷ 0x001313 ∷ 0x001313 ∷ 0x001313 ∷ 0x001313 ∷ 0x001313 ∷ 0x001313 ∷ 0x001313 ∷ 0x001313 ∷ 0x001313 ∷ 0x001313 ∷ 0x001313 ∷ 0x001313 ∷
+    0x001313 ∷ 0x001313 ∷ 0x001313 ∷ 0x001313 ∷ 0x001313 ∷ 0x001313 ∷ 0x001313 ∷ 0x001313 ∷ 0x001314 ∷ 0x001516 ∷ 0x000204 ∷ 0x020213 ∷ 0x020203 ∷ 0 ∷ 0 ∷ 0 ∷
+    0 ∷ 0 ∷ 0 ∷ 0 ∷ 0 ∷ 0 ∷ 0 ∷ 0 ∷ 0 ∷ 0 ∷ 0 ∷ 0 ∷ 0 ∷ 0 ∷ 0 ∷ 0 ∷
+    0 ∷ 0 ∷ 0 ∷ 0 ∷ 0 ∷ 0 ∷ 0 ∷ 0 ∷ 0 ∷ 0 ∷ 0 ∷ 0 ∷ 0 ∷ 0 ∷ 0 ∷ 0 ∷
+    0 ∷ 0 ∷ 0 ∷ 0 ∷ 0 ∷ 0 ∷ 0 ∷ 0 ∷ 0 ∷ 0 ∷ 0 ∷ 0 ∷ 0 ∷ 0 ∷ 0 ∷ 0 ∷
+    0 ∷ 0 ∷ 0 ∷ 0 ∷ 0 ∷ 0 ∷ 0 ∷ 0 ∷ 0 ∷ 0 ∷ 0 ∷ 0 ∷ 0 ∷ 0 ∷ 0 ∷ 0 ∷
+    0 ∷ 0 ∷ 0 ∷ 0 ∷ 0 ∷ 0 ∷ 0 ∷ 0 ∷ 0 ∷ 0 ∷ 0 ∷ 0 ∷ 0 ∷ 0 ∷ 0 ∷ 0 ∷
+    0 ∷ 0 ∷ 0 ∷ 0 ∷ 0 ∷ 0 ∷ 0 ∷ 0 ∷ 0 ∷ 0 ∷ 0 ∷ 0 ∷ 0 ∷ 0 ∷ 0 ∷ 0 ∷
+    0x011119 ∷ 0x031212 ∷ 0x031212 ∷ 0x031212 ∷ 0x071313 ∷ 0x071313 ∷ 0x071313 ∷ 0x071313 ∷ 0x071313 ∷ 0x071313 ∷ 0x071313 ∷ 0x071313 ∷ 0x071313 ∷ 0x071313 ∷ 0x071313 ∷ 0x071313 ∷
+    0x071313 ∷ 0x071313 ∷ 0x071313 ∷ 0x071313 ∷ 0x071313 ∷ 0x071313 ∷ 0x071313 ∷ 0x071313 ∷ 0x071314 ∷ 0x1f1516 ∷ 0x030204 ∷ 0x030213 ∷ 0x030203 ∷ 0 ∷ 0 ∷ 0 ∷
+    0 ∷ 0 ∷ 0 ∷ 0 ∷ 0 ∷ 0 ∷ 0 ∷ 0 ∷ 0 ∷ 0 ∷ 0 ∷ 0 ∷ 0 ∷ 0 ∷ 0 ∷ 0 ∷
+    0 ∷ 0 ∷ 0 ∷ 0 ∷ 0 ∷ 0 ∷ 0 ∷ 0 ∷ 0 ∷ 0 ∷ 0 ∷ 0 ∷ 0 ∷ 0 ∷ 0 ∷ 0 ∷
+    0 ∷ 0 ∷ 0 ∷ 0 ∷ 0 ∷ 0 ∷ 0 ∷ 0 ∷ 0 ∷ 0 ∷ 0 ∷ 0 ∷ 0 ∷ 0 ∷ 0 ∷ 0 ∷
+    0 ∷ 0 ∷ 0 ∷ 0 ∷ 0 ∷ 0 ∷ 0 ∷ 0 ∷ 0 ∷ 0 ∷ 0 ∷ 0 ∷ 0 ∷ 0 ∷ 0 ∷ 0 ∷
+    0 ∷ 0 ∷ 0 ∷ 0 ∷ 0 ∷ 0 ∷ 0 ∷ 0 ∷ 0 ∷ 0 ∷ 0 ∷ 0 ∷ 0 ∷ 0 ∷ 0 ∷ 0 ∷ []
+
+right : ℕ → ℕ → Bool
+right k x = eqb x (entryOf k)
+
+all-right : every right 0 entries ≡ true
+unfolding right entryOf rowOf wideRow
+all-right = refl
+
+mul-result : tie.Need-mul-result
+mul-result c = search needs
+
+array-read-result : tie.Need-array-read-result
+array-read-result c = search needs
+
+returns : tie.Need-returns
+unfolding right
+returns c = eqb-true (getD entries (c .args .kind) 0) (entryOf (c .args .kind)) (listed right entries all-right (c .args .kind) (omega arith))
+
+pub entry-spec : {M : Type 1} → statement M
+entry-spec = tie.close (tie.spec mul-result array-read-result returns)
