@@ -7,14 +7,14 @@ use native.Mathlib.Omega.{arith}
 use lib.Dec.{eqb}
 use lib.ListN.{length}
 use borrow.Author.Tests.{eqb-true, ne-eqb}
-use Rattle.theory.proofs.Fold.{All}
+use Rattle.theory.specs.Machine.{All}
 use Rattle.theory.proofs.Sets.{and-l, and-r, and-i}
 use Rattle.block.specs.Checks.{Finding, asks, firstBroken, opRules, rulesOf, endRules, answer, checkFrom, checkOf}
 use Rattle.block.specs.Records.{cutOf, recordsOf, concat, isDeclaration}
 use Rattle.block.specs.Rules.{Seen, start, rule3, next}
 use Rattle.block.proofs.Cut.{AllWhole, cut-whole, cut-concat}
-use Rattle.block.specs.declared.Check.{Check}
-use Rattle.block.specs.declared.Check.the-variants.{Accepted, Refused}
+use Rattle.block.specs.declared.Verdict.{Verdict}
+use Rattle.block.specs.declared.Verdict.the-variants.{Accepted, Refused}
 
 abbrev pub allMet : List Finding → Bool
 allMet [] = true
@@ -25,7 +25,7 @@ abbrev pub accepts : Seen → List (List ℕ) → Bool
 accepts s [] = allMet (endRules s)
 accepts s (r ∷ rs) = allMet (rulesOf s r) && accepts (next s r) rs
 
-abbrev Numbered : List Finding → Type 0
+abbrev pub Numbered : List Finding → Type 0
 Numbered xs = All (λ x. 0 < x .number) xs
 
 -- no rule is the first broken exactly when all are met
@@ -41,8 +41,8 @@ none-broken (x ∷ xs) h = go (x .met) (none-broken xs (h .1))
 numbered-op : (s : Seen) (r : List ℕ) → Numbered (opRules s r)
 numbered-op s r = (omega arith, (omega arith, (omega arith, (omega arith, (omega arith, (omega arith, tt))))))
 
-numbered : (s : Seen) (r : List ℕ) → Numbered (rulesOf s r)
-numbered s r = go (isDeclaration r)
+pub numbered-rules : (s : Seen) (r : List ℕ) → Numbered (rulesOf s r)
+numbered-rules s r = go (isDeclaration r)
   where
     go : (b : Bool) → Numbered (cond b (asks 3 (rule3 s r) ∷ []) (opRules s r))
     go true = (omega arith, tt)
@@ -51,7 +51,7 @@ numbered s r = go (isDeclaration r)
 numbered-end : (s : Seen) → Numbered (endRules s)
 numbered-end s = (omega arith, (omega arith, tt))
 
-answer-accepted : (number place : ℕ) (go : Check) → answer number place go ≡ Accepted → (eqb number 0 ≡ true) × (go ≡ Accepted)
+answer-accepted : (number place : ℕ) (go : Verdict) → answer number place go ≡ Accepted → (eqb number 0 ≡ true) × (go ≡ Accepted)
 answer-accepted number place go h = by (eqb number 0) h
   where
     by : (b : Bool) → cond b go (Refused number place) ≡ Accepted → (b ≡ true) × (go ≡ Accepted)
@@ -67,14 +67,14 @@ check-accepts s place [] tail h =
 check-accepts s place (r ∷ rs) tail h =
     let p = answer-accepted (firstBroken (rulesOf s r)) place (checkFrom (next s r) (place + length r) rs tail) h in
     let q = check-accepts (next s r) (place + length r) rs tail (p .1) in
-    let m : allMet (rulesOf s r) ≡ true = sym (none-broken (rulesOf s r) (numbered s r)) ∙ p .0 in
+    let m : allMet (rulesOf s r) ≡ true = sym (none-broken (rulesOf s r) (numbered-rules s r)) ∙ p .0 in
     (q .0, and-i (allMet (rulesOf s r)) (accepts (next s r) rs) m (q .1))
 
 pub accepts-check : (s : Seen) (place : ℕ) (rs : List (List ℕ)) → accepts s rs ≡ true → checkFrom s place rs 0 ≡ Accepted
 unfolding checkFrom
 accepts-check s place [] h = let e : eqb (firstBroken (endRules s)) 0 ≡ true = none-broken (endRules s) (numbered-end s) ∙ h in rw e
 accepts-check s place (r ∷ rs) h =
-    let e : eqb (firstBroken (rulesOf s r)) 0 ≡ true = none-broken (rulesOf s r) (numbered s r) ∙ and-l (allMet (rulesOf s r)) (accepts (next s r) rs) h in
+    let e : eqb (firstBroken (rulesOf s r)) 0 ≡ true = none-broken (rulesOf s r) (numbered-rules s r) ∙ and-l (allMet (rulesOf s r)) (accepts (next s r) rs) h in
     rw e (accepts-check (next s r) (place + length r) rs (and-r (allMet (rulesOf s r)) (accepts (next s r) rs) h))
 
 -- the records of an accepted block: whole, and accepted

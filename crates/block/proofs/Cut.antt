@@ -8,7 +8,7 @@ use lib.Dec.{eqb, ltb}
 use lib.ListN.{length, take, drop, length-append}
 use lib.Seq.{take-at, drop-at, length-take-le}
 use borrow.Author.Tests.{ltb-false, eqb-true, not-true, le-ltb, eq-eqb}
-use Rattle.theory.proofs.Fold.{All}
+use Rattle.theory.specs.Machine.{All}
 use Rattle.theory.proofs.Sets.{and-l, and-r, and-i, clash}
 use Rattle.theory.proofs.Simulation.{more}
 use Rattle.ops.specs.Kinds.{rowOf, known, bodyLength}

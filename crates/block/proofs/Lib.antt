@@ -4,3 +4,14 @@ pub mod Checker
 pub mod Lenient
 pub mod Parts
 pub mod Operands
+pub mod Steps
+pub mod Fields
+pub mod OpRules
+pub mod Declaring
+pub mod Scanning
+pub mod Places
+pub mod Views
+pub mod MarkSets
+pub mod Rests
+pub mod OtherRoles
+pub mod Scanned

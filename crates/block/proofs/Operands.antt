@@ -1,67 +1,113 @@
--- A loop over the operands of a record that stops at the first one that fails a test. Assumes nothing.
-use mathlib.Core.Path.{_≡_, refl, _∙_}
-use mathlib.Core.Bool.{Bool, true, false, _&&_, _||_}
+-- Loops over the operands of a record that stop at the first one that fails a test. Assumes nothing.
+use mathlib.Core.Path.{_≡_, refl, sym, ap, ap₂, _∙_}
+use mathlib.Core.Bool.{Bool, true, false, _&&_}
 use mathlib.Core.List.{List, [], _∷_}
-use Prim.Native.Nat.{ℕ, suc, _+_, _-_, _≤_, _<_}
+use Prim.Native.Nat.{ℕ, suc, _+_, _-_, _/_, _≤_, _<_}
 use native.Mathlib.Omega.{arith}
 use lib.Dec.{ltb}
+use lib.ListN.{getD}
 use borrow.Author.Tests.{lt-ltb, le-ltb}
 use native.Mathlib.Nat.{sub-zero, add-zero}
-use native.Mathlib.Numerals.{add-one}
-use Rattle.theory.specs.Sets.{Vars, allIn}
+use Rattle.theory.specs.Machine.{step}
 use Rattle.ops.specs.Kinds.{at}
 use Rattle.ops.specs.Ops.{bytesAt}
 use Rattle.block.specs.Rules.{allBelow}
+use Rattle.block.specs.Scan.{wideAs, typesMatch, readable, mayReadAll}
 
--- the test f passes at each value and its index, counted from i
-abbrev pub eachFrom : (ℕ → ℕ → Bool) → ℕ → List ℕ → Bool
-eachFrom f i [] = true
-eachFrom f i (v ∷ vs) = f i v && eachFrom f (suc i) vs
+-- the test f passes at each value; s goes along
+abbrev pub eachBy : (ℕ → ℕ → Bool) → (ℕ → ℕ) → ℕ → List ℕ → Bool
+eachBy f step s [] = true
+eachBy f step s (v ∷ vs) = f s v && eachBy f step (step s) vs
 
--- what is left to test from the i-th of n bytes from p on decides the whole
-pub record Left (f : ℕ → ℕ → Bool) (b : List ℕ) (p n i : ℕ) : Type 0 where
-  pub left : eachFrom f i (bytesAt b (p + i) (n - i)) ≡ eachFrom f 0 (bytesAt b p n)
+-- what is left to test from the i-th of n bytes from p on, with s, decides the whole, with s₀
+pub record Left (f : ℕ → ℕ → Bool) (step : ℕ → ℕ) (b : List ℕ) (p n s₀ i s : ℕ) : Type 0 where
+  pub left : eachBy f step s (bytesAt b (p + i) (n - i)) ≡ eachBy f step s₀ (bytesAt b p n)
 
-pub left-start : (f : ℕ → ℕ → Bool) (b : List ℕ) (p n : ℕ) → Left f b p n 0
-left-start f b p n = record { left = rw (add-zero p, sub-zero n) }
+pub left-start : (f : ℕ → ℕ → Bool) (step : ℕ → ℕ) (b : List ℕ) (p n s : ℕ) → Left f step b p n s 0 s
+left-start f step b p n s = record { left = rw (add-zero p, sub-zero n) }
 
-module _ {f : ℕ → ℕ → Bool} {b : List ℕ} {p n i : ℕ} (l : Left f b p n i) where
-  turn : i < n → (f i (at b (p + i)) && eachFrom f (suc i) (bytesAt b (p + (i + 1)) (n - (i + 1)))) ≡ eachFrom f 0 (bytesAt b p n)
+module _ {f : ℕ → ℕ → Bool} {step : ℕ → ℕ} {b : List ℕ} {p n s₀ i s : ℕ} (l : Left f step b p n s₀ i s) where
+  turn : i < n → (f s (at b (p + i)) && eachBy f step (step s) (bytesAt b (p + (i + 1)) (n - (i + 1)))) ≡ eachBy f step s₀ (bytesAt b p n)
   turn h =
       let e : n - i ≡ suc (n - (i + 1)) = omega arith in
       let q : suc (p + i) ≡ p + (i + 1) = omega arith in
       rw (← q) (rw e at (l .left))
 
-  pub left-next : i < n → f i (at b (p + i)) ≡ true → Left f b p n (i + 1)
-  left-next h t = record { left = rw (add-one i) (rw (t, add-one i) at (turn h)) }
+  pub left-next : i < n → f s (at b (p + i)) ≡ true → Left f step b p n s₀ (i + 1) (step s)
+  left-next h t = record { left = rw t at (turn h) }
 
-  pub left-stops : i < n → f i (at b (p + i)) ≡ false → false ≡ eachFrom f 0 (bytesAt b p n)
+  pub left-stops : i < n → f s (at b (p + i)) ≡ false → false ≡ eachBy f step s₀ (bytesAt b p n)
   left-stops h t = rw t at (turn h)
 
-  pub left-ends : n ≤ i → true ≡ eachFrom f 0 (bytesAt b p n)
+  pub left-ends : n ≤ i → true ≡ eachBy f step s₀ (bytesAt b p n)
   left-ends h = let e : n - i ≡ 0 = omega arith in rw e at (l .left)
 
+abbrev same : ℕ → ℕ
+same s = s
+
 -- rule 4: each is below n
-below-each : (n i : ℕ) (vs : List ℕ) → eachFrom (λ j v. ltb v n) i vs ≡ allBelow n vs
-below-each n i [] = refl
-below-each n i (v ∷ vs) = rw (below-each n (suc i) vs)
+below-each : (n : ℕ) (vs : List ℕ) → eachBy (λ s v. ltb v n) same 0 vs ≡ allBelow n vs
+below-each n [] = refl
+below-each n (v ∷ vs) = rw (below-each n vs)
 
 pub record Below (b : List ℕ) (p count n i : ℕ) : Type 0 where
-  pub left : Left (λ j v. ltb v n) b p count i
+  pub left : Left (λ s v. ltb v n) same b p count 0 i 0
 
 pub below-start : (b : List ℕ) (p count n : ℕ) → Below b p count n 0
-below-start b p count n = record { left = left-start (λ j v. ltb v n) b p count }
+below-start b p count n = record { left = left-start (λ s v. ltb v n) same b p count 0 }
 
 module _ {b : List ℕ} {p count n i x : ℕ} (l : Below b p count n i) (e : x ≡ at b (p + i)) (h : i < count) where
   pub below-next : x < n → Below b p count n (i + 1)
   below-next t = record { left = left-next (l .left) h (lt-ltb (at b (p + i)) n (omega arith)) }
 
   pub below-stops : n ≤ x → false ≡ allBelow n (bytesAt b p count)
-  below-stops t = left-stops (l .left) h (le-ltb (at b (p + i)) n (omega arith)) ∙ below-each n 0 (bytesAt b p count)
+  below-stops t = left-stops (l .left) h (le-ltb (at b (p + i)) n (omega arith)) ∙ below-each n (bytesAt b p count)
 
 pub below-ends : {b : List ℕ} {p count n i : ℕ} → Below b p count n i → count ≤ i → true ≡ allBelow n (bytesAt b p count)
-below-ends {b} {p} {count} {n} l h = left-ends (l .left) h ∙ below-each n 0 (bytesAt b p count)
+below-ends {b} {p} {count} {n} l h = left-ends (l .left) h ∙ below-each n (bytesAt b p count)
 
-pub in-each : (kept w : Vars) (i : ℕ) (vs : List ℕ) → eachFrom (λ j v. kept v || w v) i vs ≡ allIn kept vs w
-in-each kept w i [] = refl
-in-each kept w i (v ∷ vs) = rw (in-each kept w (suc i) vs)
+-- rule 5: each has 64 bits exactly where its bit is 1
+widths-each : (types : List ℕ) (bits : ℕ) (vs : List ℕ) → eachBy (λ s v. wideAs (getD types v 0) s) (λ s. s / 2) bits vs ≡ typesMatch types bits vs
+unfolding typesMatch
+widths-each types bits [] = refl
+widths-each types bits (v ∷ vs) = rw (widths-each types (bits / 2) vs)
+
+pub record Widths (b types : List ℕ) (p count bits i rest : ℕ) : Type 0 where
+  pub left : Left (λ s v. wideAs (getD types v 0) s) (λ s. s / 2) b p count bits i rest
+
+pub widths-start : (b types : List ℕ) (p count bits : ℕ) → Widths b types p count bits 0 bits
+widths-start b types p count bits = record { left = left-start (λ s v. wideAs (getD types v 0) s) (λ s. s / 2) b p count bits }
+
+module _ {b types : List ℕ} {p count bits i rest t : ℕ} (l : Widths b types p count bits i rest) (e : t ≡ getD types (at b (p + i)) 0) (h : i < count) where
+  pub widths-next : wideAs t rest ≡ true → Widths b types p count bits (i + 1) (rest / 2)
+  widths-next q = record { left = left-next (l .left) h (sym (ap (λ (n : ℕ). wideAs n rest) e) ∙ q) }
+
+  pub widths-stops : wideAs t rest ≡ false → false ≡ typesMatch types bits (bytesAt b p count)
+  widths-stops q = left-stops (l .left) h (sym (ap (λ (n : ℕ). wideAs n rest) e) ∙ q) ∙ widths-each types bits (bytesAt b p count)
+
+pub widths-ends : {b types : List ℕ} {p count bits i rest : ℕ} → Widths b types p count bits i rest → count ≤ i → true ≡ typesMatch types bits (bytesAt b p count)
+widths-ends {b} {types} {p} {count} {bits} l h = left-ends (l .left) h ∙ widths-each types bits (bytesAt b p count)
+
+-- rule 8: each outlives the basic block, or is written in it
+may-each : (classes written vs : List ℕ) → eachBy (λ s v. readable (getD classes v 0) (getD written v 0)) same 0 vs ≡ mayReadAll classes written vs
+unfolding mayReadAll
+may-each classes written [] = refl
+may-each classes written (v ∷ vs) = rw (may-each classes written vs)
+
+pub record Readable (b classes written : List ℕ) (p count i : ℕ) : Type 0 where
+  pub left : Left (λ s v. readable (getD classes v 0) (getD written v 0)) same b p count 0 i 0
+
+pub readable-start : (b classes written : List ℕ) (p count : ℕ) → Readable b classes written p count 0
+readable-start b classes written p count = record { left = left-start (λ s v. readable (getD classes v 0) (getD written v 0)) same b p count 0 }
+
+module _ {b classes written : List ℕ} {p count i c w : ℕ} (l : Readable b classes written p count i) (e : c ≡ getD classes (at b (p + i)) 0)
+    (f : w ≡ getD written (at b (p + i)) 0) (h : i < count) where
+  pub readable-next : readable c w ≡ true → Readable b classes written p count (i + 1)
+  readable-next q = record { left = left-next (l .left) h (sym (ap₂ readable e f) ∙ q) }
+
+  pub readable-stops : readable c w ≡ false → false ≡ mayReadAll classes written (bytesAt b p count)
+  readable-stops q = left-stops (l .left) h (sym (ap₂ readable e f) ∙ q) ∙ may-each classes written (bytesAt b p count)
+
+pub readable-ends : {b classes written : List ℕ} {p count i : ℕ} → Readable b classes written p count i → count ≤ i
+    → true ≡ mayReadAll classes written (bytesAt b p count)
+readable-ends {b} {classes} {written} {p} {count} l h = left-ends (l .left) h ∙ may-each classes written (bytesAt b p count)

@@ -15,7 +15,7 @@ use Rattle.block.proofs.Accepts.{accepts, accepted-records, records-acc
 use Rattle.block.proofs.Cut.{all-left, all-right}
 use Rattle.block.proofs.Checker.{checker, inScope, accepts-ops, ops-accepts, declaredIn, seen-declared}
 use Rattle.block.proofs.Cut.{whole, AllWhole, cut-concat, split-records, AllDeclared, declared-all, headOp, ops-head, split-again, all-append}
-use Rattle.block.specs.declared.Check.the-variants.{Accepted}
+use Rattle.block.specs.declared.Verdict.the-variants.{Accepted}
 
 -- the records of an accepted block: declarations, and ops that meet every rule
 pub record Parts (block : List ℕ) (ds os : List (List ℕ)) : Type 0 where

@@ -4,8 +4,8 @@ use mathlib.Core.Bool.{Bool, true, false, cond}
 use mathlib.Core.List.{List, [], _∷_}
 use lib.Dec.{eqb}
 use lib.ListN.{length}
-use Rattle.block.specs.declared.Check.{Check}
-use Rattle.block.specs.declared.Check.the-variants.{Accepted, Refused}
+use Rattle.block.specs.declared.Verdict.{Verdict}
+use Rattle.block.specs.declared.Verdict.the-variants.{Accepted, Refused}
 use Rattle.block.specs.Records.{Cut, cutOf, isDeclaration}
 use Rattle.block.specs.Rules.{Seen, start, next, rule3, rule4, rule5, rule6, rule7, rule8, rule9, rule10, rule7end}
 
@@ -34,13 +34,13 @@ rulesOf s r = cond (isDeclaration r) (asks 3 (rule3 s r) ∷ []) (opRules s r)
 abbrev pub endRules : Seen → List Finding
 endRules s = asks 10 (rule10 s) ∷ asks 7 (rule7end s) ∷ []
 
-abbrev pub answer : ℕ → ℕ → Check → Check
+abbrev pub answer : ℕ → ℕ → Verdict → Verdict
 answer number place go = cond (eqb number 0) go (Refused number place)
 
 -- "Records are read in order and the first bad one answers." place: where the next record starts
-unfoldable pub checkFrom : Seen → ℕ → List (List ℕ) → ℕ → Check
+unfoldable pub checkFrom : Seen → ℕ → List (List ℕ) → ℕ → Verdict
 checkFrom s place [] tail = answer tail place (answer (firstBroken (endRules s)) place Accepted)
 checkFrom s place (r ∷ rs) tail = let go = checkFrom (next s r) (place + length r) rs tail in answer (firstBroken (rulesOf s r)) place go
 
-unfoldable pub checkOf : List ℕ → Check
+unfoldable pub checkOf : List ℕ → Verdict
 checkOf block = checkFrom start 0 ((cutOf block) .records) ((cutOf block) .tail)

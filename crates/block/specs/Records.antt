@@ -70,3 +70,8 @@ classesOf (d ∷ ds) = classOf d ∷ classesOf ds
 abbrev pub widthsOf : List (List ℕ) → List ℕ
 widthsOf [] = []
 widthsOf (d ∷ ds) = widthOf (typeOf d) ∷ widthsOf ds
+
+-- the number of globals, which stand before the rest
+abbrev pub globalCount : List ℕ → ℕ
+globalCount [] = 0
+globalCount (c ∷ cs) = cond (eqb c 0) (suc (globalCount cs)) 0

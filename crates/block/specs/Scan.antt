@@ -1,16 +1,62 @@
 -- What the scan's arrays hold. Assumes nothing.
-use Prim.Native.Nat.{ℕ, zero, suc, _+_}
-use mathlib.Core.Bool.{Bool, not}
-use mathlib.Core.List.{List, [], _∷_, map}
-use lib.Dec.{eqb}
-use lib.ListN.{getD, take, drop}
-use Rattle.ops.specs.Kinds.{bodyLength}
-use Rattle.block.specs.Records.{widthOf}
-use Rattle.block.specs.Rules.{Seen}
+use mathlib.Core.Path.{_≡_}
+use mathlib.Core.Bool.{Bool, true, cond, not, _&&_, _||_, Bool·beq}
+use mathlib.Core.List.{List, [], _∷_, _++_, map}
+use Prim.Native.Nat.{ℕ, suc, _+_, _*_, _/_, _%_, _≤_, _<_}
+use lib.Dec.{eqb, ltb, leb}
+use lib.ListN.{length, getD, take, drop, set, replicate}
+use Rattle.theory.specs.Machine.{View, calc, access, label, jump, branch, leave, All}
+use Rattle.theory.specs.Scope.{wrote}
+use Rattle.theory.specs.Sets.{Vars, empty}
+use Rattle.ops.specs.Kinds.{known, bodyLength}
+use Rattle.ops.specs.Ops.{viewOf}
+use Rattle.block.specs.Checks.{firstBroken, rulesOf, checkFrom, checkOf}
+use Rattle.block.specs.Records.{cutOf, recordsOf, isDeclaration, declarations, opsFrom, widthOf, classesOf, widthsOf, globalCount}
+use Rattle.block.specs.Rules.{Seen, start, nextLabels, nextTargets}
+use Rattle.block.specs.declared.Verdict.{Verdict}
+use Rattle.block.specs.declared.Verdict.the-variants.{Accepted, Refused}
 
 -- the record that starts at a place
 abbrev pub recordAt : List ℕ → ℕ → List ℕ
 recordAt block place = take (suc (bodyLength (getD block place 0))) (drop place block)
+
+-- a whole record of this kind starts at the place
+pub record Stands (block : List ℕ) (place kind : ℕ) : Type 0 where
+  pub its-kind : kind ≡ getD block place 0
+  pub whole : place + suc (bodyLength kind) ≤ length block
+
+-- ys is xs with x at the place i, which is inside
+pub record SetAt (xs : List ℕ) (i x : ℕ) (ys : List ℕ) : Type 0 where
+  pub inside : i < length xs
+  pub becomes : ys ≡ set xs i x
+
+-- the check's answer from a place on, after what has been seen
+unfoldable pub checkAt : Seen → List ℕ → ℕ → Verdict
+checkAt s block place = checkFrom s place ((cutOf (drop place block)) .records) ((cutOf (drop place block)) .tail)
+
+-- a variable's type agrees with the lowest bit: 0 for 32 bits
+abbrev pub wideAs : ℕ → ℕ → Bool
+wideAs type bits = Bool·beq (eqb type 0) (eqb (bits % 2) 0)
+
+-- each variable has 64 bits exactly where its bit is 1, the first variable's bit lowest
+unfoldable pub typesMatch : List ℕ → ℕ → List ℕ → Bool
+typesMatch types bits [] = true
+typesMatch types bits (v ∷ vs) = wideAs (getD types v 0) bits && typesMatch types (bits / 2) vs
+
+-- a variable of this class, written in the basic block where the byte is 1, may be read
+abbrev pub readable : ℕ → ℕ → Bool
+readable class written = ltb class 2 || eqb written 1
+
+unfoldable pub mayReadAll : List ℕ → List ℕ → List ℕ → Bool
+mayReadAll classes written [] = true
+mayReadAll classes written (v ∷ vs) = readable (getD classes v 0) (getD written v 0) && mayReadAll classes written vs
+
+-- the variables whose byte is 1; the labels whose number is not 0
+abbrev pub marked : List ℕ → Vars
+marked bytes v = eqb (getD bytes v 0) 1
+
+abbrev pub numbered : List ℕ → Vars
+numbered numbers l = not (eqb (getD numbers l 0) 0)
 
 -- what n variables' classes and types, the variables written, the labels set and jumped to, the number of ops and the last kind come to.
 -- A variable is written, and a label jumped to, where its byte is 1; a label is set where its number is not 0
@@ -19,8 +65,124 @@ seenOf classes types written labels targets n ops last =
     record {
       classes = take n classes;
       widths = map widthOf (take n types);
-      written = λ v. eqb (getD written v 0) 1;
-      labels = λ l. not (eqb (getD labels l 0) 0);
-      targets = λ l. eqb (getD targets l 0) 1;
+      written = marked written;
+      labels = numbered labels;
+      targets = marked targets;
       ops = ops;
-      last = last }
+      last = last;
+    }
+
+-- the labels' numbers once an op has been read: a label's is one more than its op's
+module _ {Val Mem Flt : Type 0} where
+  abbrev pub labelledBy : View Val Mem Flt → ℕ → List ℕ → List ℕ
+  labelledBy (calc outs ins f) op labels = labels
+  labelledBy (access outs ins f) op labels = labels
+  labelledBy (label l) op labels = set labels l (op + 1)
+  labelledBy (jump l) op labels = labels
+  labelledBy (branch ins f l) op labels = labels
+  labelledBy (leave x) op labels = labels
+
+-- what is seen after n declarations
+abbrev pub declaredSeen : List ℕ → List ℕ → ℕ → Seen
+declaredSeen classes types n =
+    record { classes = take n classes; widths = map widthOf (take n types); written = empty; labels = empty; targets = empty; ops = 0; last = 0 }
+
+-- n declarations have been read up to a place, and the check goes on from there
+pub record Declaring (block classes types : List ℕ) (place n globals : ℕ) : Type 0 where
+  pub before : List (List ℕ)
+  pub goes-on : checkAt (declaredSeen classes types n) block place ≡ checkOf block
+  pub records-are : recordsOf block ≡ before ++ (cutOf (drop place block)) .records
+  pub all-declared : All (λ r. isDeclaration r ≡ true) before
+  pub classes-are : classesOf before ≡ take n classes
+  pub widths-are : widthsOf before ≡ map widthOf (take n types)
+  pub globals-are : globals ≡ globalCount (take n classes)
+  pub place-is : place ≡ 3 * n
+  pub reached : place ≤ length block
+  pub few : n ≤ 64
+  pub long-classes : length classes ≡ 256
+  pub long-types : length types ≡ 256
+
+-- rule 3 of the n-th variable's declaration, where so many are globals
+unfoldable pub declarationOk : ℕ → ℕ → ℕ → ℕ → Bool
+declarationOk class type globals n = leb class 2 && leb type 1 && (not (eqb class 0) || eqb globals n) && ltb n 64
+
+-- what the scan of the declarations answers: a refusal; or the place of the first record that is none
+pub data DeclaredBy (block classes types : List ℕ) : ℕ → ℕ → ℕ → ℕ → Type 0 where
+  refuses : {rule place n globals : ℕ} → (rule ≡ 0 → ⊥) → Refused rule place ≡ checkOf block → DeclaredBy block classes types rule place n globals
+  reads-on : {place n globals : ℕ} → Declaring block classes types place n globals → (place < length block → getD block place 0 ≡ 1 → ⊥)
+      → DeclaredBy block classes types 0 place n globals
+
+-- the rule that the record at a place breaks, 2 and 1 first; 0 if none
+unfoldable pub recordRule : Seen → List ℕ → ℕ → ℕ
+recordRule s block place =
+    let k = getD block place 0 in
+    cond (known k) (cond (ltb (length block) (place + suc (bodyLength k))) 1 (firstBroken (rulesOf s (recordAt block place)))) 2
+
+-- the places of ops that start at a place, the first of them the i-th; and the labels' numbers
+unfoldable pub placesFrom : ℕ → ℕ → List ℕ → List (List ℕ) → List ℕ
+placesFrom place i places [] = places
+placesFrom place i places (o ∷ os) = placesFrom (place + length o) (suc i) (set places i (place % 65536)) os
+
+unfoldable pub labelsFrom : ℕ → List ℕ → List (List ℕ) → List ℕ
+labelsFrom i labels [] = labels
+labelsFrom i labels (o ∷ os) = labelsFrom (suc i) (labelledBy (viewOf o) i labels) os
+
+-- the records from a place on
+abbrev pub recordsAt : List ℕ → ℕ → List (List ℕ)
+recordsAt block place = (cutOf (drop place block)) .records
+
+-- what the scan of the ops from a place on answers: a refusal; or that the block is accepted, how many ops there are, and where
+pub data ScannedBy (block : List ℕ) (start : ℕ) (places₀ places labels : List ℕ) : ℕ → ℕ → ℕ → Type 0 where
+  refuses-op : {rule place ops : ℕ} → (rule ≡ 0 → ⊥) → Refused rule place ≡ checkOf block → ScannedBy block start places₀ places labels rule place ops
+  accepts-ops : {place ops : ℕ} → checkOf block ≡ Accepted → ops ≡ length (recordsAt block start) → places ≡ placesFrom start 0 places₀ (recordsAt block start)
+      → labels ≡ labelsFrom 0 (replicate 256 0) (recordsAt block start) → ScannedBy block start places₀ places labels 0 place ops
+
+-- an op stands at the place, whole; n variables are declared
+pub record OpAt (b classes types : List ℕ) (p n : ℕ) : Type 0 where
+  pub within : p + suc (bodyLength (getD b p 0)) ≤ length b
+  pub is-known : known (getD b p 0) ≡ true
+  pub is-op : getD b p 0 ≡ 1 → ⊥
+  pub few-classes : n ≤ length classes
+  pub few-types : n ≤ length types
+
+-- what an op leaves in the arrays: the variables written, the labels set and their numbers, the labels jumped to
+pub record Marks (r : List ℕ) (op : ℕ) (written written′ labels labels′ targets targets′ : List ℕ) : Type 0 where
+  pub writes-so : marked written′ ≡ wrote (marked written) (viewOf r)
+  pub labels-so : numbered labels′ ≡ nextLabels (numbered labels) (viewOf r)
+  pub numbers-so : labels′ ≡ labelledBy (viewOf r) op labels
+  pub targets-so : marked targets′ ≡ nextTargets (marked targets) (viewOf r)
+
+-- the ops begin at a place, after n declarations
+pub record Begins (block classes types : List ℕ) (place n : ℕ) : Type 0 where
+  pub globals : ℕ
+  pub after : Declaring block classes types place n globals
+  pub no-more : place < length block → getD block place 0 ≡ 1 → ⊥
+
+-- a record stands at the place, after ops ops and n declarations; a declaration only after an op
+pub record RecordAt (block classes types : List ℕ) (place n ops : ℕ) : Type 0 where
+  pub inside : place < length block
+  pub late : getD block place 0 ≡ 1 → ops ≡ 0 → ⊥
+  pub few : n ≤ 64
+  pub long-classes : length classes ≡ 256
+  pub long-types : length types ≡ 256
+
+-- what the scan tells of an accepted block, with the declarations and ops as the definitions have them
+pub record Approved (block places₀ classes types places labels : List ℕ) (start n globals ops : ℕ) : Type 0 where
+  pub accepted : checkOf block ≡ Accepted
+  pub classes-are : classesOf (declarations (recordsOf block)) ≡ take n classes
+  pub widths-are : widthsOf (declarations (recordsOf block)) ≡ map widthOf (take n types)
+  pub globals-are : globals ≡ globalCount (classesOf (declarations (recordsOf block)))
+  pub few : n ≤ 64
+  pub long-classes : length classes ≡ 256
+  pub long-types : length types ≡ 256
+  pub start-is : start ≡ 3 * n
+  pub ops-are : recordsAt block start ≡ opsFrom (recordsOf block)
+  pub count-is : ops ≡ length (opsFrom (recordsOf block))
+  pub places-are : places ≡ placesFrom start 0 places₀ (opsFrom (recordsOf block))
+  pub labels-are : labels ≡ labelsFrom 0 (replicate 256 0) (opsFrom (recordsOf block))
+
+pub data Scanned (block places₀ classes types places labels : List ℕ) : ℕ → ℕ → ℕ → ℕ → ℕ → ℕ → Type 0 where
+  rejected : {rule place start n globals ops : ℕ} → (rule ≡ 0 → ⊥) → Refused rule place ≡ checkOf block
+      → Scanned block places₀ classes types places labels rule place start n globals ops
+  approved : {place start n globals ops : ℕ} → Approved block places₀ classes types places labels start n globals ops
+      → Scanned block places₀ classes types places labels 0 place start n globals ops

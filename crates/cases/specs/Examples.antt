@@ -4,11 +4,11 @@ use mathlib.Core.Path.{_≡_}
 use mathlib.Core.Bool.{Bool, true, false}
 use mathlib.Core.List.{List, [], _∷_, _++_}
 use lib.ListN.{length}
-use Rattle.runner.specs.declared.Run.{Run}
-use Rattle.runner.specs.declared.Run.the-variants.{Exit, Fault, NoResult}
+use Rattle.runner.specs.declared.Ending.{Ending}
+use Rattle.runner.specs.declared.Ending.the-variants.{Exit, Fault, NoResult}
 use Rattle.runner.specs.Runs.{Ran, runOf}
-use Rattle.optimiser.specs.declared.Pass.{Pass}
-use Rattle.optimiser.specs.declared.Pass.the-variants.{Length}
+use Rattle.optimiser.specs.declared.Written.{Written}
+use Rattle.optimiser.specs.declared.Written.the-variants.{Length}
 use Rattle.optimiser.specs.Passes.{Passed, passOf}
 
 -- a 64-bit movi of a number below 256

@@ -5,16 +5,16 @@ use mathlib.Core.Option.{Option, none, some}
 use mathlib.Core.List.{List, [], _∷_, map}
 use Rattle.memory.specs.Access.{loadAt}
 use Rattle.ops.specs.Ops.{evalOf}
-use Rattle.block.specs.declared.Check.{Check}
-use Rattle.block.specs.declared.Check.the-variants.{Accepted, Refused}
+use Rattle.block.specs.declared.Verdict.{Verdict}
+use Rattle.block.specs.declared.Verdict.the-variants.{Accepted, Refused}
 use Rattle.block.specs.Checks.{checkOf}
-use Rattle.runner.specs.declared.Run.{Run}
-use Rattle.runner.specs.declared.Run.the-variants.{Exit}
+use Rattle.runner.specs.declared.Ending.{Ending}
+use Rattle.runner.specs.declared.Ending.the-variants.{Exit}
 use Rattle.runner.specs.Runs.{Ran, runOf}
 
 -- what the definitions answer: the check; the run; a pure op, none where no result is stated; a load, none where it faults
 pub data Answer : Type 0 where
-  check : Check → Answer
+  check : Verdict → Answer
   run : Ran → Answer
   op : Option (List ℕ) → Answer
   load : Option ℕ → Answer

@@ -1,14 +1,10 @@
 -- The table of kinds against document 01's ranges of kinds. Proved in proofs/Table.antt. Assumes nothing.
 use Prim.Native.Nat.{ℕ, zero, suc, _+_}
 use mathlib.Core.Path.{_≡_}
-use mathlib.Core.Bool.{Bool, true, false, not, _&&_, _||_}
+use mathlib.Core.Bool.{Bool, true, false, not, _&&_, _||_, Bool·beq}
 use lib.Dec.{eqb}
 use Rattle.ops.specs.Kinds.{rowOf, known, bodyLength, outputCount, pureKind, between}
 use Rattle.ops.specs.Ops.{foldableRow}
-
-abbrev pub agree : Bool → Bool → Bool
-agree true b = b
-agree false b = not b
 
 -- a range of kinds from 10 on, in either width
 abbrev pub either : ℕ → ℕ → ℕ → Bool
@@ -20,9 +16,9 @@ given test n m = not test || eqb n m
 -- the kinds there are, those that fold ("kinds 05 to 07 or 11 to 29 (either width)"), and the pure ones ("kinds 05 to 07 and 10 to 29 in either width")
 abbrev pub kindRow : ℕ → Bool
 kindRow k =
-    agree (known k) (between 0x01 0x07 k || either 0x10 0x2C k)
-    && agree (foldableRow (rowOf k)) (between 0x05 0x07 k || either 0x11 0x29 k)
-    && agree (pureKind k) (between 0x05 0x07 k || either 0x10 0x29 k)
+    Bool·beq (known k) (between 0x01 0x07 k || either 0x10 0x2C k)
+    && Bool·beq (foldableRow (rowOf k)) (between 0x05 0x07 k || either 0x11 0x29 k)
+    && Bool·beq (pureKind k) (between 0x05 0x07 k || either 0x10 0x29 k)
 
 -- the lengths of the bodies in document 01's table of ops, and of the declaration
 abbrev pub lengthRow : ℕ → Bool

@@ -2,3 +2,4 @@
 pub mod Numbers
 pub mod Digits
 pub mod Faults
+pub mod Flags

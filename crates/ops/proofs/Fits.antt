@@ -1,27 +1,29 @@
 -- What a pure op that may fold states is one value that fits its output's width, for every kind. Assumes nothing.
 use mathlib.Core.Path.{_≡_, refl, subst}
-use mathlib.Core.Logic.{_⊎_, inl, inr}
 use mathlib.Core.Bool.{Bool, true, cond, false≢true}
 use mathlib.Core.Option.{Option, none, some}
-use mathlib.Core.List.{List, [], _∷_}
+use mathlib.Core.List.{List, [], _∷_, _++_}
+use mathlib.Core.Logic.{_⊎_, inl, inr}
 use Prim.Native.Nat.{ℕ, zero, suc, _-_, _%_, _^_, _≤_, _<_}
-use native.Mathlib.Nat.{lt-of-lt-of-le}
 use native.Mathlib.Omega.{arith}
-use lib.Bits.{and-lt, or-lt, xor-lt}
 use lib.Dec.{eqb, lit<, lit≤}
+use lib.Bits.{and-lt, or-lt, xor-lt}
 use lib.ListN.{length}
-use lib.Pow.{pow-pos}
 use borrow.Author.Tests.{eqb-true}
-use Rattle.word.specs.Word.{byDivisor, bySigned, byCount}
+use native.Mathlib.Nat.{lt-of-lt-of-le}
+use lib.Pow.{pow-pos}
+use Rattle.theory.specs.Machine.{All}
 use Rattle.word.specs.Condition.{condW}
+use Rattle.word.specs.Word.{byDivisor, bySigned, byCount}
+use Rattle.word.proofs.Fits.{mod-fits, add-fits, sub-fits, mul-fits, neg-fits, shl-fits, not-fits, eqv-fits, nand-fits, nor-fits, andc-fits, orc-fits}
+use Rattle.word.proofs.Fits.{divu-fits, remu-fits, shr-fits, rotl-fits, rotr-fits, sar-fits, divs-fits, rems-fits, extend-fits, divisor-states}
+use Rattle.word.proofs.Fits.{signed-states, count-states}
 use Rattle.word.proofs.Tests.{cond-told, cond-all}
-use Rattle.word.proofs.Fits.{mod-fits, add-fits, sub-fits, mul-fits, neg-fits, not-fits, andc-fits, orc-fits, eqv-fits, nand-fits, nor-fits}
-use Rattle.word.proofs.Fits.{shl-fits, shr-fits, sar-fits, rotl-fits, rotr-fits, divs-fits, divu-fits, rems-fits, remu-fits, extend-fits}
-use Rattle.word.proofs.Fits.{divisor-states, signed-states, count-states}
 use Rattle.ops.specs.Eval.{convertOf, unaryOf, logicOf, divideOf, shiftOf, setcondOf, movcondOf}
-use Rattle.ops.specs.Kinds.{Does, unknown, declares, sets, jumpsTo, leaves, branches, loads, stores, computes, Row, wideRow, rowOf, between, at, one}
-use Rattle.ops.specs.Kinds.{convert, movi, unary, binary, setcond, movcond}
+use Rattle.ops.specs.Kinds.{Does, unknown, declares, sets, jumpsTo, leaves, branches, loads, stores, computes, Row, between, at, one, convert}
+use Rattle.ops.specs.Kinds.{movi, unary, binary, setcond, movcond, wideRow, rowOf}
 use Rattle.ops.specs.Ops.{atWidths, foldableRow}
+use Rattle.ops.specs.Table.{operandWidths}
 
 -- a stated number fits the width
 abbrev Below : ℕ → Option ℕ → Type 0
@@ -215,3 +217,43 @@ table k =
 -- every kind that may fold has one output of 32 or 64 bits, and what it states is one value that fits
 pub sane : (k : ℕ) → SaneBy (rowOf k) ((rowOf k) .does)
 sane k = table k .by
+
+-- every operand has 32 or 64 bits
+record Widths (row : Row) : Type 0 where
+  all : All Wide (row .outs ++ row .ins)
+
+wide-widths : (w k : ℕ) → Wide w → Widths (wideRow w k)
+unfolding wideRow
+wide-widths w k h =
+    rows (eqb k 0x10) (record { all = (h, tt) })
+    (rows (between 0x11 0x13 k) (record { all = (h, (h, tt)) })
+    (rows (between 0x14 0x1E k) (record { all = (h, (h, (h, tt))) })
+    (rows (between 0x1F 0x22 k) (record { all = (h, (h, (h, tt))) })
+    (rows (between 0x23 0x27 k) (record { all = (h, (h, (h, tt))) })
+    (rows (eqb k 0x28) (record { all = (h, (h, (h, tt))) })
+    (rows (eqb k 0x29) (record { all = (h, (h, (h, (h, (h, tt))))) })
+    (rows (eqb k 0x2A) (record { all = (h, (h, tt)) })
+    (rows (eqb k 0x2B) (record { all = (h, (inr refl, tt)) })
+    (record { all = (h, (inr refl, tt)) })))))))))
+  where
+    rows : (b : Bool) {x y : Row} → Widths x → Widths y → Widths (cond b x y)
+    rows = cond-all Widths
+
+table-widths : (k : ℕ) → Widths (rowOf k)
+unfolding rowOf
+table-widths k =
+    rows (eqb k 0x01) (record { all = tt })
+    (rows (eqb k 0x02) (record { all = tt })
+    (rows (eqb k 0x03) (record { all = tt })
+    (rows (eqb k 0x04) (record { all = (inr refl, tt) })
+    (rows (between 0x05 0x06 k) (record { all = (inr refl, (inl refl, tt)) })
+    (rows (eqb k 0x07) (record { all = (inl refl, (inr refl, tt)) })
+    (rows (between 0x10 0x2C k) (wide-widths 32 k (inl refl))
+    (rows (between 0x90 0xAC k) (wide-widths 64 (k - 0x80) (inr refl))
+    (record { all = tt }))))))))
+  where
+    rows : (b : Bool) {x y : Row} → Widths x → Widths y → Widths (cond b x y)
+    rows = cond-all Widths
+
+pub operands-wide : (k : ℕ) → All Wide (operandWidths k)
+operands-wide k = table-widths k .all

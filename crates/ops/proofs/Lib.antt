@@ -3,3 +3,9 @@ pub mod Folding
 pub mod Sizes
 pub mod Ranges
 pub mod Table
+pub mod Rows
+pub mod Roles
+pub mod RoleRows
+pub mod Declares
+pub mod Families
+pub mod Folded

@@ -1,6 +1,6 @@
 -- A test that passes at every entry of a table, or at every number of a range, by one computation. Assumes nothing.
-use mathlib.Core.Path.{_≡_, sym, _∙_, subst}
-use mathlib.Core.Bool.{Bool, true, false, _&&_}
+use mathlib.Core.Path.{_≡_, refl, sym, _∙_, subst}
+use mathlib.Core.Bool.{Bool, true, false, _&&_, Bool·beq}
 use mathlib.Core.List.{List, [], _∷_}
 use mathlib.Core.Logic.{_⊎_, inl, inr}
 use Prim.Native.Nat.{ℕ, zero, suc, _+_, _≤_, _<_}
@@ -11,7 +11,6 @@ use borrow.Author.Tests.{eqb-true, eqb-false}
 use native.Mathlib.Nat.{zero-add, suc-add, add-zero, add-suc}
 use lib.Arith.{lt-of-le-ne}
 use Rattle.theory.proofs.Sets.{and-l, and-r, tell}
-use Rattle.theory.proofs.Simulation.{more}
 
 -- the test f passes at each of n numbers from lo
 abbrev pub everyFrom : (ℕ → Bool) → ℕ → ℕ → Bool
@@ -40,3 +39,13 @@ from f (x ∷ xs) lo t (suc k) h =
 
 pub listed : (f : ℕ → ℕ → Bool) (xs : List ℕ) → every f 0 xs ≡ true → (k : ℕ) → k < length xs → f k (getD xs k 0) ≡ true
 listed f xs t k h = subst (λ (m : ℕ). f m (getD xs k 0) ≡ true) (zero-add k) (from f xs 0 t k h)
+
+-- two tests agree at each number below n
+pub beq-same : (a b : Bool) → Bool·beq a b ≡ true → a ≡ b
+beq-same true true h = refl
+beq-same true false h = sym h
+beq-same false true h = h
+beq-same false false h = refl
+
+pub agreed : (f g : ℕ → Bool) (n : ℕ) → everyFrom (λ k. Bool·beq (f k) (g k)) 0 n ≡ true → (k : ℕ) → k < n → f k ≡ g k
+agreed f g n t k h = beq-same (f k) (g k) (ranged (λ j. Bool·beq (f j) (g j)) n 0 t k (omega arith) (omega arith))

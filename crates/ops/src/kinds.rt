@@ -1,19 +1,34 @@
 // The table of kinds.
 ghost use mathlib.Core.Path.{_≡_};
-ghost use Rattle.ops.specs.Kinds.{known, bodyLength, outputCount, pureKind};
-ghost use Rattle.ops.specs.Table.{entryOf, operandCount, operandWidths, wideBits};
+ghost use lib.Dec.{leb};
+ghost use Rattle.ops.specs.Kinds.{rowOf, known, bodyLength, outputCount, pureKind};
+ghost use Rattle.ops.specs.Table.{entryOf, operandCount, operandWidths, wideBits, roleOf};
 
-// A kind's entry, in hexadecimal digits from the lowest: the length of its body, its outputs, its operands (outputs and inputs), 1 if it
-// is pure; then a bit for each operand, 1 if the operand has 64 bits. 0 for a kind that is unknown.
+// What a kind is for. Constant: a pure op that reads nothing, movi. Computes: one that reads something.
+pub enum Role {
+    Unknown,
+    Declares,
+    SetsLabel,
+    Jumps,
+    Exits,
+    Constant,
+    Computes,
+    Branches,
+    Loads,
+    Stores,
+}
+
+// A kind's entry, in hexadecimal digits from the lowest: the length of its body, its outputs, its operands (outputs and inputs), the
+// number of its role; then a bit for each operand, 1 if the operand has 64 bits. The pure roles are 5 and 6. 0 for a kind that is unknown.
 const KINDS: [u32; 256] = [
     0x000000,
-    0x000002,
-    0x000001,
-    0x000001,
-    0x010101,
-    0x011212,
-    0x011212,
-    0x021212,
+    0x001002,
+    0x002001,
+    0x003001,
+    0x014101,
+    0x016212,
+    0x016212,
+    0x026212,
     0x000000,
     0x000000,
     0x000000,
@@ -22,35 +37,35 @@ const KINDS: [u32; 256] = [
     0x000000,
     0x000000,
     0x000000,
-    0x001119,
-    0x001212,
-    0x001212,
-    0x001212,
-    0x001313,
-    0x001313,
-    0x001313,
-    0x001313,
-    0x001313,
-    0x001313,
-    0x001313,
-    0x001313,
-    0x001313,
-    0x001313,
-    0x001313,
-    0x001313,
-    0x001313,
-    0x001313,
-    0x001313,
-    0x001313,
-    0x001313,
-    0x001313,
-    0x001313,
-    0x001313,
-    0x001314,
-    0x001516,
-    0x000204,
-    0x020213,
-    0x020203,
+    0x005119,
+    0x006212,
+    0x006212,
+    0x006212,
+    0x006313,
+    0x006313,
+    0x006313,
+    0x006313,
+    0x006313,
+    0x006313,
+    0x006313,
+    0x006313,
+    0x006313,
+    0x006313,
+    0x006313,
+    0x006313,
+    0x006313,
+    0x006313,
+    0x006313,
+    0x006313,
+    0x006313,
+    0x006313,
+    0x006313,
+    0x006313,
+    0x006314,
+    0x006516,
+    0x007204,
+    0x028213,
+    0x029203,
     0x000000,
     0x000000,
     0x000000,
@@ -150,35 +165,35 @@ const KINDS: [u32; 256] = [
     0x000000,
     0x000000,
     0x000000,
-    0x011119,
-    0x031212,
-    0x031212,
-    0x031212,
-    0x071313,
-    0x071313,
-    0x071313,
-    0x071313,
-    0x071313,
-    0x071313,
-    0x071313,
-    0x071313,
-    0x071313,
-    0x071313,
-    0x071313,
-    0x071313,
-    0x071313,
-    0x071313,
-    0x071313,
-    0x071313,
-    0x071313,
-    0x071313,
-    0x071313,
-    0x071313,
-    0x071314,
-    0x1f1516,
-    0x030204,
-    0x030213,
-    0x030203,
+    0x015119,
+    0x036212,
+    0x036212,
+    0x036212,
+    0x076313,
+    0x076313,
+    0x076313,
+    0x076313,
+    0x076313,
+    0x076313,
+    0x076313,
+    0x076313,
+    0x076313,
+    0x076313,
+    0x076313,
+    0x076313,
+    0x076313,
+    0x076313,
+    0x076313,
+    0x076313,
+    0x076313,
+    0x076313,
+    0x076313,
+    0x076313,
+    0x076314,
+    0x1f6516,
+    0x037204,
+    0x038213,
+    0x039203,
     0x000000,
     0x000000,
     0x000000,
@@ -297,7 +312,8 @@ pub fn operand_count(kind: u8) -> usize
 pub fn is_pure(kind: u8) -> bool
     ensures { λ r. ⌜ r ≡ pureKind kind ⌝ }
 {
-    entry(kind) / 4096 % 16 == 1
+    let role = entry(kind) / 4096 % 16;
+    role == 5 || role == 6
 }
 
 // A bit for each operand, the first lowest: 1 if it has 64 bits.
@@ -305,4 +321,36 @@ pub fn wide_bits(kind: u8) -> u32
     ensures { λ r. ⌜ r ≡ wideBits (operandWidths kind) ⌝ }
 {
     entry(kind) / 65536
+}
+
+pub fn role_of(kind: u8) -> Role
+    ensures { λ r. ⌜ r ≡ roleOf kind ⌝ }
+{
+    let role = entry(kind) / 4096 % 16;
+    match role {
+        1 => Role::Declares,
+        2 => Role::SetsLabel,
+        3 => Role::Jumps,
+        4 => Role::Exits,
+        5 => Role::Constant,
+        6 => Role::Computes,
+        7 => Role::Branches,
+        8 => Role::Loads,
+        9 => Role::Stores,
+        _ => Role::Unknown,
+    }
+}
+
+// How many bytes follow the operands.
+pub fn rest_length(kind: u8) -> usize
+    ensures { λ r. ⌜ r ≡ (rowOf kind) .rest ⌝ }
+{
+    body_length(kind) - operand_count(kind)
+}
+
+// The op has its 64-bit form.
+pub fn is_wide(kind: u8) -> bool
+    ensures { λ r. ⌜ r ≡ leb 0x80 kind ⌝ }
+{
+    0x80 <= kind
 }

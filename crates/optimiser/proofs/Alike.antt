@@ -14,15 +14,15 @@ use Rattle.theory.proofs.PruneBy.{Agree}
 use Rattle.theory.proofs.Sets.{and-l}
 use Rattle.theory.proofs.Simulation.{stated, Matches}
 use Rattle.ops.specs.Ops.{Fault, tcg}
-use Rattle.block.specs.Checks.{answer, checkOf}
-use Rattle.block.specs.Records.{classesOf, widthsOf}
+use Rattle.block.specs.Checks.{checkOf}
+use Rattle.block.specs.Records.{classesOf, widthsOf, globalCount}
 use Rattle.block.proofs.Parts.{Parts}
-use Rattle.runner.specs.Runs.{globalCount, globalsFit, fits, entry, valuesFrom, Ran, answerOf, ranOf, runOps, runChecked, runOf}
+use Rattle.runner.specs.Runs.{globalsFit, fits, entry, valuesFrom, Ran, answerOf, ranOf, runOps, runChecked, runOf}
 use Rattle.optimiser.specs.Demand.{Fit, unstatedEnd, SameEnd, same-exit, same-fault, Alike}
 use Rattle.optimiser.specs.Passes.{passOps}
 use Rattle.optimiser.proofs.Result.{ops-preserved}
 use Rattle.block.specs.Rules.{globalsIn, keptIn, declared}
-use Rattle.block.specs.declared.Check.the-variants.{Accepted}
+use Rattle.block.specs.declared.Verdict.the-variants.{Accepted}
 
 -- the variables below the number of globals are globals
 pub globals-below : (classes : List ℕ) (v : ℕ) → v < globalCount classes → globalsIn classes v ≡ true

@@ -7,6 +7,8 @@ use Rattle.theory.specs.Fold.{nothing, ReplacesNone}
 use Rattle.theory.specs.Machine.{Prog}
 use Rattle.theory.specs.Prune.{AllUsed}
 use Rattle.theory.proofs.Rule.{still-none}
+use Rattle.memory.proofs.Digits.{room}
+use Rattle.memory.proofs.Faults.{sized}
 use Rattle.ops.specs.Ops.{tcg, folding}
 use Rattle.ops.proofs.Folding.{constants}
 use Rattle.block.specs.Checks.{checkOf}
@@ -17,7 +19,7 @@ use Rattle.optimiser.specs.Passes.{passOps, resultOf, written}
 use Rattle.optimiser.proofs.Alike.{blocks-alike}
 use Rattle.optimiser.proofs.Result.{ops-preserved, parts-size, kept-parts, result-of, pass-answers}
 use Rattle.block.specs.Rules.{globalsIn, keptIn, declared}
-use Rattle.block.specs.declared.Check.the-variants.{Accepted}
+use Rattle.block.specs.declared.Verdict.the-variants.{Accepted}
 
 -- the pass of a block from its parts: folded, used, and again
 module _ (block : List ℕ) (ds os : List (List ℕ)) (h : checkOf block ≡ Accepted) (p : Parts block ds os) where

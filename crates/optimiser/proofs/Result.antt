@@ -7,11 +7,10 @@ use native.Mathlib.Omega.{arith}
 use lib.ListN.{length, getD, length-append}
 use borrow.Author.Tests.{eqb-true, le-leb}
 use Rattle.theory.specs.Fold.{Rule, baseRule}
-use Rattle.theory.specs.Machine.{Prog}
+use Rattle.theory.specs.Machine.{Prog, All}
 use Rattle.theory.specs.Scope.{scoped}
 use Rattle.theory.specs.Sets.{empty}
 use Rattle.theory.proofs.Accept.{pass-checks}
-use Rattle.theory.proofs.Fold.{All}
 use Rattle.theory.proofs.Pass.{Preserves, preserves}
 use Rattle.theory.proofs.Rule.{base-sound, base-settles}
 use Rattle.theory.proofs.Scope.{base-scopes}
@@ -28,7 +27,7 @@ use Rattle.optimiser.specs.Passes.{passOps, resultOf, passRefused, writt
 use Rattle.block.specs.Rules.{start, globalsIn, keptIn, declared}
 use Rattle.block.proofs.Checker.{checker, inScope, accepts-ops, ops-accepts, declaredIn, seen-declared, few-declared, few-ops}
 use Rattle.block.proofs.Cut.{whole, AllWhole, cut-concat, split-records, AllDeclared, declared-all, headOp, ops-head, split-again, all-append}
-use Rattle.block.specs.declared.Check.the-variants.{Accepted}
+use Rattle.block.specs.declared.Verdict.the-variants.{Accepted}
 
 pub globals-kept : (classes : List ℕ) (v : ℕ) → globalsIn classes v ≡ true → keptIn classes v ≡ true
 globals-kept classes v h = rw (eqb-true (getD classes v 2) 0 h)

@@ -7,15 +7,15 @@ use lib.ListN.{length, take, drop}
 use Rattle.theory.specs.Prune.{AllUsed}
 use Rattle.theory.specs.Fold.{ReplacesNone, nothing}
 use Rattle.ops.specs.Ops.{tcg, folding}
-use Rattle.block.specs.declared.Check.the-variants.{Accepted as NoRefusal}
+use Rattle.block.specs.declared.Verdict.the-variants.{Accepted as NoRefusal}
 use Rattle.block.specs.Records.{recordsOf, declarations, opsFrom, classesOf}
 use Rattle.block.specs.Rules.{globalsIn, keptIn}
 use Rattle.block.specs.Checks.{checkOf}
-use Rattle.runner.specs.declared.Run.{Run}
-use Rattle.runner.specs.declared.Run.the-variants.{Refused, Exit, Fault, NoResult}
+use Rattle.runner.specs.declared.Ending.{Ending}
+use Rattle.runner.specs.declared.Ending.the-variants.{Refused, Exit, Fault, NoResult}
 use Rattle.runner.specs.Runs.{Ran, runOf, fits}
-use Rattle.optimiser.specs.declared.Pass.{Pass}
-use Rattle.optimiser.specs.declared.Pass.the-variants.{Length}
+use Rattle.optimiser.specs.declared.Written.{Written}
+use Rattle.optimiser.specs.declared.Written.the-variants.{Length}
 use Rattle.optimiser.specs.Passes.{Passed, passOf, resultOf, written}
 
 -- "A block is accepted if the check gives it no refusal."
@@ -31,14 +31,14 @@ abbrev pub Room : List ℕ → List ℕ → Type 0
 Room result out = length result ≤ length out
 
 -- "A run meets an op without a stated result exactly when it ends in that way."
-abbrev pub unstatedEnd : Run → Bool
+abbrev pub unstatedEnd : Ending → Bool
 unstatedEnd (Refused number place) = false
 unstatedEnd (Exit value count) = false
 unstatedEnd (Fault store address flags count) = false
 unstatedEnd (NoResult position count) = true
 
 -- "Same exit: the same value. Same fault: load or store alike, the same address and the same flags." In no more ops
-pub data SameEnd : Run → Run → Type 0 where
+pub data SameEnd : Ending → Ending → Type 0 where
   same-exit : {value m n : ℕ} → n ≤ m → SameEnd (Exit value m) (Exit value n)
   same-fault : {store : Bool} {address flags m n : ℕ} → n ≤ m → SameEnd (Fault store address flags m) (Fault store address flags n)
 

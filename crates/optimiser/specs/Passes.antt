@@ -7,13 +7,13 @@ use lib.ListN.{length, drop}
 use Rattle.theory.specs.Machine.{Prog}
 use Rattle.theory.specs.Fold.{baseRule, pass}
 use Rattle.ops.specs.Ops.{tcg, folding}
-use Rattle.block.specs.declared.Check.{Check}
-use Rattle.block.specs.declared.Check.the-variants.{Accepted, Refused as CheckRefused}
+use Rattle.block.specs.declared.Verdict.{Verdict}
+use Rattle.block.specs.declared.Verdict.the-variants.{Accepted, Refused as CheckRefused}
 use Rattle.block.specs.Records.{recordsOf, concat, declarations, opsFrom, classesOf}
 use Rattle.block.specs.Rules.{globalsIn, keptIn}
 use Rattle.block.specs.Checks.{checkOf}
-use Rattle.optimiser.specs.declared.Pass.{Pass}
-use Rattle.optimiser.specs.declared.Pass.the-variants.{Refused, Length}
+use Rattle.optimiser.specs.declared.Written.{Written}
+use Rattle.optimiser.specs.declared.Written.the-variants.{Refused, Length}
 
 -- the ops that fold and prune leave, of variables of these classes
 unfoldable pub passOps : List ℕ → Prog tcg → Prog tcg
@@ -28,7 +28,7 @@ resultOf block = concat (resultRecords (recordsOf block))
 
 -- what the pass answers, and what it leaves in the lent buffer
 pub record Passed : Type 0 where
-  pub answer : Pass
+  pub answer : Written
   pub out : List ℕ
 
 abbrev pub passRefused : ℕ → ℕ → List ℕ → Passed
@@ -39,7 +39,7 @@ abbrev pub written : List ℕ → List ℕ → Passed
 written result out = record { answer = Length (length result); out = result ++ drop (length result) out }
 
 -- first the check's rules, then 12: "output buffer shorter than the result"
-unfoldable pub passChecked : List ℕ → List ℕ → Check → Passed
+unfoldable pub passChecked : List ℕ → List ℕ → Verdict → Passed
 passChecked result out (CheckRefused number place) = passRefused number place out
 passChecked result out Accepted = cond (leb (length result) (length out)) (written result out) (passRefused 12 0 out)
 

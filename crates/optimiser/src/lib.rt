@@ -1,5 +1,5 @@
 // The pass's answer: the length of the result.
-pub enum Pass {
+pub enum Written {
     Refused { number: u8, place: usize },
     Length(usize),
 }

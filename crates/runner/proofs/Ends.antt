@@ -24,7 +24,7 @@ use Rattle.block.proofs.Lenient.{exit-view}
 use Rattle.block.proofs.Parts.{parts}
 use Rattle.runner.specs.Runs.{entry}
 use Rattle.block.proofs.Checker.{opOk, checker, declaredIn}
-use Rattle.block.specs.declared.Check.the-variants.{Accepted}
+use Rattle.block.specs.declared.Verdict.the-variants.{Accepted}
 
 -- an op is due, and the check accepts what is left
 abbrev Due : List (List ℕ) → Type 0
@@ -53,7 +53,7 @@ low-label row (loads w) r k j h = absurd (false≢true j)
 low-label row (stores w) r k j h = absurd (false≢true j)
 low-label row (computes ok f) r k j h = absurd (false≢true j)
 
-jump-low : (s : Seen) (o : List ℕ) (k : ℕ) → isJump k (viewOf o) ≡ true → rule6 s o ≡ true → k < 32
+pub jump-low : (s : Seen) (o : List ℕ) (k : ℕ) → isJump k (viewOf o) ≡ true → rule6 s o ≡ true → k < 32
 unfolding viewOf rule6
 jump-low s o k j h = low-label (rowAt o) ((rowAt o) .does) o k j h
 
@@ -66,12 +66,12 @@ jump-labels labels targets (jump l) k j h = (subst (λ (n : ℕ). labels n ≡ f
 jump-labels labels targets (branch ins f l) k j h = (subst (λ (n : ℕ). labels n ≡ false) (eqb-true l k j) (not-true (labels l) h), rw j)
 jump-labels labels targets (leave x) k j h = absurd (false≢true j)
 
-more-targets : (b t : Bool) → t ≡ true → cond b true t ≡ true
+pub more-targets : (b t : Bool) → t ≡ true → cond b true t ≡ true
 more-targets true t h = refl
 more-targets false t h = h
 
 -- a label that is not set stays so up to its set_label, and a target stays one
-other-labels : (labels targets : Vars) (w : View ℕ (List ℕ) Fault) (k : ℕ) → isLabel k w ≡ false → labels k ≡ false → targets k ≡ true
+pub other-labels : (labels targets : Vars) (w : View ℕ (List ℕ) Fault) (k : ℕ) → isLabel k w ≡ false → labels k ≡ false → targets k ≡ true
     → (nextLabels labels w k ≡ false) × (nextTargets targets w k ≡ true)
 other-labels labels targets (calc outs ins f) k n l t = (l, t)
 other-labels labels targets (access outs ins f) k n l t = (l, t)
@@ -95,7 +95,7 @@ all-set targets labels (suc n) k h l t = go (tell (eqb n k)) (all-set targets la
     go (inl e) ih = here (eqb-true n k e)
     go (inr e) ih = ih (lt-of-le-ne (omega arith) (λ q. eqb-false n k e (sym q))) t
 
-end-set : (s : Seen) (k : ℕ) → allMet (endRules s) ≡ true → k < 32 → s .targets k ≡ true → s .labels k ≡ true
+pub end-set : (s : Seen) (k : ℕ) → allMet (endRules s) ≡ true → k < 32 → s .targets k ≡ true → s .labels k ≡ true
 unfolding rule7end
 end-set s k h l t =
     all-set (s .targets) (s .labels) 32 k (and-l (rule7end s) true (and-r (rule10 s) (rule7end s && true) h)) l t
@@ -109,14 +109,14 @@ found (o ∷ r) s k c b l t = go (isLabel k (viewOf o)) refl
     go true e ih = (s, c)
     go false e ih = ih e
 
-op-parts : (s : Seen) (o : List ℕ) → opOk s o ≡ true → (rule6 s o ≡ true) × (rule7 s o ≡ true)
+pub op-parts : (s : Seen) (o : List ℕ) → opOk s o ≡ true → (rule6 s o ≡ true) × (rule7 s o ≡ true)
 op-parts s o h =
     let a = and-r (not (isDeclaration o)) (rule9 s o && (rule4 s o && (rule5 s o && (rule6 s o && rule7 s o))))
     (and-r (whole o) (not (isDeclaration o) && (rule9 s o && (rule4 s o && (rule5 s o && (rule6 s o && rule7 s o))))) h) in
     let b = and-r (rule5 s o) (rule6 s o && rule7 s o) (and-r (rule4 s o) (rule5 s o && (rule6 s o && rule7 s o)) (and-r (rule9 s o) (rule4 s o && (rule5 s o && (rule6 s o && rule7 s o))) a)) in
     (and-l (rule6 s o) (rule7 s o) b, and-r (rule6 s o) (rule7 s o) b)
 
-landed-labels : (s : Seen) (o : List ℕ) (k : ℕ) → isJump k (viewOf o) ≡ true → rule7 s o ≡ true
+pub landed-labels : (s : Seen) (o : List ℕ) (k : ℕ) → isJump k (viewOf o) ≡ true → rule7 s o ≡ true
     → ((passed s o) .labels k ≡ false) × ((passed s o) .targets k ≡ true)
 unfolding rule7
 landed-labels s o k j h = jump-labels (s .labels) (s .targets) (viewOf o) k j h

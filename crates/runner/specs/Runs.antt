@@ -7,17 +7,12 @@ use lib.ListN.{length, getD}
 use Rattle.theory.specs.Machine.{State, St, Prog, End, exit, fault, unstated, fell, spent, Result, runs}
 use Rattle.ops.specs.Kinds.{narrowOk}
 use Rattle.ops.specs.Ops.{tcg}
-use Rattle.block.specs.declared.Check.{Check}
-use Rattle.block.specs.declared.Check.the-variants.{Accepted, Refused as CheckRefused}
-use Rattle.block.specs.Records.{recordsOf, declarations, opsFrom, classesOf, widthsOf}
+use Rattle.block.specs.declared.Verdict.{Verdict}
+use Rattle.block.specs.declared.Verdict.the-variants.{Accepted, Refused as CheckRefused}
+use Rattle.block.specs.Records.{recordsOf, declarations, opsFrom, classesOf, widthsOf, globalCount}
 use Rattle.block.specs.Checks.{checkOf}
-use Rattle.runner.specs.declared.Run.{Run}
-use Rattle.runner.specs.declared.Run.the-variants.{Refused, Exit, Fault, NoResult}
-
--- the number of globals, which stand before the rest
-abbrev pub globalCount : List ℕ → ℕ
-globalCount [] = 0
-globalCount (c ∷ cs) = cond (eqb c 0) (suc (globalCount cs)) 0
+use Rattle.runner.specs.declared.Ending.{Ending}
+use Rattle.runner.specs.declared.Ending.the-variants.{Refused, Exit, Fault, NoResult}
 
 -- 11: "number of lent globals differs from those declared, a 32-bit global of 2^32 or more, memory above 65,536 bytes"
 abbrev pub globalsFit : List ℕ → List ℕ → Bool
@@ -39,13 +34,13 @@ valuesFrom env v (suc n) = env v ∷ valuesFrom env (suc v) n
 
 -- what a run answers, and what it leaves in the lent globals and memory
 pub record Ran : Type 0 where
-  pub answer : Run
+  pub answer : Ending
   pub globals : List ℕ
   pub memory : List ℕ
 
 -- "It ends in one of three ways: exit with a value; fault with load or store, address and flags; or no stated result, with the op's
 -- position counted from 0 among the ops." No run of an accepted block falls past its last op or uses up its steps (proofs/Ends)
-abbrev pub answerOf : End ℕ (tcg .Flt) → ℕ → ℕ → Run
+abbrev pub answerOf : End ℕ (tcg .Flt) → ℕ → ℕ → Ending
 answerOf (exit v) position count = Exit v count
 answerOf (fault f) position count = Fault (f .store) (f .address) (f .flags) count
 answerOf unstated position count = NoResult position count
@@ -69,7 +64,7 @@ abbrev pub runRefused : ℕ → ℕ → List ℕ → List ℕ → Ran
 runRefused number place globals memory = record { answer = Refused number place; globals = globals; memory = memory }
 
 -- "A run takes the block, the globals as 64-bit numbers, and the memory." First the check's rules, then 11
-unfoldable pub runChecked : List (List ℕ) → List ℕ → List ℕ → Check → Ran
+unfoldable pub runChecked : List (List ℕ) → List ℕ → List ℕ → Verdict → Ran
 runChecked records globals memory (CheckRefused number place) = runRefused number place globals memory
 runChecked records globals memory Accepted =
     let ran = runOps (opsFrom records) globals memory in

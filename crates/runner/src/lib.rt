@@ -1,5 +1,5 @@
 // The run's answer. Each ending gives the number of ops run.
-pub enum Run {
+pub enum Ending {
     Refused {
         number: u8,
         place: usize,

@@ -8,7 +8,7 @@ use Prim.Native.Nat.{ℕ}
 use lib.Dec.{eqb}
 use Rattle.theory.specs.Fold.{Known, nothing, Rewrite, put, omit, cut, Mode, on, off, somes, given, learned, anyLabel, Rule, emit, ruleAt, fold}
 use Rattle.theory.specs.Machine.{Touch, faults, gives, View, calc, access, label, jump, branch, leave, Lang, unstated, State, Effect, falls, jumps}
-use Rattle.theory.specs.Machine.{stops, headOr, tailOf, upd, reads, writes, afterCalc, afterAccess, effect, isLabel, St, Prog, seek, Dest, moved}
+use Rattle.theory.specs.Machine.{stops, headOr, tailOf, upd, reads, writes, afterCalc, afterAccess, effect, isLabel, St, Prog, All, seek, Dest, moved}
 use Rattle.theory.specs.Machine.{run}
 use Rattle.theory.proofs.Sets.{tell}
 use Rattle.theory.proofs.Simulation.{definite, Follows, drops, moves, ends, open-end, Matches, simulates}
@@ -86,11 +86,6 @@ any-learned k (label l) e = refl
 any-learned k (jump l) e = absurd (false≢true e)
 any-learned k (branch ins f l) e = absurd (false≢true e)
 any-learned k (leave x) e = absurd (false≢true e)
-
--- the ops of a program each have a property
-abbrev pub All : {Op : Type 0} → (Op → Type 0) → List Op → Type 0
-All P [] = Unit {0}
-All P (o ∷ r) = P o × All P r
 
 pub seek-all : (L : Lang) (P : L .Op → Type 0) (k : ℕ) (r : Prog L) → All P r → All P (seek L k r)
 seek-all L P k [] h = h

@@ -6,12 +6,12 @@ use Prim.Native.Nat.{ℕ, suc, _+_, _-_, _≤_}
 use native.Mathlib.Omega.{arith}
 use lib.ListN.{length}
 use Rattle.theory.specs.Fold.{nothing, Rewrite, put, omit, cut, Mode, on, off, learned, anyLabel, Rule, emit, resume, ruleAt, fold, pass}
-use Rattle.theory.specs.Machine.{Lang, St, Prog, seek, Dest, run, runs}
+use Rattle.theory.specs.Machine.{Lang, St, Prog, All, seek, Dest, run, runs}
 use Rattle.theory.specs.Prune.{dead, live, prune, AllUsed}
 use Rattle.theory.specs.Scope.{scoped}
 use Rattle.theory.specs.Sets.{Vars, empty}
 use Rattle.theory.proofs.Again.{Settles, Still, pass-still, pass-used, pass-again}
-use Rattle.theory.proofs.Fold.{All, Sound, Anew, forward-anew, anywhere-anew, fold-right}
+use Rattle.theory.proofs.Fold.{Sound, Anew, forward-anew, anywhere-anew, fold-right}
 use Rattle.theory.proofs.Liveness.{Lands, forward, anywhere, prune-right}
 use Rattle.theory.proofs.PruneBy.{Agree}
 use Rattle.theory.proofs.Scope.{Scopes, fold-scoped, pass-scoped}

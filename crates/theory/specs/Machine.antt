@@ -102,6 +102,11 @@ module _ (L : Lang) where
   abbrev pub Prog : Type 0
   Prog = List (L .Op)
 
+-- each element of a list has a property
+abbrev pub All : {A : Type 0} → (A → Type 0) → List A → Type 0
+All P [] = Unit {0}
+All P (x ∷ xs) = P x × All P xs
+
 -- a run's end, the state that the completed ops left, the number of ops run, and the ops from the one that ended it on
 pub record Result (L : Lang) : Type 0 where
   pub end : End (L .Val) (L .Flt)

@@ -1,5 +1,5 @@
 -- `all_below` is rule 4. Assumes nothing.
-use Prim.Native.Nat.{_≤_, _-_}
+use Prim.Native.Nat.{_-_, _≤_}
 use native.Mathlib.Omega.{arith}
 use borrow.Author.Needs.{needs}
 use Rattle.block.proofs.Operands.{Below, below-start, below-next, below-stops, below-ends}

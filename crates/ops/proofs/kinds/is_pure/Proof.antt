@@ -1,7 +1,8 @@
--- `is_pure` reads the entry. Assumes nothing.
+-- `is_pure` goes by the role. Assumes nothing.
 use native.Mathlib.Omega.{arith}
-use Rattle.ops.proofs.Table.{entry-holds}
 use borrow.Author.Needs.{needs}
+use Rattle.ops.proofs.Roles.{pure-five, pure-six}
+use Rattle.ops.proofs.Table.{role-read}
 use Rattle.ops.proofs.kinds.is_pure.Statement.{statement}
 use Rattle.ops.proofs.kinds.is_pure.Tie as tie
 
@@ -9,7 +10,12 @@ entry-requires : tie.Need-entry-requires
 entry-requires c κs = search needs
 
 returns : tie.Need-returns
-returns c = rw (c .entry .ensures) ((entry-holds (c .before .args .kind) (omega arith)) .pure)
+returns c =
+    pure-five (c .before .before .args .kind) (role-read (c .before .before .args .kind) (omega arith) (c .before .entry .ensures)) (c .if1 .taken)
+
+returns-2 : tie.Need-returns-2
+returns-2 c =
+    pure-six (c .before .before .args .kind) (role-read (c .before .before .args .kind) (omega arith) (c .before .entry .ensures)) (c .if1 .left)
 
 pub is-pure-spec : {M : Type 1} → statement M
-is-pure-spec = tie.close (tie.spec entry-requires returns)
+is-pure-spec = tie.close (tie.spec entry-requires returns returns-2)

@@ -1,0 +1,246 @@
+-- One turn of the loop over the declarations. Assumes nothing.
+use mathlib.Core.Path.{_≡_, refl, sym, ap, ap₂, _∙_}
+use mathlib.Core.Bool.{Bool, true, false, cond, not, _&&_, _||_}
+use mathlib.Core.List.{List, [], _∷_, _++_, append-assoc, map}
+use Prim.Native.Nat.{ℕ, suc, _+_, _-_, _≤_, _<_}
+use native.Mathlib.Omega.{arith}
+use lib.Dec.{eqb, ltb, leb, eqb·zero-suc, eqb·suc-suc}
+use lib.ListN.{length, getD, take, drop, set, length-set}
+use lib.Seq.{length-take-le, take-suc-set}
+use borrow.Author.Tests.{ltb-true, eq-eqb, ne-eqb}
+use native.Mathlib.Numerals.{add-one}
+use Rattle.theory.specs.Prune.{before}
+use Rattle.theory.proofs.Sets.{and-l, and-r}
+use Rattle.ops.specs.Kinds.{at, rowOf, known, bodyLength}
+use Rattle.ops.specs.Ops.{kindOf}
+use Rattle.block.specs.Checks.{asks, firstBroken, answer, checkOf}
+use Rattle.block.specs.Records.{Cut, cons, cutOf, recordsOf, isDeclaration, classOf, typeOf, widthOf, classesOf, widthsOf, globalCount}
+use Rattle.block.specs.Rules.{Seen}
+use Rattle.block.specs.Scan.{declarationOk, DeclaredBy, refuses, reads-on}
+use Rattle.block.proofs.Cut.{all-append}
+use Rattle.block.proofs.Fields.{field, kind-at}
+use Rattle.block.proofs.Steps.{cut-record, at-short, at-record, at-start}
+use Rattle.block.specs.Rules.{allGlobal, rule3, declared, next}
+use Rattle.block.specs.Scan.{recordAt, checkAt, declaredSeen, Declaring}
+use Rattle.block.specs.declared.Verdict.the-variants.{Accepted, Refused}
+
+-- the globals come first: all are globals exactly when as many are as there are variables
+count-all : (cs : List ℕ) → eqb (globalCount cs) (length cs) ≡ allGlobal cs
+count-all [] = refl
+count-all (c ∷ cs) = go (eqb c 0) (count-all cs)
+  where
+    go : (b : Bool) → eqb (globalCount cs) (length cs) ≡ allGlobal cs → eqb (cond b (suc (globalCount cs)) 0) (suc (length cs)) ≡ (b && allGlobal cs)
+    go true ih = eqb·suc-suc (globalCount cs) (length cs) ∙ ih
+    go false ih = eqb·zero-suc (length cs)
+
+count-more : (cs : List ℕ) → allGlobal cs ≡ true → globalCount (cs ++ (0 ∷ [])) ≡ suc (globalCount cs)
+count-more [] h = refl
+count-more (c ∷ cs) h = rw (and-l (eqb c 0) (allGlobal cs) h) (ap suc (count-more cs (and-r (eqb c 0) (allGlobal cs) h)))
+
+count-other : (cs : List ℕ) (c : ℕ) → eqb c 0 ≡ false → globalCount (cs ++ (c ∷ [])) ≡ globalCount cs
+count-other [] c h = rw h
+count-other (d ∷ cs) c h = go (eqb d 0) (count-other cs c h)
+  where
+    go : (b : Bool) → globalCount (cs ++ (c ∷ [])) ≡ globalCount cs → cond b (suc (globalCount (cs ++ (c ∷ [])))) 0 ≡ cond b (suc (globalCount cs)) 0
+    go true ih = ap suc ih
+    go false ih = refl
+
+classes-append : (ds : List (List ℕ)) (d : List ℕ) → classesOf (ds ++ (d ∷ [])) ≡ classesOf ds ++ (classOf d ∷ [])
+classes-append [] d = refl
+classes-append (x ∷ ds) d = ap (λ (q : List ℕ). classOf x ∷ q) (classes-append ds d)
+
+widths-append : (ds : List (List ℕ)) (d : List ℕ) → widthsOf (ds ++ (d ∷ [])) ≡ widthsOf ds ++ (widthOf (typeOf d) ∷ [])
+widths-append [] d = refl
+widths-append (x ∷ ds) d = ap (λ (q : List ℕ). widthOf (typeOf x) ∷ q) (widths-append ds d)
+
+map-append : (f : ℕ → ℕ) (xs : List ℕ) (y : ℕ) → map f (xs ++ (y ∷ [])) ≡ map f xs ++ (f y ∷ [])
+map-append f [] y = refl
+map-append f (x ∷ xs) y = ap (λ (q : List ℕ). f x ∷ q) (map-append f xs y)
+
+count-small : (cs : List ℕ) → globalCount cs ≤ length cs
+count-small [] = omega arith
+count-small (c ∷ cs) = go (eqb c 0) (count-small cs)
+  where
+    go : (b : Bool) → globalCount cs ≤ length cs → cond b (suc (globalCount cs)) 0 ≤ suc (length cs)
+    go true h = omega arith
+    go false h = omega arith
+
+-- no more globals than variables
+pub declaring-few : {b classes types : List ℕ} {p n globals : ℕ} → Declaring b classes types p n globals → globals ≤ n
+declaring-few {b} {classes} {types} {p} {n} d = omega (arith, d .globals-are, count-small (take n classes), length-take-le n classes (omega (arith, d .few, d .long-classes)))
+
+pub declaring-start : (b classes types : List ℕ) → length classes ≡ 256 → length types ≡ 256 → Declaring b classes types 0 0 0
+declaring-start b classes types lc lt =
+    record {
+      before = [];
+      goes-on = sym (at-start b);
+      records-are = refl;
+      all-declared = tt;
+      classes-are = refl;
+      widths-are = refl;
+      globals-are = refl;
+      place-is = refl;
+      reached = omega arith;
+      few = omega arith;
+      long-classes = lc;
+      long-types = lt;
+    }
+
+declares : bodyLength 0x01 ≡ 2
+unfolding rowOf
+declares = refl
+
+declares-known : known 0x01 ≡ true
+unfolding rowOf
+declares-known = refl
+
+module _ {b classes types : List ℕ} {p n globals : ℕ} (d : Declaring b classes types p n globals) (h : p < length b) (k : getD b p 0 ≡ 1) where
+  body : bodyLength (getD b p 0) ≡ 2
+  body = ap bodyLength k ∙ declares
+
+  is-known : known (getD b p 0) ≡ true
+  is-known = ap known k ∙ declares-known
+
+  pub declaring-short : length b - p < 3 → Refused 1 p ≡ checkOf b
+  declaring-short l = sym (at-short b p h (declaredSeen classes types n) is-known (omega (arith, body))) ∙ d .goes-on
+
+  module _ (l : 3 ≤ length b - p) where
+    within : p + suc (bodyLength (getD b p 0)) ≤ length b
+    within = omega (arith, body)
+
+    kind : isDeclaration (recordAt b p) ≡ true
+    kind = eq-eqb (kindOf (recordAt b p)) 0x01 (kind-at b p within ∙ k)
+
+    class : classOf (recordAt b p) ≡ getD b (p + 1) 0
+    class = field b p within 1 (omega (arith, body))
+
+    type : typeOf (recordAt b p) ≡ getD b (p + 2) 0
+    type = field b p within 2 (omega (arith, body))
+
+    abbrev met : Bool
+    met = declarationOk (getD b (p + 1) 0) (getD b (p + 2) 0) globals n
+
+    lc : n ≤ length classes
+    lc = omega (arith, d .few, d .long-classes)
+
+    rule-3 : rule3 (declaredSeen classes types n) (recordAt b p) ≡ met
+    unfolding rule3 declarationOk
+    rule-3 =
+        let len : length (take n classes) ≡ n = length-take-le n classes lc in
+        let all : allGlobal (take n classes) ≡ eqb globals n = sym (count-all (take n classes)) ∙ ap₂ eqb (sym (d .globals-are)) len in
+        rw (class, type, all, len)
+
+    turn : answer (firstBroken (asks 3 met ∷ [])) p (checkAt (declared (declaredSeen classes types n) (recordAt b p)) b (p + 3)) ≡ checkOf b
+    unfolding next
+    turn =
+        let e = at-record b p h (declaredSeen classes types n) is-known within in
+        let q : p + suc (bodyLength (getD b p 0)) ≡ p + 3 = omega (arith, body) in
+        rw (← rule-3) (sym (rw (kind, q) at e) ∙ d .goes-on)
+
+    pub declaring-refused : met ≡ false → Refused 3 p ≡ checkOf b
+    unfolding firstBroken
+    declaring-refused t = rw t at turn
+
+    module _ (t : met ≡ true) where
+      few-more : n < 64
+      unfolding declarationOk
+      few-more =
+          ltb-true n 64
+          (and-r (leb (getD b (p + 1) 0) 2 && leb (getD b (p + 2) 0) 1 && (not (eqb (getD b (p + 1) 0) 0) || eqb globals n)) (ltb n 64) t)
+
+      global-test : (not (eqb (getD b (p + 1) 0) 0) || eqb globals n) ≡ true
+      unfolding declarationOk
+      global-test =
+          and-r (leb (getD b (p + 1) 0) 2 && leb (getD b (p + 2) 0) 1) (not (eqb (getD b (p + 1) 0) 0) || eqb globals n)
+          (and-l (leb (getD b (p + 1) 0) 2 && leb (getD b (p + 2) 0) 1 && (not (eqb (getD b (p + 1) 0) 0) || eqb globals n)) (ltb n 64) t)
+
+      hc : n < length classes
+      hc = omega (arith, few-more, d .long-classes)
+
+      ht : n < length types
+      ht = omega (arith, few-more, d .long-types)
+
+      classes-more : take (n + 1) (set classes n (getD b (p + 1) 0)) ≡ take n classes ++ (getD b (p + 1) 0 ∷ [])
+      classes-more = ap (λ (m : ℕ). take m (set classes n (getD b (p + 1) 0))) (add-one n) ∙ take-suc-set classes n (getD b (p + 1) 0) hc
+
+      widths-more : map widthOf (take (n + 1) (set types n (getD b (p + 2) 0))) ≡ map widthOf (take n types) ++ (widthOf (getD b (p + 2) 0) ∷ [])
+      widths-more =
+          ap (λ (m : ℕ). map widthOf (take m (set types n (getD b (p + 2) 0)))) (add-one n) ∙ ap (map widthOf) (take-suc-set types n (getD b (p + 2) 0) ht)
+          ∙ map-append widthOf (take n types) (getD b (p + 2) 0)
+
+      seen-more : declared (declaredSeen classes types n) (recordAt b p) ≡ declaredSeen (set classes n (getD b (p + 1) 0)) (set types n (getD b (p + 2) 0)) (n + 1)
+      seen-more = rw (classes-more, widths-more, class, type)
+
+      goes : checkAt (declaredSeen (set classes n (getD b (p + 1) 0)) (set types n (getD b (p + 2) 0)) (n + 1)) b (p + 3) ≡ checkOf b
+      unfolding firstBroken
+      goes = ap (λ (s : Seen). checkAt s b (p + 3)) (sym seen-more) ∙ (rw t at turn)
+
+      records-more : recordsOf b ≡ (d .before ++ (recordAt b p ∷ [])) ++ (cutOf (drop (p + 3) b)) .records
+      records-more =
+          let q : p + suc (bodyLength (getD b p 0)) ≡ p + 3 = omega (arith, body) in
+          let c : cutOf (drop p b) ≡ cons (recordAt b p) (cutOf (drop (p + 3) b)) =
+          cut-record b p h is-known within ∙ ap (λ (m : ℕ). cons (recordAt b p) (cutOf (drop m b))) q in
+          d .records-are ∙ ap (λ (x : Cut). d .before ++ x .records) c
+          ∙ sym (append-assoc (d .before) (recordAt b p ∷ []) ((cutOf (drop (p + 3) b)) .records))
+
+      more : (g : ℕ) → g ≡ globalCount (take n classes ++ (getD b (p + 1) 0 ∷ []))
+          → Declaring b (set classes n (getD b (p + 1) 0)) (set types n (getD b (p + 2) 0)) (p + 3) (n + 1) g
+      more g e =
+          record {
+            before = d .before ++ (recordAt b p ∷ []);
+            goes-on = goes;
+            records-are = records-more;
+            all-declared = all-append (λ r. isDeclaration r ≡ true) (d .before) (recordAt b p ∷ []) (d .all-declared) (kind, tt);
+            classes-are = classes-append (d .before) (recordAt b p) ∙ ap₂ (λ (x : List ℕ) (y : ℕ). x ++ (y ∷ [])) (d .classes-are) class ∙ sym classes-more;
+            widths-are = widths-append (d .before) (recordAt b p) ∙ ap₂ (λ (x : List ℕ) (y : ℕ). x ++ (widthOf y ∷ [])) (d .widths-are) type ∙ sym widths-more;
+            globals-are = e ∙ ap globalCount (sym classes-more);
+            place-is = omega (arith, d .place-is);
+            reached = omega (arith, within, body);
+            few = omega (arith, few-more);
+            long-classes = length-set classes n (getD b (p + 1) 0) ∙ d .long-classes;
+            long-types = length-set types n (getD b (p + 2) 0) ∙ d .long-types;
+          }
+
+      -- a global
+      pub declaring-global : getD b (p + 1) 0 ≡ 0
+          → Declaring b (set classes n (getD b (p + 1) 0)) (set types n (getD b (p + 2) 0)) (p + 3) (n + 1) (globals + 1)
+      declaring-global z =
+          let all : allGlobal (take n classes) ≡ true =
+          sym (count-all (take n classes)) ∙ ap₂ eqb (sym (d .globals-are)) (length-take-le n classes lc) ∙ (rw (eq-eqb (getD b (p + 1) 0) 0 z) at global-test) in
+          more (globals + 1)
+          (add-one globals ∙ ap suc (d .globals-are) ∙ sym (count-more (take n classes) all) ∙ ap (λ (c : ℕ). globalCount (take n classes ++ (c ∷ []))) (sym z))
+
+      -- a temporary
+      pub declaring-other : (getD b (p + 1) 0 ≡ 0 → ⊥)
+          → Declaring b (set classes n (getD b (p + 1) 0)) (set types n (getD b (p + 2) 0)) (p + 3) (n + 1) globals
+      declaring-other z = more globals (d .globals-are ∙ sym (count-other (take n classes) (getD b (p + 1) 0) (ne-eqb (getD b (p + 1) 0) 0 z)))
+
+pub last-false : (a b : Bool) → b ≡ false → false ≡ (a && b)
+last-false true b h = sym h
+last-false false b h = refl
+
+-- the answers of the scan
+module _ {b classes types : List ℕ} {p n globals : ℕ} (d : Declaring b classes types p n globals) where
+  pub short-by : p < length b → getD b p 0 ≡ 1 → length b - p < 3 → DeclaredBy b classes types 1 p n globals
+  short-by h k l = refuses {rule = 1} (λ e. omega arith) (declaring-short d h k l)
+
+  pub refused-by : {r : Bool} → p < length b → getD b p 0 ≡ 1 → 3 ≤ length b - p → r ≡ declarationOk (getD b (p + 1) 0) (getD b (p + 2) 0) globals n → r ≡ false
+      → DeclaredBy b classes types 3 p n globals
+  refused-by h k l e t = refuses {rule = 3} (λ q. omega arith) (declaring-refused d h k l (sym e ∙ t))
+
+  module _ {r : Bool} {g : ℕ} (h : p < length b) (k : getD b p 0 ≡ 1) (l : 3 ≤ length b - p) (e : r ≡ declarationOk (getD b (p + 1) 0) (getD b (p + 2) 0) globals n) (t : r ≡ true) where
+    pub again-global : getD b (p + 1) 0 ≡ 0 → g ≡ globals + 1 → Declaring b (set classes n (getD b (p + 1) 0)) (set types n (getD b (p + 2) 0)) (p + 3) (n + 1) g
+    again-global z q = rw q (declaring-global d h k l (sym e ∙ t) z)
+
+    pub again-other : (getD b (p + 1) 0 ≡ 0 → ⊥) → g ≡ globals → Declaring b (set classes n (getD b (p + 1) 0)) (set types n (getD b (p + 2) 0)) (p + 3) (n + 1) g
+    again-other z q = rw q (declaring-other d h k l (sym e ∙ t) z)
+
+  pub ended-by : length b ≤ p → DeclaredBy b classes types 0 p n globals
+  ended-by l = reads-on d (λ h. absurd (omega arith))
+
+  pub stopped-by : (getD b p 0 ≡ 1 → ⊥) → DeclaredBy b classes types 0 p n globals
+  stopped-by k = reads-on d (λ h. k)
+
+pub only : (a : Bool) → a ≡ (a && true)
+only true = refl
+only false = refl

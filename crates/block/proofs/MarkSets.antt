@@ -1,0 +1,78 @@
+-- The sets of variables and labels that arrays hold, and how stores change them. Assumes nothing.
+use mathlib.Core.Path.{_≡_, refl, sym, ap, _∙_, subst, fun-ext}
+use mathlib.Core.Bool.{Bool, true, false, cond, not, _&&_, _||_}
+use mathlib.Core.List.{List, [], _∷_}
+use mathlib.Core.Logic.{_⊎_, inl, inr}
+use Prim.Native.Nat.{ℕ, zero, suc, _-_, _≤_, _<_}
+use native.Mathlib.Omega.{arith}
+use lib.Dec.{eqb}
+use lib.ListN.{getD, set, replicate}
+use lib.Seq.{getD-set-same, getD-set-other}
+use borrow.Author.Tests.{eqb-true, eqb-false, ne-eqb}
+use Rattle.theory.specs.Machine.{upd}
+use Rattle.theory.specs.Sets.{empty, plus}
+use Rattle.theory.proofs.Sets.{tell}
+use Rattle.block.specs.Rules.{allSet}
+use Rattle.block.specs.Scan.{marked, numbered, SetAt}
+
+-- a place that is set to 1 joins the set
+module _ {xs ys : List ℕ} {d x : ℕ} (s : SetAt xs d x ys) where
+  pub at-place : (v : ℕ) → getD ys v 0 ≡ cond (eqb d v) x (getD xs v 0)
+  at-place v = ap (λ (l : List ℕ). getD l v 0) (s .becomes) ∙ go (tell (eqb d v))
+    where
+      go : (eqb d v ≡ true) ⊎ (eqb d v ≡ false) → getD (set xs d x) v 0 ≡ cond (eqb d v) x (getD xs v 0)
+      go (inl e) = rw e (subst (λ (n : ℕ). getD (set xs d x) n 0 ≡ x) (eqb-true d v e) (getD-set-same xs d x 0 (s .inside)))
+      go (inr e) = rw e (getD-set-other xs d v x 0 (λ q. eqb-false d v e (sym q)))
+
+pub marked-upd : {xs ys : List ℕ} {d : ℕ} → SetAt xs d 1 ys → marked ys ≡ upd (marked xs) d true
+marked-upd {xs} {ys} {d} s = fun-ext (λ v. ap (λ (n : ℕ). eqb n 1) (at-place s v) ∙ go (eqb d v) (getD xs v 0))
+  where
+    go : (b : Bool) (y : ℕ) → eqb (cond b 1 y) 1 ≡ cond b true (eqb y 1)
+    go true y = refl
+    go false y = refl
+
+pub marked-plus : {xs ys : List ℕ} {d : ℕ} → SetAt xs d 1 ys → marked ys ≡ plus (marked xs) (d ∷ [])
+marked-plus {xs} {ys} {d} s = marked-upd s ∙ fun-ext (λ v. go (eqb d v) (marked xs v))
+  where
+    go : (b m : Bool) → cond b true m ≡ ((b || false) || m)
+    go true m = refl
+    go false m = refl
+
+pub numbered-upd : {xs ys : List ℕ} {d x : ℕ} → SetAt xs d x ys → 0 < x → numbered ys ≡ upd (numbered xs) d true
+numbered-upd {xs} {ys} {d} {x} s h = fun-ext (λ v. ap (λ (m : ℕ). not (eqb m 0)) (at-place s v) ∙ go (eqb d v) (getD xs v 0))
+  where
+    go : (b : Bool) (y : ℕ) → not (eqb (cond b x y) 0) ≡ cond b true (not (eqb y 0))
+    go true y = rw (ne-eqb x 0 (λ q. omega arith))
+    go false y = refl
+
+-- nothing is marked among zeros
+zeros : (n v : ℕ) → getD {A = ℕ} (replicate n 0) v 0 ≡ 0
+zeros zero v = refl
+zeros (suc n) zero = refl
+zeros (suc n) (suc v) = zeros n v
+
+pub marked-none : {xs : List ℕ} (n : ℕ) → xs ≡ replicate n 0 → marked xs ≡ empty
+marked-none n e = ap marked e ∙ fun-ext (λ v. ap (λ (m : ℕ). eqb m 1) (zeros n v))
+
+pub numbered-none : {xs : List ℕ} (n : ℕ) → xs ≡ replicate n 0 → numbered xs ≡ empty
+numbered-none n e = ap numbered e ∙ fun-ext (λ v. ap (λ (m : ℕ). not (eqb m 0)) (zeros n v))
+
+-- rule 7 at the end: what is left to test below i decides the whole
+pub record SetBelow (targets labels : List ℕ) (n i : ℕ) : Type 0 where
+  pub left : allSet (marked targets) (numbered labels) i ≡ allSet (marked targets) (numbered labels) n
+
+pub set-start : (targets labels : List ℕ) (n : ℕ) → SetBelow targets labels n n
+set-start targets labels n = record { left = refl }
+
+module _ {targets labels : List ℕ} {n i : ℕ} (l : SetBelow targets labels n i) (h : 0 < i) where
+  turn : ((not (marked targets (i - 1)) || numbered labels (i - 1)) && allSet (marked targets) (numbered labels) (i - 1)) ≡ allSet (marked targets) (numbered labels) n
+  turn = let e : i ≡ suc (i - 1) = omega arith in rw e at (l .left)
+
+  pub set-next : (not (marked targets (i - 1)) || numbered labels (i - 1)) ≡ true → SetBelow targets labels n (i - 1)
+  set-next t = record { left = rw t at turn }
+
+  pub set-stops : (not (marked targets (i - 1)) || numbered labels (i - 1)) ≡ false → false ≡ allSet (marked targets) (numbered labels) n
+  set-stops t = rw t at turn
+
+pub set-ends : {targets labels : List ℕ} {n i : ℕ} → SetBelow targets labels n i → i ≤ 0 → true ≡ allSet (marked targets) (numbered labels) n
+set-ends {i = i} l h = let e : i ≡ 0 = omega arith in rw e at (l .left)

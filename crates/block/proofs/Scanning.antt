@@ -1,0 +1,295 @@
+-- One turn of the loop over the ops. Assumes nothing.
+use mathlib.Core.Path.{_≡_, refl, sym, ap, ap₂, _∙_}
+use mathlib.Core.Bool.{Bool, true, false, cond, not, _&&_, _||_}
+use mathlib.Core.List.{List, [], _∷_}
+use Prim.Native.Nat.{ℕ, suc, _+_, _-_, _%_, _≤_, _<_}
+use native.Mathlib.Omega.{arith}
+use lib.Dec.{eqb, ltb, leb}
+use lib.ListN.{length, getD, drop, set, replicate}
+use borrow.Author.Tests.{ltb-true, ltb-false, eqb-true, eqb-false, lt-ltb, le-ltb, eq-eqb, ne-eqb}
+use native.Mathlib.Nat.{zero-add}
+use native.Mathlib.Numerals.{add-one}
+use Rattle.theory.specs.Scope.{wrote}
+use Rattle.theory.specs.Sets.{empty}
+use Rattle.theory.proofs.Sets.{and-l}
+use Rattle.memory.specs.Access.{within}
+use Rattle.ops.specs.Kinds.{at, known, bodyLength}
+use Rattle.ops.specs.Ops.{kindOf, viewOf}
+use Rattle.block.specs.Checks.{asks, firstBroken, opRules, rulesOf, endRules, answer, checkOf}
+use Rattle.block.specs.Records.{Cut, cons, cutOf, isDeclaration, classOf, typeOf}
+use Rattle.block.specs.Rules.{Seen, start, allGlobal, rule3, rule4, rule5, rule6, nextLabels, nextTargets, rule7, rule8, rule9, rule10, allSet}
+use Rattle.block.specs.Rules.{rule7end, passed, next}
+use Rattle.block.specs.Scan.{Stands, recordsAt, ScannedBy, refuses-op, accepts-ops, OpAt, Marks, Begins, RecordAt}
+use Rattle.block.proofs.Accepts.{allMet, none-broken, numbered-rules}
+use Rattle.block.proofs.Cut.{whole}
+use Rattle.block.proofs.Fields.{kind-at}
+use Rattle.block.proofs.MarkSets.{marked-none, numbered-none}
+use Rattle.block.proofs.Steps.{cut-record, record-length, at-unknown, at-short, at-record, cut-end, at-end}
+use Rattle.block.proofs.Views.{inside}
+use Rattle.block.specs.Scan.{recordAt, checkAt, marked, numbered, seenOf, labelledBy, declaredSeen, Declaring, recordRule, placesFrom, labelsFrom}
+use Rattle.block.specs.declared.Verdict.the-variants.{Accepted, Refused}
+
+-- a place's answer by the rule that its record breaks
+at-place : (s : Seen) (b : List ℕ) (p : ℕ) → p < length b
+    → checkAt s b p ≡ answer (recordRule s b p) p (checkAt (next s (recordAt b p)) b (p + suc (bodyLength (getD b p 0))))
+unfolding recordRule
+at-place s b p h = go (known (getD b p 0)) refl (ltb (length b) (p + suc (bodyLength (getD b p 0)))) refl
+  where
+    k : ℕ
+    k = getD b p 0
+
+    go : (t : Bool) → known k ≡ t → (u : Bool) → ltb (length b) (p + suc (bodyLength k)) ≡ u
+        → checkAt s b p ≡ answer (cond t (cond u 1 (firstBroken (rulesOf s (recordAt b p)))) 2) p (checkAt (next s (recordAt b p)) b (p + suc (bodyLength k)))
+    go false e u f = at-unknown b p h s e
+    go true e true f = at-short b p h s e (ltb-true (length b) (p + suc (bodyLength k)) f)
+    go true e false f = at-record b p h s e (ltb-false (length b) (p + suc (bodyLength k)) f)
+
+rule-whole : (s : Seen) (b : List ℕ) (p : ℕ) → recordRule s b p ≡ 0 → (known (getD b p 0) ≡ true) × (p + suc (bodyLength (getD b p 0)) ≤ length b)
+unfolding recordRule
+rule-whole s b p = go (known (getD b p 0)) refl (ltb (length b) (p + suc (bodyLength (getD b p 0)))) refl
+  where
+    k : ℕ
+    k = getD b p 0
+
+    go : (t : Bool) → known k ≡ t → (u : Bool) → ltb (length b) (p + suc (bodyLength k)) ≡ u
+        → cond t (cond u 1 (firstBroken (rulesOf s (recordAt b p)))) 2 ≡ 0 → (known k ≡ true) × (p + suc (bodyLength k) ≤ length b)
+    go false e u f q = absurd (omega arith)
+    go true e true f q = absurd (omega arith)
+    go true e false f q = (e, ltb-false (length b) (p + suc (bodyLength k)) f)
+
+-- what a record that breaks no rule after ops is: an op, and not one too many
+sound-rule : (s : Seen) (b : List ℕ) (p : ℕ) → recordRule s b p ≡ 0 → allMet (rulesOf s (recordAt b p)) ≡ true
+unfolding recordRule
+sound-rule s b p = go (known (getD b p 0)) (ltb (length b) (p + suc (bodyLength (getD b p 0))))
+  where
+    go : (t u : Bool) → cond t (cond u 1 (firstBroken (rulesOf s (recordAt b p)))) 2 ≡ 0 → allMet (rulesOf s (recordAt b p)) ≡ true
+    go false u q = absurd (omega arith)
+    go true true q = absurd (omega arith)
+    go true false q = sym (none-broken (rulesOf s (recordAt b p)) (numbered-rules s (recordAt b p))) ∙ eq-eqb (firstBroken (rulesOf s (recordAt b p))) 0 q
+
+late-rule : (s : Seen) (r : List ℕ) → rule3 s r ≡ true → s .ops ≡ 0
+unfolding rule3
+late-rule s r h =
+    eqb-true (s .ops) 0
+    (and-l (eqb (s .ops) 0) (leb (classOf r) 2)
+    (and-l (eqb (s .ops) 0 && leb (classOf r) 2) (leb (typeOf r) 1)
+    (and-l (eqb (s .ops) 0 && leb (classOf r) 2 && leb (typeOf r) 1) (not (eqb (classOf r) 0) || allGlobal (s .classes))
+    (and-l (eqb (s .ops) 0 && leb (classOf r) 2 && leb (typeOf r) 1 && (not (eqb (classOf r) 0) || allGlobal (s .classes))) (ltb (length (s .classes)) 64) h))))
+
+few-rule : (s : Seen) (r : List ℕ) → rule9 s r ≡ true → s .ops < 256
+unfolding rule9
+few-rule s r h = ltb-true (s .ops) 256 h
+
+pub op-here : (s : Seen) (b : List ℕ) (p : ℕ) → recordRule s b p ≡ 0 → (getD b p 0 ≡ 1 → s .ops ≡ 0 → ⊥) → (getD b p 0 ≡ 1 → ⊥) × (s .ops < 256)
+op-here s b p z d = go (isDeclaration (recordAt b p)) refl (sound-rule s b p z)
+  where
+    w : p + suc (bodyLength (getD b p 0)) ≤ length b
+    w = (rule-whole s b p z) .1
+
+    go : (t : Bool) → isDeclaration (recordAt b p) ≡ t → allMet (cond t (asks 3 (rule3 s (recordAt b p)) ∷ []) (opRules s (recordAt b p))) ≡ true → (getD b p 0 ≡ 1 → ⊥) × (s .ops < 256)
+    go true e m =
+        let k : getD b p 0 ≡ 1 = sym (kind-at b p w) ∙ eqb-true (kindOf (recordAt b p)) 0x01 e in
+        absurd (d k (late-rule s (recordAt b p) (and-l (rule3 s (recordAt b p)) true m)))
+    go false e m = (λ k. eqb-false (kindOf (recordAt b p)) 0x01 e (kind-at b p w ∙ k), few-rule s (recordAt b p) (and-l (rule9 s (recordAt b p)) _ m))
+
+-- the answers, test by test
+module _ {b classes types : List ℕ} {p n ops : ℕ} (o : RecordAt b classes types p n ops) (written labels : List ℕ) where
+  pub rule-2 : {k : Bool} → k ≡ known (getD b p 0) → k ≡ false → 2 ≡ recordRule (seenOf classes types written labels [] n ops 0) b p
+  unfolding recordRule
+  rule-2 e t = rw (sym e ∙ t)
+
+  module _ {k : Bool} {m : ℕ} (e : k ≡ known (getD b p 0)) (t : k ≡ true) (l : m ≡ bodyLength (getD b p 0)) where
+    pub rule-1 : length b - p ≤ m → 1 ≡ recordRule (seenOf classes types written labels [] n ops 0) b p
+    unfolding recordRule
+    rule-1 h = rw (sym e ∙ t, lt-ltb (length b) (p + suc (bodyLength (getD b p 0))) (omega (arith, o .inside)))
+
+    module _ (h : m < length b - p) where
+      w : p + suc (bodyLength (getD b p 0)) ≤ length b
+      w = omega (arith, o .inside, l, h)
+
+      rule-3s : getD b p 0 ≡ 1 → rule3 (seenOf classes types written labels [] n ops 0) (recordAt b p) ≡ false
+      unfolding rule3
+      rule-3s d = rw (ne-eqb ops 0 (o .late d))
+
+      pub rule-3 : getD b p 0 ≡ 1 → 3 ≡ recordRule (seenOf classes types written labels [] n ops 0) b p
+      unfolding recordRule firstBroken
+      rule-3 d = rw (sym e ∙ t, le-ltb (length b) (p + suc (bodyLength (getD b p 0))) w, eq-eqb (kindOf (recordAt b p)) 0x01 (kind-at b p w ∙ d), rule-3s d)
+
+      module _ (d : getD b p 0 ≡ 1 → ⊥) where
+        pub op-at : OpAt b classes types p n
+        op-at = record { within = w; is-known = sym e ∙ t; is-op = d; few-classes = omega (arith, o .few, o .long-classes); few-types = omega (arith, o .few, o .long-types) }
+
+        pub rule-op : {r : ℕ} → r ≡ firstBroken (opRules (seenOf classes types written labels [] n ops 0) (recordAt b p))
+            → r ≡ recordRule (seenOf classes types written labels [] n ops 0) b p
+        unfolding recordRule
+        rule-op q =
+            q ∙ rw (sym e ∙ t, le-ltb (length b) (p + suc (bodyLength (getD b p 0))) w, ne-eqb (kindOf (recordAt b p)) 0x01 (λ z. d (sym (kind-at b p w) ∙ z)))
+
+-- the labels jumped to and the last kind have no part in it
+pub same-rule : (b classes types written labels targets : List ℕ) (p n ops last : ℕ)
+    → recordRule (seenOf classes types written labels [] n ops 0) b p ≡ recordRule (seenOf classes types written labels targets n ops last) b p
+unfolding recordRule rule3 rule4 rule5 rule6 rule7 rule8 rule9
+same-rule b classes types written labels targets p n ops last = refl
+
+-- ops have been read up to a place, and the check goes on from there
+pub record Scanning (b : List ℕ) (start : ℕ) (places₀ classes types written labels targets places : List ℕ) (n p ops last : ℕ) : Type 0 where
+  pub goes-on : checkAt (seenOf classes types written labels targets n ops last) b p ≡ checkOf b
+  pub count : length (recordsAt b start) ≡ ops + length (recordsAt b p)
+  pub places-are : placesFrom start 0 places₀ (recordsAt b start) ≡ placesFrom p ops places (recordsAt b p)
+  pub labels-are : labelsFrom 0 (replicate 256 0) (recordsAt b start) ≡ labelsFrom ops labels (recordsAt b p)
+  pub first-op : ops ≡ 0 → p < length b → getD b p 0 ≡ 1 → ⊥
+  pub few : ops ≤ 256
+
+module _ {b : List ℕ} {start : ℕ} {places₀ classes types written labels targets places : List ℕ} {n p ops last : ℕ}
+    (s : Scanning b start places₀ classes types written labels targets places n p ops last) where
+  abbrev seenHere : Seen
+  seenHere = seenOf classes types written labels targets n ops last
+
+  pub scanning-refused : {rule : ℕ} → p < length b → rule ≡ recordRule seenHere b p → (rule ≡ 0 → ⊥) → ScannedBy b start places₀ places labels rule p ops
+  scanning-refused {rule} h e z =
+      refuses-op z
+      (sym (ne-answer (recordRule seenHere b p) (λ q. z (e ∙ q)) ∙ ap (λ (m : ℕ). Refused m p) (sym e)) ∙ sym (at-place seenHere b p h) ∙ s .goes-on)
+    where
+      ne-answer : (m : ℕ) → (m ≡ 0 → ⊥) → answer m p (checkAt (next seenHere (recordAt b p)) b (p + suc (bodyLength (getD b p 0)))) ≡ Refused m p
+      ne-answer m q = rw (ne-eqb m 0 q)
+
+  module _ {rule : ℕ} (h : p < length b) (e : rule ≡ recordRule seenHere b p) (z : rule ≡ 0) (l : ops < 256) (o : getD b p 0 ≡ 1 → ⊥) where
+    zero-rule : recordRule seenHere b p ≡ 0
+    zero-rule = sym e ∙ z
+
+    whole-here : (known (getD b p 0) ≡ true) × (p + suc (bodyLength (getD b p 0)) ≤ length b)
+    whole-here = rule-whole seenHere b p zero-rule
+
+    cut-here : cutOf (drop p b) ≡ cons (recordAt b p) (cutOf (drop (p + suc (bodyLength (getD b p 0))) b))
+    cut-here = cut-record b p h (whole-here .0) (whole-here .1)
+
+    long-here : length (recordAt b p) ≡ suc (bodyLength (getD b p 0))
+    long-here = record-length b p h (whole-here .1)
+
+    kind-here : isDeclaration (recordAt b p) ≡ false
+    kind-here = ne-eqb (kindOf (recordAt b p)) 0x01 (λ q. o (sym (kind-at b p (whole-here .1)) ∙ q))
+
+    seen-next : next seenHere (recordAt b p) ≡ passed seenHere (recordAt b p)
+    unfolding next
+    seen-next = rw kind-here
+
+    module _ (written′ labels′ targets′ : List ℕ) (w : marked written′ ≡ wrote (marked written) (viewOf (recordAt b p)))
+        (ls : (numbered labels′ ≡ nextLabels (numbered labels) (viewOf (recordAt b p))) × (labels′ ≡ labelledBy (viewOf (recordAt b p)) ops labels))
+        (ts : marked targets′ ≡ nextTargets (marked targets) (viewOf (recordAt b p))) where
+      seen-is : passed seenHere (recordAt b p) ≡ seenOf classes types written′ labels′ targets′ n (ops + 1) (getD b p 0)
+      seen-is = rw (w, ls .0, ts, kind-at b p (whole-here .1), add-one ops)
+
+      pub scanning-next : Scanning b start places₀ classes types written′ labels′ targets′ (set places ops (p % 65536)) n (p + (1 + bodyLength (getD b p 0))) (ops + 1) (getD b p 0)
+      unfolding placesFrom labelsFrom
+      scanning-next =
+          let q : p + (1 + bodyLength (getD b p 0)) ≡ p + suc (bodyLength (getD b p 0)) = omega arith in
+          let k : p + length (recordAt b p) ≡ p + suc (bodyLength (getD b p 0)) = omega (arith, long-here) in
+          rw q
+          (record {
+            goes-on =
+                ap (λ (t : Seen). checkAt t b (p + suc (bodyLength (getD b p 0)))) (sym (seen-next ∙ seen-is))
+                ∙ sym (ap (λ (m : ℕ). answer m p (checkAt (next seenHere (recordAt b p)) b (p + suc (bodyLength (getD b p 0))))) zero-rule)
+                ∙ sym (at-place seenHere b p h) ∙ s .goes-on;
+            count = s .count ∙ ap (λ (c : Cut). ops + length (c .records)) cut-here ∙ more ops (length (recordsAt b (p + suc (bodyLength (getD b p 0)))));
+            places-are =
+                s .places-are ∙ ap (λ (c : Cut). placesFrom p ops places (c .records)) cut-here
+                ∙ ap₂ (λ (x y : ℕ). placesFrom x y (set places ops (p % 65536)) (recordsAt b (p + suc (bodyLength (getD b p 0))))) k (sym (add-one ops));
+            labels-are =
+                s .labels-are ∙ ap (λ (c : Cut). labelsFrom ops labels (c .records)) cut-here
+                ∙ ap₂ (λ (x : ℕ) (y : List ℕ). labelsFrom x y (recordsAt b (p + suc (bodyLength (getD b p 0))))) (sym (add-one ops)) (sym (ls .1));
+            first-op = λ x. absurd (omega arith);
+            few = omega arith;
+          })
+        where
+          more : (a m : ℕ) → a + suc m ≡ a + 1 + m
+          more a m = omega arith
+
+  -- the end
+  module _ (h : length b ≤ p) where
+    end-answer : answer (firstBroken (endRules seenHere)) p Accepted ≡ checkOf b
+    end-answer = sym (at-end seenHere b p h) ∙ s .goes-on
+
+    pub scanning-10 : (last ≡ 4 → ⊥) → ScannedBy b start places₀ places labels 10 p ops
+    unfolding firstBroken rule10
+    scanning-10 q = refuses-op {rule = 10} (λ e. omega arith) (rw (ne-eqb last 0x04 q) at end-answer)
+
+    module _ {r : Bool} (q : last ≡ 4) (e : r ≡ allSet (marked targets) (numbered labels) 32) where
+      pub scanning-7 : r ≡ false → ScannedBy b start places₀ places labels 7 p ops
+      unfolding firstBroken rule10 rule7end
+      scanning-7 t = refuses-op {rule = 7} (λ z. omega arith) (rw (eq-eqb last 0x04 q, sym e ∙ t) at end-answer)
+
+      pub scanning-0 : r ≡ true → ScannedBy b start places₀ places labels 0 p ops
+      unfolding firstBroken rule10 rule7end placesFrom labelsFrom
+      scanning-0 t =
+          let rest : recordsAt b p ≡ [] = ap (λ (c : Cut). c .records) (cut-end b p h) in
+          accepts-ops {place = p} {ops = ops} (sym (rw (eq-eqb last 0x04 q, sym e ∙ t) at end-answer))
+          (omega (arith, s .count, ap length rest))
+          (sym (s .places-are ∙ ap (placesFrom p ops places) rest))
+          (sym (s .labels-are ∙ ap (labelsFrom ops labels) rest))
+
+-- the start, after the declarations
+pub scanning-start : {b classes types : List ℕ} {p n globals : ℕ} (places₀ : List ℕ) → Declaring b classes types p n globals → (p < length b → getD b p 0 ≡ 1 → ⊥)
+    → marked (replicate 256 0) ≡ empty → numbered (replicate 256 0) ≡ empty
+    → Scanning b p places₀ classes types (replicate 256 0) (replicate 256 0) (replicate 256 0) places₀ n p 0 0
+scanning-start {b} {classes} {types} {p} {n} places₀ d k m u =
+    record {
+      goes-on = ap (λ (s : Seen). checkAt s b p) same ∙ d .goes-on;
+      count = sym (zero-add (length (recordsAt b p)));
+      places-are = refl;
+      labels-are = refl;
+      first-op = λ e. k;
+      few = omega arith;
+    }
+  where
+    same : seenOf classes types (replicate 256 0) (replicate 256 0) (replicate 256 0) n 0 0 ≡ declaredSeen classes types n
+    same = rw (m, u)
+
+-- the loop's turns, in the code's terms
+module _ {b : List ℕ} {start : ℕ} {places₀ classes types written labels targets places : List ℕ} {n p ops last rule : ℕ}
+    (s : Scanning b start places₀ classes types written labels targets places n p ops last) (h : p < length b)
+    (e : rule ≡ recordRule (seenOf classes types written labels [] n ops 0) b p) where
+  e′ : rule ≡ recordRule (seenOf classes types written labels targets n ops last) b p
+  e′ = e ∙ same-rule b classes types written labels targets p n ops last
+
+  pub refused-at : (rule ≡ 0 → ⊥) → ScannedBy b start places₀ places labels rule p ops
+  refused-at z = scanning-refused s h e′ z
+
+  module _ (z : rule ≡ 0) where
+    op : (getD b p 0 ≡ 1 → ⊥) × (ops < 256)
+    op = op-here (seenOf classes types written labels targets n ops last) b p (sym e′ ∙ z) (λ k q. s .first-op q h k)
+
+    wholly : (known (getD b p 0) ≡ true) × (p + suc (bodyLength (getD b p 0)) ≤ length b)
+    wholly = rule-whole (seenOf classes types written labels targets n ops last) b p (sym e′ ∙ z)
+
+    pub few-ops-here : ops < 256
+    few-ops-here = op .1
+
+    pub whole-op : p + suc (bodyLength (getD b p 0)) ≤ length b
+    whole-op = wholly .1
+
+    pub marks-asked : Stands b p (getD b p 0) × (ops < 1024)
+    marks-asked = (record { its-kind = refl; whole = wholly .1 }, omega (arith, op .1))
+
+    pub again-at : {m : ℕ} → m ≡ bodyLength (getD b p 0) → (written′ labels′ targets′ : List ℕ) → Marks (recordAt b p) ops written written′ labels labels′ targets targets′
+        → Scanning b start places₀ classes types written′ labels′ targets′ (set places ops (p % 65536)) n (p + (1 + m)) (ops + 1) (getD b p 0)
+    again-at q written′ labels′ targets′ k =
+        rw q
+        (scanning-next s h e′ z (op .1) (op .0) written′ labels′ targets′ (k .writes-so) (k .labels-so, k .numbers-so) (k .targets-so))
+
+pub record-asked : {b : List ℕ} {start : ℕ} {places₀ classes types written labels targets places : List ℕ} {n p ops last : ℕ}
+    → Begins b classes types start n → Scanning b start places₀ classes types written labels targets places n p ops last → p < length b → RecordAt b classes types p n ops
+record-asked g s h =
+    record {
+      inside = h;
+      late = λ k q. s .first-op q h k;
+      few = g .after .few;
+      long-classes = g .after .long-classes;
+      long-types = g .after .long-types;
+    }
+
+pub begins-start : {b classes types : List ℕ} {p n : ℕ} (places₀ : List ℕ) → Begins b classes types p n
+    → Scanning b p places₀ classes types (replicate 256 0) (replicate 256 0) (replicate 256 0) places₀ n p 0 0
+begins-start places₀ g = scanning-start places₀ (g .after) (g .no-more) (marked-none 256 refl) (numbered-none 256 refl)
+
+pub begins-inside : {b classes types : List ℕ} {p n : ℕ} → Begins b classes types p n → p ≤ length b
+begins-inside g = g .after .reached
