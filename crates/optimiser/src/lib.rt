@@ -1,3 +1,6 @@
+// The pass: fold, prune and the result in the lent buffer.
+mod emit;
+
 // The pass's answer: the length of the result.
 pub enum Written {
     Refused { number: u8, place: usize },

@@ -1,0 +1,51 @@
+-- The kept ops, stored one after the other. Assumes nothing.
+use Prim.Native.Nat.{_-_, _≤_}
+use native.Mathlib.Omega.{arith}
+use Rattle.block.specs.Records.{recordsOf, opsFrom}
+use Rattle.optimiser.proofs.Bytes.{Storing, storing-start, emittable-op, storing-step, storing-ends}
+use Rattle.optimiser.proofs.emit.emit_ops.Statement.{statement}
+use Rattle.optimiser.proofs.emit.emit_ops.Tie as tie
+
+abbrev Inv-loop : tie.InvT-loop
+Inv-loop block ops places folded values keep out₀ to i₀ p₀ out i p = (i ≤ ops) × Storing block folded values keep out₀ out (opsFrom (recordsOf block)) to i p
+
+abbrev μ-loop : tie.MeasureT-loop
+μ-loop block ops places folded values keep out₀ to i₀ p₀ out i p = ops - i
+
+loop-holds : tie.Need-loop-holds Inv-loop μ-loop
+loop-holds c = (omega arith, storing-start)
+
+emit-at-requires : tie.Need-emit-at-requires Inv-loop μ-loop
+emit-at-requires c κs =
+    (omega (arith, c .before .before .before .before .before .pre .0 .here .few, c .before .loop-test .taken), λ k. emittable-op (c .before .before .before .before .before .pre .0) (c .before .before .loop .inv .1) (c .before .loop-test .taken) k (c .before .before .before .before .before .pre .1))
+
+add-i : tie.Need-add-i Inv-loop μ-loop
+add-i c =
+    omega (arith, c .before .before .before .before .before .before .before .before .pre .0 .here .few, c .before .before .before .before .loop-test .taken)
+
+loop-less : tie.Need-loop-less Inv-loop μ-loop
+loop-less c = omega (arith, c .before .before .before .before .loop-test .taken)
+
+loop-again : tie.Need-loop-again Inv-loop μ-loop
+loop-again c =
+    (omega (arith, c .before .before .before .before .loop-test .taken), storing-step (c .before .before .before .before .before .before .before .before .pre .0) (c .before .before .before .before .before .loop .inv .1) (c .before .before .before .before .loop-test .taken) (c .before .before .emit-at .ensures))
+
+same-length : tie.Need-same-length Inv-loop μ-loop
+same-length c = c .before .loop .inv .1 .same-long
+
+returns : tie.Need-returns Inv-loop μ-loop
+returns c = storing-ends (c .before .before .before .before .pre .0) (c .before .loop .inv .1) (omega (arith, c .loop-test .left))
+
+pub emit-ops-spec : {M : Type 1} → statement M
+emit-ops-spec =
+    tie.close
+    (tie.spec
+    Inv-loop
+    μ-loop
+    loop-holds
+    emit-at-requires
+    add-i
+    loop-less
+    loop-again
+    same-length
+    returns)
