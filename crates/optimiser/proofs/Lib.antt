@@ -4,3 +4,6 @@ pub mod Demand
 pub mod Stores
 pub mod Emitting
 pub mod Bytes
+pub mod Liveness
+pub mod Before
+pub mod Pruning

@@ -1,3 +1,4 @@
 pub mod Passes
 pub mod Demand
 pub mod Choose
+pub mod Live

@@ -1,0 +1,20 @@
+-- The globals and the operand. Assumes nothing.
+use native.Mathlib.Omega.{arith}
+use lib.ListN.{take}
+use Rattle.block.proofs.MarkSets.{marked-plus}
+use Rattle.optimiser.proofs.Liveness.{exits-set}
+use Rattle.optimiser.proofs.prune.exit_before.Statement.{statement}
+use Rattle.optimiser.proofs.prune.exit_before.Tie as tie
+
+live-at-end-requires : tie.Need-live-at-end-requires
+live-at-end-requires c κs = (c .before .pre, omega arith)
+
+put-requires : tie.Need-put-requires
+put-requires c κs = tt
+
+returns : tie.Need-returns
+returns c =
+    exits-set (c .before .before .before .before .args .x) (take (c .before .before .before .before .args .n) (c .before .before .before .before .args .classes .now)) (marked-plus (c .put .ensures)) (c .before .before .live-at-end .ensures)
+
+pub exit-before-spec : {M : Type 1} → statement M
+exit-before-spec = tie.close (tie.spec live-at-end-requires put-requires returns)

@@ -1,0 +1,18 @@
+-- All places become 0, and then the classes mark. Assumes nothing.
+use lib.ListN.{take}
+use Rattle.optimiser.specs.Live.{belowIn}
+use Rattle.optimiser.proofs.Liveness.{ends-set}
+use Rattle.optimiser.proofs.prune.live_at_end.Statement.{statement}
+use Rattle.optimiser.proofs.prune.live_at_end.Tie as tie
+
+clear-requires : tie.Need-clear-requires
+clear-requires c κs = tt
+
+mark-classes-requires : tie.Need-mark-classes-requires
+mark-classes-requires c κs = c .before .before .before .pre
+
+returns : tie.Need-returns
+returns c = ends-set (belowIn (take (c .before .before .before .before .args .n) (c .before .before .before .before .args .classes .now)) (c .before .before .before .before .args .limit)) (c .before .before .clear .ensures) (c .mark-classes .ensures)
+
+pub live-at-end-spec : {M : Type 1} → statement M
+live-at-end-spec = tie.close (tie.spec clear-requires mark-classes-requires returns)

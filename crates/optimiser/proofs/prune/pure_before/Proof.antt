@@ -1,0 +1,36 @@
+-- Less the output, then the inputs. Assumes nothing.
+use Prim.Native.Nat.{_+_}
+use native.Mathlib.Omega.{arith}
+use Rattle.ops.specs.Ops.{bytesAt}
+use Rattle.optimiser.proofs.Liveness.{marked-without, then-inputs}
+use Rattle.optimiser.proofs.prune.pure_before.Statement.{statement}
+use Rattle.optimiser.proofs.prune.pure_before.Tie as tie
+
+add-put : tie.Need-add-put
+add-put c = omega (arith, c .before .before .pre, c .before .before .good .0 .0)
+
+shared-slice-read-put : tie.Need-shared-slice-read-put
+shared-slice-read-put c = omega (arith, c .before .before .before .pre)
+
+put-requires : tie.Need-put-requires
+put-requires c κs = tt
+
+add-mark-inputs : tie.Need-add-mark-inputs
+add-mark-inputs c = omega (arith, c .before .before .before .before .pre, c .before .before .before .before .good .0 .0)
+
+mark-inputs-requires : tie.Need-mark-inputs-requires
+mark-inputs-requires c κs = omega (arith, c .before .before .before .before .before .pre)
+
+returns : tie.Need-returns
+returns c = then-inputs (bytesAt (c .before .before .before .before .before .before .args .block .now) (c .before .before .before .before .before .before .args .at + 2) (c .before .before .before .before .before .before .args .inputs)) (c .mark-inputs .ensures) (marked-without (c .before .before .put .ensures))
+
+pub pure-before-spec : {M : Type 1} → statement M
+pure-before-spec =
+    tie.close
+    (tie.spec
+    add-put
+    shared-slice-read-put
+    put-requires
+    add-mark-inputs
+    mark-inputs-requires
+    returns)
