@@ -9,3 +9,4 @@ pub mod RoleRows
 pub mod Declares
 pub mod Families
 pub mod Folded
+pub mod Inputs

@@ -1,3 +1,6 @@
+// The reference runner.
+pub mod evaluate;
+
 // The run's answer. Each ending gives the number of ops run.
 pub enum Ending {
     Refused {
