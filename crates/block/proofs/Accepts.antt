@@ -10,6 +10,7 @@ use borrow.Author.Tests.{eqb-true, ne-eqb}
 use Rattle.theory.specs.Machine.{All}
 use Rattle.theory.proofs.Sets.{and-l, and-r, and-i}
 use Rattle.block.specs.Checks.{Finding, asks, firstBroken, opRules, rulesOf, endRules, answer, checkFrom, checkOf}
+use Rattle.block.specs.Meaning.{seen}
 use Rattle.block.specs.Records.{cutOf, recordsOf, concat, isDeclaration}
 use Rattle.block.specs.Rules.{Seen, start, rule3, next}
 use Rattle.block.proofs.Cut.{AllWhole, cut-whole, cut-concat}
@@ -52,11 +53,11 @@ numbered-end : (s : Seen) → Numbered (endRules s)
 numbered-end s = (omega arith, (omega arith, tt))
 
 answer-accepted : (number place : ℕ) (go : Verdict) → answer number place go ≡ Accepted → (eqb number 0 ≡ true) × (go ≡ Accepted)
-answer-accepted number place go h = by (eqb number 0) h
+answer-accepted number place go h = by (eqb number 0) _ h
   where
-    by : (b : Bool) → cond b go (Refused number place) ≡ Accepted → (b ≡ true) × (go ≡ Accepted)
-    by true e = (refl, e)
-    by false e = (cc, cc)
+    by : (b : Bool) (p : ℕ) → cond b go (Refused number p) ≡ Accepted → (b ≡ true) × (go ≡ Accepted)
+    by true p e = (refl, e)
+    by false p e = (cc, cc)
 
 pub check-accepts : (s : Seen) (place : ℕ) (rs : List (List ℕ)) (tail : ℕ) → checkFrom s place rs tail ≡ Accepted → (tail ≡ 0) × (accepts s rs ≡ true)
 unfolding checkFrom
@@ -87,14 +88,10 @@ pub records-accepted : (rs : List (List ℕ)) → AllWhole rs → accepts start 
 unfolding checkOf
 records-accepted rs w h = rw (cut-concat rs w) (accepts-check start 0 rs h)
 
--- records read one after the other: those before, and what is seen after them
+-- records read one after the other each meet their rules
 abbrev pub meet : Seen → List (List ℕ) → Bool
 meet s [] = true
 meet s (r ∷ rs) = allMet (rulesOf s r) && meet (next s r) rs
-
-abbrev pub seen : Seen → List (List ℕ) → Seen
-seen s [] = s
-seen s (r ∷ rs) = seen (next s r) rs
 
 pub accepts-append : (s : Seen) (xs ys : List (List ℕ)) → accepts s (xs ++ ys) ≡ (meet s xs && accepts (seen s xs) ys)
 accepts-append s [] ys = refl

@@ -14,9 +14,10 @@ use Rattle.theory.proofs.Simulation.{more}
 use Rattle.ops.specs.Kinds.{at}
 use Rattle.ops.specs.Ops.{viewOf, tcg}
 use Rattle.block.specs.Checks.{asks, opRules, rulesOf, endRules}
+use Rattle.block.specs.Meaning.{seen}
 use Rattle.block.specs.Records.{isDeclaration, classOf, typeOf, widthOf, classesOf, widthsOf}
 use Rattle.block.specs.Rules.{allGlobal}
-use Rattle.block.proofs.Accepts.{allMet, accepts, meet, seen}
+use Rattle.block.proofs.Accepts.{allMet, accepts, meet}
 use Rattle.block.proofs.Cut.{whole, AllWhole, AllDeclared, headOp}
 use Rattle.block.specs.Rules.{Seen, keptIn, rule3, rule4, rule5, rule6, rule7, rule8, rule9, declared, passed, next}
 

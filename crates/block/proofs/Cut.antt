@@ -57,7 +57,7 @@ unfolding cutBy
 cut-none zero = refl
 cut-none (suc n) = refl
 
-no-record : whole [] ≡ false
+pub no-record : whole [] ≡ false
 unfolding rowOf
 no-record = refl
 

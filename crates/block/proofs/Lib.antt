@@ -15,3 +15,4 @@ pub mod MarkSets
 pub mod Rests
 pub mod OtherRoles
 pub mod Scanned
+pub mod Meaning

@@ -9,9 +9,10 @@ use Rattle.theory.specs.Sets.{empty}
 use Rattle.theory.proofs.Sets.{and-l, and-r, and-i}
 use Rattle.ops.specs.Ops.{tcg}
 use Rattle.block.specs.Checks.{checkOf}
+use Rattle.block.specs.Meaning.{seen}
 use Rattle.block.specs.Records.{Cut, recordsOf, concat, declarations, opsFrom, classesOf}
 use Rattle.block.specs.Rules.{Seen, start, keptIn}
-use Rattle.block.proofs.Accepts.{accepts, accepted-records, records-accepted, meet, seen, accepts-append}
+use Rattle.block.proofs.Accepts.{accepts, accepted-records, records-accepted, meet, accepts-append}
 use Rattle.block.proofs.Cut.{all-left, all-right}
 use Rattle.block.proofs.Checker.{checker, inScope, accepts-ops, ops-accepts, declaredIn, seen-declared}
 use Rattle.block.proofs.Cut.{whole, AllWhole, cut-concat, split-records, AllDeclared, declared-all, headOp, ops-head, split-again, all-append}

@@ -33,7 +33,7 @@ same-bounds (suc n) (suc m) (k ∷ bytes) l h =
     rw (same-bounds n m (drop (bodyLength k) bytes) (omega (arith, length-drop (bodyLength k) bytes)) (omega (arith, length-drop (bodyLength k) bytes)))
 
 -- the first record of bytes that start with a kind
-cut-first : (k : ℕ) (bytes : List ℕ) → cutOf (k ∷ bytes)
+pub cut-first : (k : ℕ) (bytes : List ℕ) → cutOf (k ∷ bytes)
     ≡ cond (known k) (cond (ltb (length bytes) (bodyLength k)) (stray 1) (cons (k ∷ take (bodyLength k) bytes) (cutOf (drop (bodyLength k) bytes)))) (stray 2)
 unfolding cutOf cutBy
 cut-first k bytes =
