@@ -136,7 +136,7 @@ one-out : (o : List ℕ) → foldableRow (rowAt o) ≡ true → isCalc (viewOf o
 unfolding viewOf
 one-out o t c = one-out-by (rowAt o) o t ((rowAt o) .does) c
 
-const-view : (o outs ins : List ℕ) (f : List ℕ → Option (List ℕ)) (xs vs : List ℕ) → foldableRow (rowAt o) ≡ true → viewOf o ≡ calc outs ins f → f xs ≡ some vs
+pub const-view : (o outs ins : List ℕ) (f : List ℕ → Option (List ℕ)) (xs vs : List ℕ) → foldableRow (rowAt o) ≡ true → viewOf o ≡ calc outs ins f → f xs ≡ some vs
     → viewOf (folding .const o (headOr 0 vs)) ≡ calc (at o 1 ∷ []) [] (λ ys. some (headOr 0 vs ∷ []))
 const-view o outs ins f xs vs t e g =
     let s = states o outs ins f xs vs t e g in

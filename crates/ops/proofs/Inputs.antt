@@ -81,11 +81,15 @@ computing-folds : (k : ℕ) → k < 256 → isComputing (roleOf k) ≡ foldableR
 unfolding rowOf wideRow roleOf isComputing
 computing-folds = agreed (λ k. isComputing (roleOf k)) (λ k. foldableRow (rowOf k)) 256 refl
 
+pub computes-fold : (k : ℕ) → k < 256 → roleOf k ≡ Computes → foldableRow (rowOf k) ≡ true
+unfolding isComputing
+computes-fold k l e = sym (computing-folds k l) ∙ ap isComputing e
+
 -- what such an op states, from its first byte after the operands and four values, of which it reads as many as it has inputs
 pub folded-inputs : (k : ℕ) → k < 256 → roleOf k ≡ Computes → (env : ℕ → ℕ) (b bytes : List ℕ) (i : ℕ)
     → evalOf k (take ((rowOf k) .rest) bytes) (reads env (bytesAt b i (length ((rowOf k) .ins))))
     ≡ one (foldedOf k (at bytes 0) (env (at b i)) (env (at b (suc i))) (env (at b (suc (suc i)))) (env (at b (suc (suc (suc i))))))
-unfolding evalOf foldedOf isComputing
+unfolding evalOf foldedOf
 folded-inputs k l e env b bytes i =
-    let f : foldableRow (rowOf k) ≡ true = sym (computing-folds k l) ∙ ap isComputing e in
+    let f = computes-fold k l e in
     table-feeds k .by f env b bytes i ∙ rw f

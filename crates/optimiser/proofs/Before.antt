@@ -23,7 +23,7 @@ two-bytes : (b : List ℕ) (p : ℕ) → bytesAt b (p + 1) 2 ≡ at b (p + 1) �
 two-bytes b p = let e : suc (p + 1) ≡ p + 2 = omega arith in ap (λ (n : ℕ). at b (p + 1) ∷ at b n ∷ []) e
 
 module _ {b : List ℕ} {p k : ℕ} (s : Stands b p k) where
-  operands-are : roleOf k ≡ Computes → operandCount k ≡ 1 + length ((rowOf k) .ins)
+  pub operands-are : roleOf k ≡ Computes → operandCount k ≡ 1 + length ((rowOf k) .ins)
   operands-are e = let single : length ((rowOf k) .outs) ≡ 1 = ap length ((row-of Computes k e) .one-out) in omega (arith, single, length-append ((rowOf k) .outs) ((rowOf k) .ins))
 
   single : roleOf k ≡ Computes → length ((rowOf k) .outs) ≡ 1

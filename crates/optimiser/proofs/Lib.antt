@@ -7,3 +7,5 @@ pub mod Bytes
 pub mod Liveness
 pub mod Before
 pub mod Pruning
+pub mod Knowing
+pub mod Forward

@@ -2,3 +2,4 @@ pub mod Passes
 pub mod Demand
 pub mod Choose
 pub mod Live
+pub mod Knows

@@ -1,5 +1,6 @@
 // The pass: fold, prune and the result in the lent buffer.
 mod emit;
+mod fold;
 mod prune;
 
 // The pass's answer: the length of the result.

@@ -1,0 +1,16 @@
+-- A variable that is known, with its value. Assumes nothing.
+use Rattle.optimiser.proofs.Knowing.{put-known}
+use Rattle.optimiser.proofs.fold.learn.Statement.{statement}
+use Rattle.optimiser.proofs.fold.learn.Tie as tie
+
+put-requires : tie.Need-put-requires
+put-requires c κs = tt
+
+put-value-requires : tie.Need-put-value-requires
+put-value-requires c κs = tt
+
+returns : tie.Need-returns
+returns c = put-known (c .before .before .put .ensures) (c .put-value .ensures)
+
+pub learn-spec : {M : Type 1} → statement M
+learn-spec = tie.close (tie.spec put-requires put-value-requires returns)

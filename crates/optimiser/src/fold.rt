@@ -1,0 +1,194 @@
+// Fold: the values known in a basic block, and the constants that take ops' places.
+ghost use mathlib.Core.Path.{_≡_};
+ghost use mathlib.Core.Option.{none, some};
+ghost use Prim.Native.Nat.{_+_, _≤_, _<_};
+ghost use lib.ListN.{length, getD, set};
+ghost use Rattle.theory.specs.Machine.{upd};
+ghost use Rattle.ops.specs.Ops.{bytesAt};
+ghost use Rattle.ops.specs.Table.{roleOf};
+ghost use Rattle.block.specs.Records.{recordsOf, opsFrom};
+ghost use Rattle.block.specs.Scan.{Stands, SetAt, marked};
+ghost use Rattle.runner.specs.Evaluates.{Computed};
+ghost use Rattle.optimiser.specs.Choose.{OpsHere};
+ghost use Rattle.optimiser.specs.Knows.{knownOf, allMarked, IfComputes, StatesKnown, Folds, FoldsAt, FoldsAll};
+use block::marks::clear;
+use block::marks::put;
+use block::rules::index;
+use memory::low_first;
+use ops::kinds::Role;
+use ops::kinds::operand_count;
+use ops::kinds::role_of;
+use runner::evaluate::evaluate;
+use word::Stated;
+
+fn store_value(values: &mut [u64], i: usize, x: u64)
+    requires { ⌜ i < length (now values) ⌝ }
+    ensures { λ _. ⌜ now (values .exit) ≡ set (now (values .entry)) i x ⌝ }
+{
+    values[i] = x;
+}
+
+fn put_value(values: &mut [u64; 256], v: u8, x: u64)
+    ensures { λ _. ⌜ SetAt (now (values .entry)) v x (now (values .exit)) ⌝ }
+{
+    store_value(values, index(v), x);
+}
+
+// A variable's value is known.
+fn learn(known: &mut [u8; 256], values: &mut [u64; 256], v: u8, x: u64)
+    ensures { λ _. ⌜ knownOf (now (known .exit)) (now (values .exit)) ≡ upd (knownOf (now (known .entry)) (now (values .entry))) v (some x) ⌝ }
+{
+    put(known, v, 1);
+    put_value(values, v, x);
+}
+
+// Whether a variable's value is known.
+fn is_known(known: &[u8; 256], v: u8) -> bool
+    ensures { λ r. ⌜ r ≡ marked (now (known .entry)) v ⌝ }
+{
+    known[v as usize] == 1
+}
+
+// Whether the variables that the bytes from a place on name are known.
+fn all_known(block: &[u8], from: usize, count: usize, known: &[u8; 256]) -> bool
+    requires { ⌜ from + count ≤ length (now block) ⌝ }
+    ensures { λ r. ⌜ r ≡ allMarked (marked (now (known .entry))) (bytesAt (now (block .entry)) from count) ⌝ }
+{
+    let mut j: usize = 0;
+    while j < count {
+        if !is_known(known, block[from + j]) {
+            return false;
+        }
+        j += 1;
+    }
+    true
+}
+
+// What an op states where all its inputs are known.
+fn evaluate_known(
+    block: &[u8],
+    at: usize,
+    kind: u8,
+    known: &[u8; 256],
+    values: &[u64; 256],
+) -> Stated
+    requires { ⌜ Computed (now block) at kind ⌝ }
+    ensures { λ r. ⌜ StatesKnown (now (block .entry)) at kind (now (known .entry)) (now (values .entry)) r ⌝ }
+{
+    if all_known(block, at + 2, operand_count(kind) - 1, known) {
+        return evaluate(block, at, kind, values);
+    }
+    Stated::NoResult
+}
+
+// Fold at a pure op that reads something.
+fn fold_computing(
+    block: &[u8],
+    at: usize,
+    kind: u8,
+    known: &mut [u8; 256],
+    values: &mut [u64; 256],
+) -> Stated
+    requires { ⌜ Computed (now block) at kind ⌝ }
+    ensures { λ r. ⌜ Folds (now (block .entry)) at kind (now (known .entry)) (now (values .entry)) (now (known .exit)) (now (values .exit)) r ⌝ }
+{
+    let stated = evaluate_known(block, at, kind, known, values);
+    match stated {
+        Stated::Value(x) => {
+            learn(known, values, block[at + 1], x);
+            Stated::Value(x)
+        }
+        Stated::NoResult => {
+            put(known, block[at + 1], 0);
+            Stated::NoResult
+        }
+    }
+}
+
+// What is known after an op that fold leaves as it is.
+fn pass_over(block: &[u8], at: usize, kind: u8, known: &mut [u8; 256], values: &mut [u64; 256])
+    requires { ⌜ Stands (now block) at kind × (roleOf kind ≡ Role.Computes → ⊥) ⌝ }
+    ensures { λ _. ⌜ Folds (now (block .entry)) at kind (now (known .entry)) (now (values .entry)) (now (known .exit)) (now (values .exit)) Stated.NoResult ⌝ }
+{
+    let role = role_of(kind);
+    match role {
+        Role::Constant => learn(known, values, block[at + 1], low_first(block, at + 2, 8)),
+        Role::Loads => put(known, block[at + 1], 0),
+        Role::Stores => {}
+        _ => clear(known),
+    }
+}
+
+// Whether a kind is pure and reads something.
+fn is_computing(kind: u8) -> bool
+    ensures { λ r. ⌜ IfComputes r kind ⌝ }
+{
+    let role = role_of(kind);
+    match role {
+        Role::Computes => true,
+        _ => false,
+    }
+}
+
+// Fold at one op: the constant's value if one takes its place.
+fn fold_op(
+    block: &[u8],
+    at: usize,
+    kind: u8,
+    known: &mut [u8; 256],
+    values: &mut [u64; 256],
+) -> Stated
+    requires { ⌜ Stands (now block) at kind ⌝ }
+    ensures { λ r. ⌜ Folds (now (block .entry)) at kind (now (known .entry)) (now (values .entry)) (now (known .exit)) (now (values .exit)) r ⌝ }
+{
+    if is_computing(kind) {
+        return fold_computing(block, at, kind, known, values);
+    }
+    pass_over(block, at, kind, known, values);
+    Stated::NoResult
+}
+
+// Fold at the i-th op: its byte, and its constant if it has one.
+fn fold_at(
+    block: &[u8],
+    at: usize,
+    i: usize,
+    known: &mut [u8; 256],
+    values: &mut [u64; 256],
+    folded: &mut [u8],
+    consts: &mut [u64],
+)
+    requires { ⌜ Stands (now block) at (getD (now block) at 0) × (i < length (now folded)) × (i < length (now consts)) ⌝ }
+    ensures { λ _. ⌜ FoldsAt (now (block .entry)) at i (now (known .entry)) (now (values .entry)) (now (known .exit)) (now (values .exit)) (now (folded .entry)) (now (consts .entry)) (now (folded .exit)) (now (consts .exit)) ⌝ }
+{
+    let stated = fold_op(block, at, block[at], known, values);
+    match stated {
+        Stated::Value(x) => {
+            folded[i] = 1;
+            consts[i] = x;
+        }
+        Stated::NoResult => folded[i] = 0,
+    }
+}
+
+// Which ops fold replaces, read forward, and the constants that take their places.
+pub fn fold(block: &[u8], ops: usize, places: &[u16; 256], folded: &mut [u8], consts: &mut [u64])
+    requires { ⌜ OpsHere (now block) (now places) (opsFrom (recordsOf (now block))) ops × (length (now folded) ≡ 256) × (length (now consts) ≡ 256) ⌝ }
+    ensures { λ _. ⌜ FoldsAll (now (block .entry)) (now (folded .exit)) (now (consts .exit)) ⌝ }
+{
+    let mut known = [0u8; 256];
+    let mut values = [0u64; 256];
+    let mut i: usize = 0;
+    while i < ops {
+        fold_at(
+            block,
+            places[i] as usize,
+            i,
+            &mut known,
+            &mut values,
+            folded,
+            consts,
+        );
+        i += 1;
+    }
+}
