@@ -39,7 +39,8 @@ module _ {b : List ℕ} {p : ℕ} {known values known′ values′ : List ℕ} {
         only-at = λ z. f .only-so x e;
         others = λ j n. (getD-set-other folded i j 1 0 (λ z. omega arith), getD-set-other consts i j x 0 (λ z. omega arith));
         long-folded = length-set folded i 1;
-        long-consts = length-set consts i x }
+        long-consts = length-set consts i x;
+      }
 
   pub none-at : r ≡ NoResult → FoldsAt b p i known values known′ values′ folded consts (set folded i 0) consts
   none-at e =
@@ -52,7 +53,8 @@ module _ {b : List ℕ} {p : ℕ} {known values known′ values′ : List ℕ} {
         only-at = λ z. absurd (no-one (sym g ∙ z));
         others = λ j n. (getD-set-other folded i j 0 0 (λ z. omega arith), refl);
         long-folded = length-set folded i 0;
-        long-consts = refl }
+        long-consts = refl;
+      }
     where
       no-one : _≡_ {A = ℕ} 0 1 → ⊥
       no-one z = omega arith
@@ -76,7 +78,8 @@ folding-start {b} {folded} {consts} {os} {known} {values} l m z =
       goes-on = λ f v s e. e ∙ ap (λ (k : Known ℕ). foldOps tcg rule os (on k)) (none-known values z);
       only-so = λ j h. absurd (omega arith);
       long-folded = l;
-      long-consts = m }
+      long-consts = m;
+    }
 
 module _ {b places folded consts folded′ consts′ known values known′ values′ : List ℕ} {ops i : ℕ} (c : OpsHere b places (opsFrom (recordsOf b)) ops)
     (s : FoldingSo b folded consts known values (opsFrom (recordsOf b)) i) (h : i < ops)
@@ -143,4 +146,5 @@ folding-ends {b} {places} {folded} {consts} {known} {values} {ops} {i} c s h =
     let d : drop i (opsFrom (recordsOf b)) ≡ [] = drop-of-length-le (opsFrom (recordsOf b)) {i = i} (omega (arith, c .count-is)) in
     record {
       chosen-are = s .goes-on folded consts (record { same = λ j l. (refl, refl) }) (rw d);
-      only-computes = λ j l. s .only-so j (omega (arith, c .count-is)) }
+      only-computes = λ j l. s .only-so j (omega (arith, c .count-is));
+    }

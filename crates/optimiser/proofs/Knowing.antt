@@ -183,7 +183,8 @@ module _ {b : List ℕ} {p k : ℕ} (s : Stands b p k) (known values : List ℕ)
       record {
         rule-so = ap (λ (v : View ℕ (List ℕ) Fault). baseView tcg folding (recordAt b p) v (reads (knownOf known values) (inputs v))) e ∙ r;
         known-so = q ∙ sym (ap (learned (knownOf known values)) e);
-        only-so = λ x z. absurd (no-value x z) }
+        only-so = λ x z. absurd (no-value x z);
+      }
 
   constant-stays : roleOf k ≡ Constant → foldableRow (rowAt (recordAt b p)) ≡ false
   constant-stays e = ap foldableRow (row-at s ∙ row-of Constant k e)

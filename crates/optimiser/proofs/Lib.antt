@@ -9,3 +9,4 @@ pub mod Before
 pub mod Pruning
 pub mod Knowing
 pub mod Forward
+pub mod Passing

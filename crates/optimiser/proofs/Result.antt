@@ -55,18 +55,18 @@ declaration-size r w d =
     let l : length r ≡ suc (bodyLength (kindOf r)) = eqb-true (length r) (suc (bodyLength (kindOf r))) (and-r (known (kindOf r)) _ w) in
     l ∙ ap (λ (n : ℕ). suc (bodyLength n)) k
 
-declarations-size : (ds : List (List ℕ)) → AllWhole ds → AllDeclared ds → length (concat ds) ≡ 3 * length ds
+pub declarations-size : (ds : List (List ℕ)) → AllWhole ds → AllDeclared ds → length (concat ds) ≡ 3 * length ds
 declarations-size [] w d = refl
 declarations-size (r ∷ ds) w d =
     omega (arith, length-append r (concat ds), declaration-size r (w .0) (d .0), declarations-size ds (w .1) (d .1))
 
-ops-size : (os : List (List ℕ)) → AllWhole os → length (concat os) ≤ 10 * length os
+pub ops-size : (os : List (List ℕ)) → AllWhole os → length (concat os) ≤ 10 * length os
 ops-size [] w = omega arith
 ops-size (r ∷ os) w =
     let l : length r ≡ suc (bodyLength (kindOf r)) = eqb-true (length r) (suc (bodyLength (kindOf r))) (and-r (known (kindOf r)) _ (w .0)) in
     omega (arith, length-append r (concat os), l, body-short (kindOf r), ops-size os (w .1))
 
-concat-append : (xs ys : List (List ℕ)) → concat (xs ++ ys) ≡ concat xs ++ concat ys
+pub concat-append : (xs ys : List (List ℕ)) → concat (xs ++ ys) ≡ concat xs ++ concat ys
 concat-append [] ys = refl
 concat-append (x ∷ xs) ys = ap (λ (q : List ℕ). x ++ q) (concat-append xs ys) ∙ sym (append-assoc x (concat xs) (concat ys))
 

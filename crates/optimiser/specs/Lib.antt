@@ -3,3 +3,4 @@ pub mod Demand
 pub mod Choose
 pub mod Live
 pub mod Knows
+pub mod Ready

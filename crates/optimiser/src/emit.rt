@@ -20,7 +20,7 @@ use ops::kinds::body_length;
 use ops::kinds::wide_bits;
 
 // The bytes of block from a place on, copied.
-fn copy(block: &[u8], from: usize, n: usize, out: &mut [u8], to: usize)
+pub fn copy(block: &[u8], from: usize, n: usize, out: &mut [u8], to: usize)
     requires { ⌜ (from + n ≤ length (now block)) × (to + n ≤ length (now out)) ⌝ }
     ensures { λ _. ⌜ now (out .exit) ≡ sets (now (out .entry)) to (take n (drop from (now (block .entry)))) ⌝ }
 {

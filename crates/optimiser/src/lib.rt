@@ -1,4 +1,9 @@
 // The pass: fold, prune and the result in the lent buffer.
+ghost use mathlib.Core.Path.{_≡_};
+ghost use Rattle.optimiser.specs.Passes.{passOf};
+ghost use Rattle.optimiser.specs.Ready.{Ready};
+use block::scan::scan;
+
 mod emit;
 mod fold;
 mod prune;
@@ -7,4 +12,53 @@ mod prune;
 pub enum Written {
     Refused { number: u8, place: usize },
     Length(usize),
+}
+
+// The pass of an accepted block with n variables.
+fn write_result(
+    block: &[u8],
+    ops: usize,
+    places: &[u16; 256],
+    classes: &[u8; 256],
+    n: usize,
+    out: &mut [u8],
+) -> Written
+    requires { ⌜ Ready (now block) (now places) (now classes) ops n ⌝ }
+    ensures { λ r. ⌜ (r ≡ (passOf (now (block .entry)) (now (out .entry))) .answer) × (now (out .exit) ≡ (passOf (now (block .entry)) (now (out .entry))) .out) ⌝ }
+{
+    let mut folded = [0u8; 256];
+    let mut consts = [0u64; 256];
+    fold::fold(block, ops, places, &mut folded, &mut consts);
+    let mut keep = [0u8; 256];
+    prune::prune(block, ops, places, &folded, classes, n, &mut keep);
+    let start = 3 * n;
+    let size = start + emit::kept_size(block, ops, places, &folded, &keep);
+    if out.len() < size {
+        return Written::Refused {
+            number: 12,
+            place: 0,
+        };
+    }
+    emit::copy(block, 0, start, out, 0);
+    emit::emit_ops(block, ops, places, &folded, &consts, &keep, out, start);
+    Written::Length(size)
+}
+
+// The pass of a block: its result's length, the result in out; or the rule that is broken.
+pub fn pass(block: &[u8], out: &mut [u8]) -> Written
+    ensures { λ r. ⌜ (r ≡ (passOf (now (block .entry)) (now (out .entry))) .answer) × (now (out .exit) ≡ (passOf (now (block .entry)) (now (out .entry))) .out) ⌝ }
+{
+    let mut classes = [0u8; 256];
+    let mut types = [0u8; 256];
+    let mut places = [0u16; 256];
+    let mut labels = [0u16; 256];
+    let s = scan(block, &mut classes, &mut types, &mut places, &mut labels);
+    let rule = s.rule;
+    if rule != 0 {
+        return Written::Refused {
+            number: rule,
+            place: s.place,
+        };
+    }
+    write_result(block, s.ops, &places, &classes, s.variables, out)
 }

@@ -1,0 +1,80 @@
+-- The pass of an accepted block: fold, prune, and the result if there is room. Assumes nothing.
+use mathlib.Core.Path.{refl}
+use native.Mathlib.Omega.{arith}
+use borrow.Author.Needs.{needs}
+use Rattle.optimiser.proofs.Passing.{declared-fit, its-variables, result-small, its-choice, result-size, pass-short, ops-fit, pass-stores}
+use Rattle.optimiser.proofs.write_result.Statement.{statement}
+use Rattle.optimiser.proofs.write_result.Tie as tie
+
+slice-aggregate-fold : tie.Need-slice-aggregate-fold
+slice-aggregate-fold c = search needs
+
+slice-aggregate-fold-2 : tie.Need-slice-aggregate-fold-2
+slice-aggregate-fold-2 c = search needs
+
+fold-requires : tie.Need-fold-requires
+fold-requires c κs = (c .before .before .before .before .pre .here, refl, refl)
+
+slice-aggregate-prune : tie.Need-slice-aggregate-prune
+slice-aggregate-prune c = search needs
+
+prune-requires : tie.Need-prune-requires
+prune-requires c κs =
+    (its-variables (c .before .before .before .before .before .before .before .before .before .pre), its-choice (c .before .before .before .before .before .before .before .before .before .pre) (c .before .before .before .before .fold .ensures), refl)
+
+mul-start : tie.Need-mul-start
+mul-start c = omega (arith, c .before .before .before .before .before .before .before .before .before .before .before .pre .few)
+
+kept-size-requires : tie.Need-kept-size-requires
+kept-size-requires c κs =
+    its-choice (c .before .before .before .before .before .before .before .before .before .before .before .before .before .pre) (c .before .before .before .before .before .before .before .before .fold .ensures)
+
+add-size : tie.Need-add-size
+add-size c =
+    let r = c .before .before .before .before .before .before .before .before .before .before .before .before .before .before .pre in
+    omega (arith, result-small r, result-size r (c .before .before .before .before .before .before .before .before .before .fold .ensures) (c .before .before .before .before .prune .ensures) (c .kept-size .ensures))
+
+returns : tie.Need-returns
+returns c =
+    pass-short (c .before .before .before .before .before .before .before .before .before .before .before .before .before .before .before .pre) (c .before .before .before .before .before .before .before .before .before .before .fold .ensures) (c .before .before .before .before .before .prune .ensures) (c .before .kept-size .ensures) (c .if1 .taken)
+
+copy-requires : tie.Need-copy-requires
+copy-requires c κs =
+    (omega (arith, declared-fit (c .before .before .before .before .before .before .before .before .before .before .before .before .before .before .before .before .pre)), omega (arith, c .before .if1 .left))
+
+emit-ops-requires : tie.Need-emit-ops-requires
+emit-ops-requires c κs =
+    let r = c .before .before .before .before .before .before .before .before .before .before .before .before .before .before .before .before .before .before .before .before .before .before .before .pre in
+    let f = c .before .before .before .before .before .before .before .before .before .before .before .before .before .before .before .before .before .before .fold .ensures in
+    let k = c .before .before .before .before .before .before .before .before .before .before .before .before .before .prune .ensures in
+    let s = c .before .before .before .before .before .before .before .before .before .kept-size .ensures in
+    (its-choice r f, ops-fit r f k s (c .before .before .before .before .before .before .before .before .before .before .before .before .before .before .before .before .before .before .before .before .before .before .before .args .out .now) (c .before .before .before .before .before .before .before .before .if1 .left) (c .before .before .before .before .before .before .copy .ensures))
+
+same-length : tie.Need-same-length
+same-length c = search needs
+
+returns-2 : tie.Need-returns-2
+returns-2 c =
+    let r = c .before .before .before .before .before .before .before .before .before .before .before .before .before .before .before .before .before .before .before .before .before .before .before .before .before .before .pre in
+    let f = c .before .before .before .before .before .before .before .before .before .before .before .before .before .before .before .before .before .before .before .before .before .fold .ensures in
+    let k = c .before .before .before .before .before .before .before .before .before .before .before .before .before .before .before .before .prune .ensures in
+    let s = c .before .before .before .before .before .before .before .before .before .before .before .before .kept-size .ensures in
+    pass-stores r f k s (c .before .before .before .before .before .before .before .before .before .before .before .before .before .before .before .before .before .before .before .before .before .before .before .before .before .before .args .out .now) (c .before .before .before .before .before .before .before .before .before .before .before .if1 .left) (c .before .before .before .before .before .before .before .before .before .copy .ensures) (c .before .before .emit-ops .ensures .1)
+
+pub write-result-spec : {M : Type 1} → statement M
+write-result-spec =
+    tie.close
+    (tie.spec
+    slice-aggregate-fold
+    slice-aggregate-fold-2
+    fold-requires
+    slice-aggregate-prune
+    prune-requires
+    mul-start
+    kept-size-requires
+    add-size
+    returns
+    copy-requires
+    emit-ops-requires
+    same-length
+    returns-2)
