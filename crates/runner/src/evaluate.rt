@@ -3,6 +3,7 @@ ghost use mathlib.Core.Path.{_≡_};
 ghost use lib.ListN.{getD};
 ghost use Rattle.theory.specs.Machine.{reads};
 ghost use Rattle.runner.specs.Evaluates.{Computed, inputsAt, statesAt, valuesOf, envOf};
+use super::values::get;
 use ops::eval::eval;
 use ops::kinds::operand_count;
 use word::Stated;
@@ -15,13 +16,6 @@ fn byte_at(block: &[u8], i: usize) -> u8
         return block[i];
     }
     0
-}
-
-// The value of a variable.
-pub fn get(values: &[u64; 256], v: u8) -> u64
-    ensures { λ r. ⌜ r ≡ getD (now (values .entry)) v 0 ⌝ }
-{
-    values[v as usize]
 }
 
 // The value of the variable that a byte of the block names.

@@ -1,5 +1,20 @@
-// The reference runner.
+// The run of a block.
+ghost use mathlib.Core.Path.{_≡_};
+ghost use Prim.Native.Nat.{_≤_};
+ghost use lib.ListN.{length};
+ghost use Rattle.block.specs.Records.{recordsOf, opsFrom};
+ghost use Rattle.runner.specs.Runs.{runOf, runOps};
+ghost use Rattle.runner.specs.Steps.{Ready, ranAs};
+use block::scan::scan;
+use exec::execute;
+use values::copy_in;
+use values::copy_out;
+use values::lent_ok;
+
 pub mod evaluate;
+mod exec;
+mod step;
+pub mod values;
 
 // The run's answer. Each ending gives the number of ops run.
 pub enum Ending {
@@ -21,4 +36,49 @@ pub enum Ending {
         position: u64,
         count: u64,
     },
+}
+
+// Runs the ops of a block that the scan has accepted.
+fn run_ops(
+    block: &[u8],
+    start: usize,
+    ops: usize,
+    places: &[u16; 256],
+    labels: &[u16; 256],
+    globals: &mut [u64],
+    memory: &mut [u8],
+) -> Ending
+    requires { ⌜ Ready (now block) (now places) (now labels) start ops × (length (now globals) ≤ 256) ⌝ }
+    ensures { λ r. ⌜ ranAs r (now (globals .exit)) (now (memory .exit)) ≡ runOps (opsFrom (recordsOf (now (block .entry)))) (now (globals .entry)) (now (memory .entry)) ⌝ }
+{
+    let mut values = [0u64; 256];
+    copy_in(globals, &mut values);
+    let ending = execute(block, start, ops, places, labels, &mut values, memory);
+    copy_out(&values, globals);
+    ending
+}
+
+// Checks a block and runs it: the answer, and the globals and memory that it leaves.
+pub fn run(block: &[u8], globals: &mut [u64], memory: &mut [u8]) -> Ending
+    ensures { λ r. ⌜ ranAs r (now (globals .exit)) (now (memory .exit)) ≡ runOf (now (block .entry)) (now (globals .entry)) (now (memory .entry)) ⌝ }
+{
+    let mut classes = [0u8; 256];
+    let mut types = [0u8; 256];
+    let mut places = [0u16; 256];
+    let mut labels = [0u16; 256];
+    let s = scan(block, &mut classes, &mut types, &mut places, &mut labels);
+    let rule = s.rule;
+    if rule != 0 {
+        return Ending::Refused {
+            number: rule,
+            place: s.place,
+        };
+    }
+    if !lent_ok(&types, s.variables, s.globals, globals, memory) {
+        return Ending::Refused {
+            number: 11,
+            place: 0,
+        };
+    }
+    run_ops(block, s.start, s.ops, &places, &labels, globals, memory)
 }

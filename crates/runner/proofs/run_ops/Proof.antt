@@ -1,0 +1,40 @@
+-- `run_ops` runs the ops from copies of the globals. Assumes nothing.
+use mathlib.Core.Path.{refl}
+use borrow.Author.Needs.{needs}
+use Rattle.runner.proofs.Ran.{ops-ran}
+use Rattle.runner.proofs.run_ops.Statement.{statement}
+use Rattle.runner.proofs.run_ops.Tie as tie
+
+slice-aggregate-copy-in : tie.Need-slice-aggregate-copy-in
+slice-aggregate-copy-in c = search needs
+
+copy-in-requires : tie.Need-copy-in-requires
+copy-in-requires c κs = (refl, c .before .before .before .before .before .pre .1)
+
+execute-requires : tie.Need-execute-requires
+execute-requires c κs = c .before .before .before .before .before .before .before .before .before .pre .0
+
+copy-out-requires : tie.Need-copy-out-requires
+copy-out-requires c κs = c .before .before .before .before .before .before .before .before .before .before .before .before .before .before .pre .1
+
+same-length : tie.Need-same-length
+same-length c = search needs
+
+same-length-2 : tie.Need-same-length-2
+same-length-2 c = search needs
+
+returns : tie.Need-returns
+returns c =
+    ops-ran (c .before .before .before .before .before .before .before .before .before .before .before .before .before .before .before .before .before .args .globals .now) _ (c .before .before .before .before .before .before .before .before .before .before .before .copy-in .ensures) (c .before .before .before .before .before .before .before .execute .ensures) (c .before .before .copy-out .ensures)
+
+pub run-ops-spec : {M : Type 1} → statement M
+run-ops-spec =
+    tie.close
+    (tie.spec
+    slice-aggregate-copy-in
+    copy-in-requires
+    execute-requires
+    copy-out-requires
+    same-length
+    same-length-2
+    returns)

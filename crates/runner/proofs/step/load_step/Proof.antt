@@ -1,0 +1,64 @@
+-- A load: its value, or the fault. Assumes nothing.
+use borrow.Author.Needs.{needs}
+use Rattle.runner.proofs.Performed.{load-falls, loads-fault}
+use Rattle.runner.proofs.step.load_step.Statement.{statement}
+use Rattle.runner.proofs.step.load_step.Tie as tie
+
+add-get : tie.Need-add-get
+add-get c = search needs
+
+shared-slice-read-get : tie.Need-shared-slice-read-get
+shared-slice-read-get c = search needs
+
+get-requires : tie.Need-get-requires
+get-requires c κs = search needs
+
+add-flags : tie.Need-add-flags
+add-flags c = search needs
+
+shared-slice-read-flags : tie.Need-shared-slice-read-flags
+shared-slice-read-flags c = search needs
+
+load-requires : tie.Need-load-requires
+load-requires c κs = search needs
+
+enum-known-loaded : tie.Need-enum-known-loaded
+enum-known-loaded c = search needs
+
+add-put : tie.Need-add-put
+add-put c = search needs
+
+shared-slice-read-put : tie.Need-shared-slice-read-put
+shared-slice-read-put c = search needs
+
+put-requires : tie.Need-put-requires
+put-requires c κs = search needs
+
+enum-told : tie.Need-enum-told
+enum-told c = search needs
+
+returns : tie.Need-returns
+returns c =
+    load-falls (c .before .before .before .before .before .before .before .before .before .before .before .before .before .args .block .now) (c .before .before .before .before .before .before .before .before .before .before .before .before .before .args .values .now) (c .before .before .before .before .before .before .before .before .before .before .before .before .before .args .memory .now) (c .before .before .before .before .before .before .before .before .before .before .before .before .before .args .at) (c .before .before .before .before .before .before .before .before .before .before .before .before .before .args .wide) (c .before .before .before .before .before .before .before .before .get .ensures) (c .before .before .before .before .before .before .load .ensures) (c .before .before .before .before .loaded .given .1) (c .put .ensures)
+
+returns-2 : tie.Need-returns-2
+returns-2 c =
+    loads-fault (c .before .before .before .before .before .before .before .before .before .args .block .now) (c .before .before .before .before .before .before .before .before .before .args .values .now) (c .before .before .before .before .before .before .before .before .before .args .memory .now) (c .before .before .before .before .before .before .before .before .before .args .at) (c .before .before .before .before .before .before .before .before .before .args .wide) (c .before .before .before .before .get .ensures) (c .before .before .load .ensures) (c .enum-told .given .1)
+
+pub load-step-spec : {M : Type 1} → statement M
+load-step-spec =
+    tie.close
+    (tie.spec
+    add-get
+    shared-slice-read-get
+    get-requires
+    add-flags
+    shared-slice-read-flags
+    load-requires
+    enum-known-loaded
+    add-put
+    shared-slice-read-put
+    put-requires
+    enum-told
+    returns
+    returns-2)
