@@ -2,44 +2,31 @@
 ghost use mathlib.Core.Path.{_≡_};
 ghost use mathlib.Core.Option.{none, some};
 ghost use Prim.Native.Nat.{_+_, _≤_, _<_};
-ghost use lib.ListN.{length, getD, set};
+ghost use lib.ListN.{length, getD};
 ghost use Rattle.theory.specs.Machine.{upd};
 ghost use Rattle.ops.specs.Ops.{bytesAt};
 ghost use Rattle.ops.specs.Table.{roleOf};
 ghost use Rattle.block.specs.Records.{recordsOf, opsFrom};
-ghost use Rattle.block.specs.Scan.{Stands, SetAt, marked};
+ghost use Rattle.block.specs.Scan.{Stands, marked};
 ghost use Rattle.runner.specs.Evaluates.{Computed};
 ghost use Rattle.optimiser.specs.Choose.{OpsHere};
 ghost use Rattle.optimiser.specs.Knows.{knownOf, allMarked, IfComputes, StatesKnown, Folds, FoldsAt, FoldsAll};
 use block::marks::clear;
 use block::marks::put;
-use block::rules::index;
 use memory::low_first;
 use ops::kinds::Role;
 use ops::kinds::operand_count;
 use ops::kinds::role_of;
 use runner::evaluate::evaluate;
+use runner::values;
 use word::Stated;
-
-fn store_value(values: &mut [u64], i: usize, x: u64)
-    requires { ⌜ i < length (now values) ⌝ }
-    ensures { λ _. ⌜ now (values .exit) ≡ set (now (values .entry)) i x ⌝ }
-{
-    values[i] = x;
-}
-
-fn put_value(values: &mut [u64; 256], v: u8, x: u64)
-    ensures { λ _. ⌜ SetAt (now (values .entry)) v x (now (values .exit)) ⌝ }
-{
-    store_value(values, index(v), x);
-}
 
 // A variable's value is known.
 fn learn(known: &mut [u8; 256], values: &mut [u64; 256], v: u8, x: u64)
     ensures { λ _. ⌜ knownOf (now (known .exit)) (now (values .exit)) ≡ upd (knownOf (now (known .entry)) (now (values .entry))) v (some x) ⌝ }
 {
     put(known, v, 1);
-    put_value(values, v, x);
+    values::put(values, v, x);
 }
 
 // Whether a variable's value is known.
