@@ -1,8 +1,8 @@
 // The rules of one op that go by its role, and what the op leaves: the variables written in the basic block, the labels set and jumped to.
 ghost use mathlib.Core.Path.{_≡_};
-ghost use mathlib.Core.Bool.{cond, not, _&&_, _||_};
+ghost use mathlib.Core.Bool.{not, _&&_, _||_};
 ghost use Prim.Native.Nat.{_+_, _≤_, _<_};
-ghost use lib.Dec.{eqb, ltb, leb};
+ghost use lib.Dec.{eqb};
 ghost use lib.ListN.{length, set, take, drop, replicate};
 ghost use Rattle.theory.specs.Scope.{wrote};
 ghost use Rattle.memory.specs.Answer.{accessWidth};
@@ -168,33 +168,4 @@ pub fn all_set(targets: &[u8; 256], labels: &[u16; 256], n: usize) -> bool
         }
     }
     true
-}
-
-// A global is declared while every variable is one.
-fn in_order(class: u8, globals: usize, n: usize) -> bool
-    ensures { λ r. ⌜ r ≡ (not (eqb class 0) || eqb globals n) ⌝ }
-{
-    class != 0 || globals == n
-}
-
-// Rule 3: 0 if a declaration meets it.
-pub fn declaration_rule(class: u8, ty: u8, ops: usize, globals: usize, n: usize) -> u8
-    ensures { λ r. ⌜ r ≡ cond (eqb ops 0 && leb class 2 && leb ty 1 && (not (eqb class 0) || eqb globals n) && ltb n 64) 0 3 ⌝ }
-{
-    if ops != 0 {
-        return 3;
-    }
-    if 2 < class {
-        return 3;
-    }
-    if 1 < ty {
-        return 3;
-    }
-    if !in_order(class, globals, n) {
-        return 3;
-    }
-    if 64 <= n {
-        return 3;
-    }
-    0
 }
