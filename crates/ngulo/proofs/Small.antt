@@ -1,0 +1,175 @@
+-- Places and lengths are small, so that the numbers fit. Assumes nothing.
+use mathlib.Core.Path.{_≡_, refl, sym, ap, _∙_, subst}
+use mathlib.Core.Bool.{Bool, true, false, cond, not, _&&_, _||_}
+use mathlib.Core.List.{List, [], _∷_}
+use Prim.Native.Nat.{ℕ, suc, _+_, _-_, _*_, _≤_, _<_}
+use native.Mathlib.Omega.{arith}
+use lib.Dec.{eqb, ltb, leb}
+use lib.ListN.{length, length-append}
+use borrow.Author.Tests.{ltb-true}
+use Rattle.theory.specs.Machine.{End, exit, fault, unstated, fell, spent, Result, runs}
+use Rattle.theory.proofs.Sets.{and-r}
+use Rattle.ops.specs.Ops.{kindOf, tcg}
+use Rattle.ops.proofs.Sizes.{body-short}
+use Rattle.block.specs.Checks.{checkOf}
+use Rattle.block.specs.Meaning.{Meets, EachMeets}
+use Rattle.block.specs.Records.{recordsOf, concat, isDeclaration, declarations, opsFrom, classOf, typeOf, classesOf}
+use Rattle.block.proofs.Meaning.{refused-means}
+use Rattle.block.proofs.Parts.{parts}
+use Rattle.runner.specs.Runs.{fits, entry, Ran, answerOf, ranOf, runOps, runRefused, runChecked, runOf}
+use Rattle.runner.specs.Steps.{ranAs}
+use Rattle.optimiser.specs.Passes.{passOps, resultOf, passRefused, written, passChecked, passOf}
+use Rattle.optimiser.proofs.Result.{parts-size, kept-parts, result-of}
+use Rattle.ngulo.specs.Numbers.{runNumber, reportOf, RunAnswer}
+use Rattle.block.specs.Rules.{Seen, start, allGlobal, rule3, rule9, declared, passed, next}
+use Rattle.block.specs.declared.Verdict.{Verdict}
+use Rattle.block.specs.declared.Verdict.the-variants.{Accepted, Refused}
+use Rattle.runner.specs.declared.Ending.{Ending}
+use Rattle.runner.specs.declared.Ending.the-variants.{Refused as RunRefused, Exit, Fault, NoResult}
+use Rattle.optimiser.specs.declared.Written.{Written}
+use Rattle.optimiser.specs.declared.Written.the-variants.{Refused as PassRefused, Length}
+
+room-declared : (s : Seen) (r : List ℕ) → rule3 s r ≡ true → length (s .classes) < 64
+unfolding rule3
+room-declared s r h =
+    ltb-true (length (s .classes)) 64
+    (and-r (eqb (s .ops) 0 && leb (classOf r) 2 && leb (typeOf r) 1 && (not (eqb (classOf r) 0) || allGlobal (s .classes))) (ltb (length (s .classes)) 64) h)
+
+room-op : (s : Seen) (r : List ℕ) → rule9 s r ≡ true → s .ops < 256
+unfolding rule9
+room-op s r h = ltb-true (s .ops) 256 h
+
+next-is : (s : Seen) (r : List ℕ) (b : Bool) → isDeclaration r ≡ b → next s r ≡ cond b (declared s r) (passed s r)
+unfolding next
+next-is s r b e = ap (λ (t : Bool). cond t (declared s r) (passed s r)) e
+
+each-short : (rs : List (List ℕ)) (s : Seen) → EachMeets s rs → length (concat rs) ≤ 10 * length rs
+each-short [] s e = omega arith
+each-short (r ∷ rs) s e =
+    let m = e [] r rs refl in
+    omega (arith, length-append r (concat rs), m .met1, body-short (kindOf r), each-short rs (next s r) (λ before q after z. e (r ∷ before) q after (ap (λ (l : List (List ℕ)). r ∷ l) z)))
+
+each-few : (rs : List (List ℕ)) (s : Seen) → EachMeets s rs → length (s .classes) ≤ 64 → s .ops ≤ 256 → length rs + length (s .classes) + s .ops ≤ 320
+each-few [] s e l n = omega arith
+each-few (r ∷ rs) s e l n = go (isDeclaration r) refl (each-few rs (next s r) (λ before q after z. e (r ∷ before) q after (ap (λ (k : List (List ℕ)). r ∷ k) z)))
+  where
+    m : Meets s r
+    m = e [] r rs refl
+
+    go : (b : Bool) → isDeclaration r ≡ b → (length ((next s r) .classes) ≤ 64 → (next s r) .ops ≤ 256 → length rs + length ((next s r) .classes) + (next s r) .ops ≤ 320)
+        → suc (length rs) + length (s .classes) + s .ops ≤ 320
+    go true d ih =
+        let q = next-is s r true d in
+        let c : length ((next s r) .classes) ≡ length (s .classes) + 1 = ap (λ (t : Seen). length (t .classes)) q ∙ length-append (s .classes) (classOf r ∷ []) in
+        let o : (next s r) .ops ≡ s .ops = ap (λ (t : Seen). t .ops) q in
+        let b = room-declared s r (m .met3 d) in
+        omega (arith, ih (omega arith) (omega arith))
+    go false d ih =
+        let q = next-is s r false d in
+        let c : length ((next s r) .classes) ≡ length (s .classes) = ap (λ (t : Seen). length (t .classes)) q in
+        let o : (next s r) .ops ≡ suc (s .ops) = ap (λ (t : Seen). t .ops) q in
+        let b = room-op s r (m .met9 d) in
+        omega (arith, ih (omega arith) (omega arith))
+
+-- a refusal stands at a place of at most 3,200
+pub place-small : (block : List ℕ) (number place : ℕ) → checkOf block ≡ Refused number place → place ≤ 3200
+place-small block number place e =
+    let b = (refused-means block number place) .refused-broken e in
+    omega (arith, b .place-is, each-short (b .before) start (b .each), each-few (b .before) start (b .each) (omega arith) (omega arith))
+
+-- the numbers of an answer fit
+abbrev pub SmallVerdict : Verdict → Type 0
+SmallVerdict Accepted = Unit {0}
+SmallVerdict (Refused number place) = place ≤ 4096
+
+pub verdict-small : (block : List ℕ) (v : Verdict) → v ≡ checkOf block → SmallVerdict v
+verdict-small block Accepted e = tt
+verdict-small block (Refused number place) e = omega (arith, place-small block number place (sym e))
+
+abbrev pub SmallWritten : Written → Type 0
+SmallWritten (PassRefused number place) = place ≤ 4096
+SmallWritten (Length n) = n ≤ 4096
+
+result-small : (block : List ℕ) → checkOf block ≡ Accepted → length (resultOf block) ≤ 2752
+result-small block h =
+    let p = parts block h in
+    let e = result-of block (declarations (recordsOf block)) (opsFrom (recordsOf block)) p in
+    let q = (kept-parts block (declarations (recordsOf block)) (opsFrom (recordsOf block)) p) .1 in
+    omega (arith, ap length e, parts-size _ (declarations (recordsOf block)) (passOps (classesOf (declarations (recordsOf block))) (opsFrom (recordsOf block))) q)
+
+written-by : (block out : List ℕ) (v : Verdict) → checkOf block ≡ v → SmallWritten ((passChecked (resultOf block) out v) .answer)
+unfolding passChecked
+written-by block out (Refused number place) e = omega (arith, place-small block number place e)
+written-by block out Accepted e = go (leb (length (resultOf block)) (length out))
+  where
+    go : (b : Bool) → SmallWritten ((cond b (written (resultOf block) out) (passRefused 12 0 out)) .answer)
+    go true = omega (arith, result-small block e)
+    go false = omega arith
+
+pub written-small : (block out : List ℕ) (w : Written) → w ≡ (passOf block out) .answer → SmallWritten w
+unfolding passOf
+written-small block out w e = subst SmallWritten (sym e) (written-by block out (checkOf block) refl)
+
+abbrev pub SmallEnding : Ending → Type 0
+SmallEnding (RunRefused number place) = place ≤ 4096
+SmallEnding (Exit value count) = Unit {0}
+SmallEnding (Fault store address flags count) = Unit {0}
+SmallEnding (NoResult position count) = Unit {0}
+
+ran-small : (ops : ℕ) (globals : ℕ) (r : Result tcg) → SmallEnding ((ranOf ops globals r) .answer)
+ran-small ops globals r = go (r .end)
+  where
+    go : (e : End ℕ (tcg .Flt)) → SmallEnding (answerOf e (ops - length (r .left)) (r .count))
+    go (exit v) = tt
+    go (fault f) = tt
+    go unstated = tt
+    go fell = tt
+    go spent = tt
+
+ending-by : (block globals memory : List ℕ) (v : Verdict) → checkOf block ≡ v → SmallEnding ((runChecked (recordsOf block) globals memory v) .answer)
+unfolding runChecked runOps
+ending-by block globals memory (Refused number place) e = omega (arith, place-small block number place e)
+ending-by block globals memory Accepted e = go (fits (declarations (recordsOf block)) globals memory)
+  where
+    go : (b : Bool) → SmallEnding ((cond b (runOps (opsFrom (recordsOf block)) globals memory) (runRefused 11 0 globals memory)) .answer)
+    go true = ran-small (length (opsFrom (recordsOf block))) (length globals) (runs tcg (opsFrom (recordsOf block)) (entry globals memory))
+    go false = omega arith
+
+pub ending-small : (block globals memory : List ℕ) (w : Ending) → w ≡ (runOf block globals memory) .answer → SmallEnding w
+unfolding runOf
+ending-small block globals memory w e = subst SmallEnding (sym e) (ending-by block globals memory (checkOf block) refl)
+
+-- a refusal's place, as the calls answer it
+pub check-place : (block : List ℕ) {v : Verdict} {number place : ℕ} → v ≡ checkOf block → v ≡ Refused number place → place ≤ 4096
+check-place block {v} {number} {place} e q = verdict-small block (Refused number place) (sym q ∙ e)
+
+pub pass-place : (block out : List ℕ) {w : Written} {number place : ℕ} → w ≡ (passOf block out) .answer → w ≡ PassRefused number place → place ≤ 4096
+pass-place block out {w} {number} {place} e q = written-small block out (PassRefused number place) (sym q ∙ e)
+
+pub pass-length : (block out : List ℕ) {w : Written} {n : ℕ} → w ≡ (passOf block out) .answer → w ≡ Length n → n ≤ 4096
+pass-length block out {w} {n} e q = written-small block out (Length n) (sym q ∙ e)
+
+pub run-place : (block globals memory : List ℕ) {w : Ending} {globals′ memory′ : List ℕ} {number place : ℕ} → ranAs w globals′ memory′ ≡ runOf block globals memory → w ≡ RunRefused number place → place ≤ 4096
+run-place block globals memory {w} {globals′} {memory′} {number} {place} e q =
+    ending-small block globals memory (RunRefused number place) (sym q ∙ ap (λ (r : Ran). r .answer) e)
+
+-- what the calls answer, from what the functions do
+pub run-answers : {ran : Ran} {w v : Ending} {r : ℕ} {report report′ globals memory : List ℕ} → ranAs w globals memory ≡ ran → w ≡ v → r ≡ runNumber v → report′ ≡ reportOf v report
+    → RunAnswer ran r report report′ globals memory
+run-answers {ran} {w} {v} {r} {report} {report′} e q n p =
+    let z : v ≡ ran .answer = sym q ∙ ap (λ (x : Ran). x .answer) e in
+    record {
+      number-is = n ∙ ap runNumber z;
+      report-is = p ∙ ap (λ (x : Ending). reportOf x report) z;
+      globals-are = ap (λ (x : Ran). x .globals) e;
+      memory-is = ap (λ (x : Ran). x .memory) e;
+    }
+
+pub flags-store : {store : Bool} {x flags : ℕ} → store ≡ true → x ≡ flags → x + 256 ≡ flags + 256 * cond store 1 0
+flags-store e q = rw (e, q)
+
+pub flags-load : {store : Bool} {x flags : ℕ} → store ≡ false → x ≡ flags → x ≡ flags + 256 * cond store 1 0
+flags-load {store} {x} {flags} e q = rw e (omega (arith, q))
+
+pub fault-report : {report : List ℕ} {address x y count : ℕ} → report ≡ 2 ∷ address ∷ x ∷ count ∷ [] → x ≡ y → report ≡ 2 ∷ address ∷ y ∷ count ∷ []
+fault-report {report} {address} {x} {y} {count} e q = e ∙ ap (λ (n : ℕ). 2 ∷ address ∷ n ∷ count ∷ []) q

@@ -1,0 +1,47 @@
+-- The answers of the calls for C, as numbers. Assumes nothing.
+use mathlib.Core.Path.{_≡_}
+use mathlib.Core.Bool.{cond}
+use mathlib.Core.List.{List, [], _∷_}
+use Prim.Native.Nat.{ℕ, _+_, _*_}
+use Rattle.runner.specs.Runs.{Ran}
+use Rattle.block.specs.declared.Verdict.{Verdict}
+use Rattle.block.specs.declared.Verdict.the-variants.{Accepted, Refused}
+use Rattle.runner.specs.declared.Ending.{Ending}
+use Rattle.runner.specs.declared.Ending.the-variants.{Refused as RunRefused, Exit, Fault, NoResult}
+use Rattle.optimiser.specs.declared.Written.{Written}
+use Rattle.optimiser.specs.declared.Written.the-variants.{Refused as PassRefused, Length}
+
+-- a refusal: its number, and 256 times its place
+abbrev pub refusal : ℕ → ℕ → ℕ
+refusal number place = number + 256 * place
+
+-- "0 accepted, else number + 256 * place"
+abbrev pub checkNumber : Verdict → ℕ
+checkNumber Accepted = 0
+checkNumber (Refused number place) = refusal number place
+
+-- "256 * length, else number + 256 * place"
+abbrev pub passNumber : Written → ℕ
+passNumber (PassRefused number place) = refusal number place
+passNumber (Length n) = 256 * n
+
+-- "0 with report", else "number + 256 * place"
+abbrev pub runNumber : Ending → ℕ
+runNumber (RunRefused number place) = refusal number place
+runNumber (Exit value count) = 0
+runNumber (Fault store address flags count) = 0
+runNumber (NoResult position count) = 0
+
+-- "[1, exit value, 0, count], [2, address, flags + 256 * (1 for a store), count] or [3, position, 0, count]; refused: … untouched"
+abbrev pub reportOf : Ending → List ℕ → List ℕ
+reportOf (RunRefused number place) report = report
+reportOf (Exit value count) report = 1 ∷ value ∷ 0 ∷ count ∷ []
+reportOf (Fault store address flags count) report = 2 ∷ address ∷ (flags + 256 * cond store 1 0) ∷ count ∷ []
+reportOf (NoResult position count) report = 3 ∷ position ∷ 0 ∷ count ∷ []
+
+-- the answer of the call for a run: its number, the report, the globals and the memory
+pub record RunAnswer (ran : Ran) (r : ℕ) (report report′ globals′ memory′ : List ℕ) : Type 0 where
+  pub number-is : r ≡ runNumber (ran .answer)
+  pub report-is : report′ ≡ reportOf (ran .answer) report
+  pub globals-are : globals′ ≡ ran .globals
+  pub memory-is : memory′ ≡ ran .memory

@@ -1,0 +1,97 @@
+// The calls for C, on numbers and slices only.
+ghost use mathlib.Core.Path.{_≡_};
+ghost use mathlib.Core.Bool.{cond};
+ghost use mathlib.Core.List.{[], _∷_};
+ghost use Prim.Native.Nat.{_+_, _*_, _≤_};
+ghost use Rattle.block.specs.Checks.{checkOf};
+ghost use Rattle.runner.specs.Runs.{runOf};
+ghost use Rattle.optimiser.specs.Passes.{passOf};
+ghost use Rattle.ngulo.specs.Numbers.{refusal, checkNumber, passNumber, RunAnswer};
+use block::Verdict;
+use block::check;
+use optimiser::Written;
+use optimiser::pass;
+use runner::Ending;
+use runner::run;
+
+fn wide(x: u8) -> u64
+    ensures { λ r. ⌜ r ≡ x ⌝ }
+{
+    x as u64
+}
+
+// A refusal as a number.
+fn refused(number: u8, place: usize) -> u64
+    requires { ⌜ place ≤ 4096 ⌝ }
+    ensures { λ r. ⌜ r ≡ refusal number place ⌝ }
+{
+    wide(number) + 256 * place as u64
+}
+
+// 0 if the block is accepted, else number + 256 * place.
+#[no_mangle]
+pub extern "C" fn ngulo_check(block: &[u8]) -> u64
+    ensures { λ r. ⌜ r ≡ checkNumber (checkOf (now (block .entry))) ⌝ }
+{
+    let verdict = check(block);
+    match verdict {
+        Verdict::Accepted => 0,
+        Verdict::Refused { number, place } => refused(number, place),
+    }
+}
+
+// 256 * length of the result, which is in out; else number + 256 * place.
+#[no_mangle]
+pub extern "C" fn ngulo_pass(block: &[u8], out: &mut [u8]) -> u64
+    ensures { λ r. ⌜ (r ≡ passNumber ((passOf (now (block .entry)) (now (out .entry))) .answer)) × (now (out .exit) ≡ (passOf (now (block .entry)) (now (out .entry))) .out) ⌝ }
+{
+    let written = pass(block, out);
+    match written {
+        Written::Refused { number, place } => refused(number, place),
+        Written::Length(n) => 256 * n as u64,
+    }
+}
+
+// A report of four numbers.
+fn report_as(report: &mut [u64; 4], ending: u64, x: u64, y: u64, count: u64)
+    ensures { λ _. ⌜ now (report .exit) ≡ ending ∷ x ∷ y ∷ count ∷ [] ⌝ }
+{
+    *report = [ending, x, y, count];
+}
+
+// The flags of a fault, and 256 for a store.
+fn fault_flags(store: bool, flags: u8) -> u64
+    ensures { λ r. ⌜ r ≡ flags + 256 * cond store 1 0 ⌝ }
+{
+    if store {
+        return wide(flags) + 256;
+    }
+    wide(flags)
+}
+
+// 0 with a report of how the run ended, else number + 256 * place.
+#[no_mangle]
+pub extern "C" fn ngulo_run(
+    block: &[u8],
+    globals: &mut [u64],
+    memory: &mut [u8],
+    report: &mut [u64; 4],
+) -> u64
+    ensures { λ r. ⌜ RunAnswer (runOf (now (block .entry)) (now (globals .entry)) (now (memory .entry))) r (now (report .entry)) (now (report .exit)) (now (globals .exit)) (now (memory .exit)) ⌝ }
+{
+    let ending = run(block, globals, memory);
+    match ending {
+        Ending::Refused { number, place } => {
+            return refused(number, place);
+        }
+        Ending::Exit { value, count } => report_as(report, 1, value, 0, count),
+        Ending::Fault {
+            store,
+            address,
+            flags,
+            count,
+        } => report_as(report, 2, address, fault_flags(store, flags), count),
+        Ending::NoResult { position, count } => report_as(report, 3, position, 0, count),
+    }
+    0
+}
