@@ -10,3 +10,4 @@ pub mod Pruning
 pub mod Knowing
 pub mod Forward
 pub mod Passing
+pub mod Promise

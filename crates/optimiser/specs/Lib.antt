@@ -4,3 +4,4 @@ pub mod Choose
 pub mod Live
 pub mod Knows
 pub mod Ready
+pub mod Promise
