@@ -1,6 +1,7 @@
 // Blocks: their records and the rules that they must meet.
 ghost use mathlib.Core.Path.{_≡_};
 ghost use Rattle.block.specs.Checks.{checkOf};
+use ops::kinds::table;
 
 pub mod declarations;
 pub mod marks;
@@ -21,7 +22,15 @@ pub fn check(block: &[u8]) -> Verdict
     let mut types = [0u8; 256];
     let mut places = [0u16; 256];
     let mut labels = [0u16; 256];
-    let s = scan::scan(block, &mut classes, &mut types, &mut places, &mut labels);
+    let kinds = table();
+    let s = scan::scan(
+        &kinds,
+        block,
+        &mut classes,
+        &mut types,
+        &mut places,
+        &mut labels,
+    );
     let rule = s.rule;
     if rule == 0 {
         return Verdict::Accepted;

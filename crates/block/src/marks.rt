@@ -9,6 +9,7 @@ ghost use Rattle.memory.specs.Answer.{accessWidth};
 ghost use Rattle.memory.specs.Bytes.{lowFirst};
 ghost use Rattle.ops.specs.Kinds.{rowOf, condOk, labelOk, narrowOk};
 ghost use Rattle.ops.specs.Ops.{restOk, viewOf};
+ghost use Rattle.ops.specs.Table.{kindTable};
 ghost use Rattle.block.specs.Rules.{labelFree, nextLabels, nextTargets, allSet};
 ghost use Rattle.block.specs.Scan.{recordAt, Stands, SetAt, marked, numbered, labelledBy};
 use crate::rules::index;
@@ -68,16 +69,16 @@ fn branch_ok(c: u8, l: u8) -> bool
 }
 
 // Rule 6: the bytes from p on, which follow the operands.
-pub fn rest_ok(block: &[u8], p: usize, kind: u8) -> bool
-    requires { ⌜ p + (rowOf kind) .rest ≤ length (now block) ⌝ }
+pub fn rest_ok(kinds: &[u32; 256], block: &[u8], p: usize, kind: u8) -> bool
+    requires { ⌜ (p + (rowOf kind) .rest ≤ length (now block)) × (now kinds ≡ kindTable) ⌝ }
     ensures { λ r. ⌜ r ≡ restOk ((rowOf kind) .does) (take ((rowOf kind) .rest) (drop p (now (block .entry)))) ⌝ }
 {
-    let role = role_of(kind);
+    let role = role_of(kinds, kind);
     match role {
         Role::SetsLabel => block[p] <= 31,
         Role::Jumps => block[p] <= 31,
         Role::Constant => constant_ok(block, p, is_wide(kind)),
-        Role::Computes => rest_length(kind) == 0 || block[p] <= 9,
+        Role::Computes => rest_length(kinds, kind) == 0 || block[p] <= 9,
         Role::Branches => branch_ok(block[p], block[p + 1]),
         Role::Loads => flags_ok(block[p], is_wide(kind), false),
         Role::Stores => flags_ok(block[p], is_wide(kind), true),
@@ -95,11 +96,17 @@ fn is_set(labels: &[u16; 256], l: u8) -> bool
 }
 
 // Rule 7: the label of the op that starts at a place is not set yet.
-pub fn label_free(block: &[u8], at: usize, kind: u8, labels: &[u16; 256]) -> bool
-    requires { ⌜ Stands (now block) at kind ⌝ }
+pub fn label_free(
+    kinds: &[u32; 256],
+    block: &[u8],
+    at: usize,
+    kind: u8,
+    labels: &[u16; 256],
+) -> bool
+    requires { ⌜ Stands (now block) at kind × (now kinds ≡ kindTable) ⌝ }
     ensures { λ r. ⌜ r ≡ labelFree (numbered (now (labels .entry))) (viewOf (recordAt (now (block .entry)) at)) ⌝ }
 {
-    let role = role_of(kind);
+    let role = role_of(kinds, kind);
     match role {
         Role::SetsLabel => !is_set(labels, block[at + 1]),
         Role::Jumps => !is_set(labels, block[at + 1]),
@@ -109,11 +116,11 @@ pub fn label_free(block: &[u8], at: usize, kind: u8, labels: &[u16; 256]) -> boo
 }
 
 // The bytes written in the basic block once the op that starts at a place has run.
-pub fn mark_written(block: &[u8], at: usize, kind: u8, written: &mut [u8; 256])
-    requires { ⌜ Stands (now block) at kind ⌝ }
+pub fn mark_written(kinds: &[u32; 256], block: &[u8], at: usize, kind: u8, written: &mut [u8; 256])
+    requires { ⌜ Stands (now block) at kind × (now kinds ≡ kindTable) ⌝ }
     ensures { λ r. ⌜ marked (now (written .exit)) ≡ wrote (marked (now (written .entry))) (viewOf (recordAt (now (block .entry)) at)) ⌝ }
 {
-    let role = role_of(kind);
+    let role = role_of(kinds, kind);
     match role {
         Role::Constant => put(written, block[at + 1], 1),
         Role::Computes => put(written, block[at + 1], 1),
@@ -124,11 +131,18 @@ pub fn mark_written(block: &[u8], at: usize, kind: u8, written: &mut [u8; 256])
 }
 
 // The labels set once the op has been read: a label's number is one more than its op's.
-pub fn mark_label(block: &[u8], at: usize, kind: u8, op: usize, labels: &mut [u16; 256])
-    requires { ⌜ Stands (now block) at kind × (op < 1024) ⌝ }
+pub fn mark_label(
+    kinds: &[u32; 256],
+    block: &[u8],
+    at: usize,
+    kind: u8,
+    op: usize,
+    labels: &mut [u16; 256],
+)
+    requires { ⌜ Stands (now block) at kind × (op < 1024) × (now kinds ≡ kindTable) ⌝ }
     ensures { λ r. ⌜ (numbered (now (labels .exit)) ≡ nextLabels (numbered (now (labels .entry))) (viewOf (recordAt (now (block .entry)) at))) × (now (labels .exit) ≡ labelledBy (viewOf (recordAt (now (block .entry)) at)) op (now (labels .entry))) ⌝ }
 {
-    let role = role_of(kind);
+    let role = role_of(kinds, kind);
     match role {
         Role::SetsLabel => put_number(labels, block[at + 1], (op + 1) as u16),
         _ => {}
@@ -136,11 +150,11 @@ pub fn mark_label(block: &[u8], at: usize, kind: u8, op: usize, labels: &mut [u1
 }
 
 // The labels jumped to once the op has been read.
-pub fn mark_target(block: &[u8], at: usize, kind: u8, targets: &mut [u8; 256])
-    requires { ⌜ Stands (now block) at kind ⌝ }
+pub fn mark_target(kinds: &[u32; 256], block: &[u8], at: usize, kind: u8, targets: &mut [u8; 256])
+    requires { ⌜ Stands (now block) at kind × (now kinds ≡ kindTable) ⌝ }
     ensures { λ r. ⌜ marked (now (targets .exit)) ≡ nextTargets (marked (now (targets .entry))) (viewOf (recordAt (now (block .entry)) at)) ⌝ }
 {
-    let role = role_of(kind);
+    let role = role_of(kinds, kind);
     match role {
         Role::Jumps => put(targets, block[at + 1], 1),
         Role::Branches => put(targets, block[at + 4], 1),

@@ -3,6 +3,7 @@ ghost use mathlib.Core.Path.{_≡_};
 ghost use mathlib.Core.List.{[]};
 ghost use Prim.Native.Nat.{_<_};
 ghost use lib.ListN.{length};
+ghost use Rattle.ops.specs.Table.{kindTable};
 ghost use Rattle.block.specs.Checks.{firstBroken, opRules};
 ghost use Rattle.block.specs.Scan.{recordAt, recordRule, seenOf, Stands, OpAt, RecordAt, Marks, Begins, ScannedBy, Scanned};
 use super::declarations::scan_declarations;
@@ -23,6 +24,7 @@ use ops::kinds::wide_bits;
 
 // The rule from 9 on that the op at a place breaks, or 0.
 fn op_rule(
+    kinds: &[u32; 256],
     block: &[u8],
     at: usize,
     n: usize,
@@ -32,27 +34,27 @@ fn op_rule(
     written: &[u8; 256],
     labels: &[u16; 256],
 ) -> u8
-    requires { ⌜ OpAt (now block) (now classes) (now types) at n ⌝ }
+    requires { ⌜ OpAt (now block) (now classes) (now types) at n × (now kinds ≡ kindTable) ⌝ }
     ensures { λ r. ⌜ r ≡ firstBroken (opRules (seenOf (now (classes .entry)) (now (types .entry)) (now (written .entry)) (now (labels .entry)) [] n ops 0) (recordAt (now (block .entry)) at)) ⌝ }
 {
     if 256 <= ops {
         return 9;
     }
     let kind = block[at];
-    let count = operand_count(kind);
+    let count = operand_count(kinds, kind);
     if !all_below(block, at + 1, count, n) {
         return 4;
     }
-    if !types_match(block, at + 1, count, wide_bits(kind), types) {
+    if !types_match(block, at + 1, count, wide_bits(kinds, kind), types) {
         return 5;
     }
-    if !rest_ok(block, at + 1 + count, kind) {
+    if !rest_ok(kinds, block, at + 1 + count, kind) {
         return 6;
     }
-    if !label_free(block, at, kind, labels) {
+    if !label_free(kinds, block, at, kind, labels) {
         return 7;
     }
-    let outs = output_count(kind);
+    let outs = output_count(kinds, kind);
     if !may_read(block, at + 1 + outs, count - outs, classes, written) {
         return 8;
     }
@@ -61,6 +63,7 @@ fn op_rule(
 
 // The rule that the record at a place breaks, after ops ops; 0 if none.
 fn record_rule(
+    kinds: &[u32; 256],
     block: &[u8],
     at: usize,
     n: usize,
@@ -70,24 +73,25 @@ fn record_rule(
     written: &[u8; 256],
     labels: &[u16; 256],
 ) -> u8
-    requires { ⌜ RecordAt (now block) (now classes) (now types) at n ops ⌝ }
+    requires { ⌜ RecordAt (now block) (now classes) (now types) at n ops × (now kinds ≡ kindTable) ⌝ }
     ensures { λ r. ⌜ r ≡ recordRule (seenOf (now (classes .entry)) (now (types .entry)) (now (written .entry)) (now (labels .entry)) [] n ops 0) (now (block .entry)) at ⌝ }
 {
     let kind = block[at];
-    if !is_known(kind) {
+    if !is_known(kinds, kind) {
         return 2;
     }
-    if block.len() - at <= body_length(kind) {
+    if block.len() - at <= body_length(kinds, kind) {
         return 1;
     }
     if kind == 1 {
         return 3;
     }
-    op_rule(block, at, n, ops, classes, types, written, labels)
+    op_rule(kinds, block, at, n, ops, classes, types, written, labels)
 }
 
 // What the op at a place leaves in the arrays.
 fn mark_op(
+    kinds: &[u32; 256],
     block: &[u8],
     at: usize,
     kind: u8,
@@ -96,12 +100,12 @@ fn mark_op(
     labels: &mut [u16; 256],
     targets: &mut [u8; 256],
 )
-    requires { ⌜ Stands (now block) at kind × (op < 1024) ⌝ }
+    requires { ⌜ Stands (now block) at kind × (op < 1024) × (now kinds ≡ kindTable) ⌝ }
     ensures { λ r. ⌜ Marks (recordAt (now (block .entry)) at) op (now (written .entry)) (now (written .exit)) (now (labels .entry)) (now (labels .exit)) (now (targets .entry)) (now (targets .exit)) ⌝ }
 {
-    mark_written(block, at, kind, written);
-    mark_label(block, at, kind, op, labels);
-    mark_target(block, at, kind, targets);
+    mark_written(kinds, block, at, kind, written);
+    mark_label(kinds, block, at, kind, op, labels);
+    mark_target(kinds, block, at, kind, targets);
 }
 
 // What the scan of the ops finds: the rule that is broken and its place, or 0 and how many ops there are.
@@ -113,6 +117,7 @@ pub struct Ops {
 
 // Reads the ops from a place on; places and labels then hold where each op and label is.
 pub fn scan_ops(
+    kinds: &[u32; 256],
     block: &[u8],
     start: usize,
     n: usize,
@@ -121,7 +126,7 @@ pub fn scan_ops(
     places: &mut [u16; 256],
     labels: &mut [u16; 256],
 ) -> Ops
-    requires { ⌜ Begins (now block) (now classes) (now types) start n ⌝ }
+    requires { ⌜ Begins (now block) (now classes) (now types) start n × (now kinds ≡ kindTable) ⌝ }
     ensures { λ r. ⌜ ScannedBy (now (block .entry)) start (now (places .entry)) (now (places .exit)) (now (labels .exit)) (r .rule) (r .place) (r .ops) ⌝ }
 {
     let mut written = [0u8; 256];
@@ -131,7 +136,7 @@ pub fn scan_ops(
     let mut ops: usize = 0;
     let mut last: u8 = 0;
     while at < block.len() {
-        let rule = record_rule(block, at, n, ops, classes, types, &written, labels);
+        let rule = record_rule(kinds, block, at, n, ops, classes, types, &written, labels);
         if rule != 0 {
             return Ops {
                 rule,
@@ -140,11 +145,20 @@ pub fn scan_ops(
             };
         }
         let kind = block[at];
-        mark_op(block, at, kind, ops, &mut written, labels, &mut targets);
+        mark_op(
+            kinds,
+            block,
+            at,
+            kind,
+            ops,
+            &mut written,
+            labels,
+            &mut targets,
+        );
         places[ops] = (at % 65536) as u16;
         ops += 1;
         last = kind;
-        at += 1 + body_length(kind);
+        at += 1 + body_length(kinds, kind);
     }
     if last != 4 {
         return Ops {
@@ -180,13 +194,14 @@ pub struct Found {
 
 // Reads a block; of an accepted one the arrays then hold the variables' classes and types, and where each op and label is.
 pub fn scan(
+    kinds: &[u32; 256],
     block: &[u8],
     classes: &mut [u8; 256],
     types: &mut [u8; 256],
     places: &mut [u16; 256],
     labels: &mut [u16; 256],
 ) -> Found
-    requires { ⌜ (length (now classes) ≡ 256) × (length (now types) ≡ 256) ⌝ }
+    requires { ⌜ (length (now classes) ≡ 256) × (length (now types) ≡ 256) × (now kinds ≡ kindTable) ⌝ }
     ensures { λ r. ⌜ Scanned (now (block .entry)) (now (places .entry)) (now (classes .exit)) (now (types .exit)) (now (places .exit)) (now (labels .exit)) (r .rule) (r .place) (r .start) (r .variables) (r .globals) (r .ops) ⌝ }
 {
     let d = scan_declarations(block, classes, types);
@@ -203,7 +218,7 @@ pub fn scan(
             ops: 0,
         };
     }
-    let o = scan_ops(block, start, n, classes, types, places, labels);
+    let o = scan_ops(kinds, block, start, n, classes, types, places, labels);
     Found {
         rule: o.rule,
         place: o.place,

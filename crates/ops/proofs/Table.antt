@@ -1,13 +1,16 @@
 -- What an entry of the table of kinds holds, at every kind. Assumes nothing.
-use mathlib.Core.Path.{_≡_, refl, ap, _∙_}
+use mathlib.Core.Path.{_≡_, refl, sym, ap, _∙_}
 use mathlib.Core.Bool.{Bool, true, not, _&&_, Bool·beq}
-use Prim.Native.Nat.{ℕ, _/_, _%_, _<_}
+use mathlib.Core.List.{List, [], _∷_}
+use Prim.Native.Nat.{ℕ, zero, suc, _+_, _/_, _%_, _<_}
 use native.Mathlib.Omega.{arith}
+use native.Mathlib.Nat.{zero-add, suc-add, add-zero, add-suc}
 use lib.Dec.{eqb}
+use lib.ListN.{getD}
 use borrow.Author.Tests.{eqb-true}
 use Rattle.theory.proofs.Sets.{and-l, and-r}
 use Rattle.ops.specs.Kinds.{wideRow, rowOf, known, bodyLength, outputCount}
-use Rattle.ops.specs.Table.{operandWidths, operandCount, wideBits, roleNumber, entryOf}
+use Rattle.ops.specs.Table.{operandWidths, operandCount, wideBits, roleNumber, entryOf, entriesFrom, kindTable}
 use Rattle.ops.proofs.Ranges.{everyFrom, ranged, beq-same}
 
 -- the entry's digits are the kind's numbers
@@ -51,3 +54,13 @@ entry-holds k h = parts k (ranged digits 256 0 all-digits k (omega arith) (omega
 -- the role that the code reads
 pub role-read : (k : ℕ) {e : ℕ} → k < 256 → e ≡ entryOf k → e / 4096 % 16 ≡ roleNumber k
 role-read k h q = ap (λ (m : ℕ). m / 4096 % 16) q ∙ (entry-holds k h) .role
+
+-- an entry of the whole table
+entries-at : (n lo k : ℕ) → k < n → getD (entriesFrom lo n) k 0 ≡ entryOf (lo + k)
+entries-at zero lo k h = absurd (omega arith)
+entries-at (suc n) lo zero h = sym (ap entryOf (add-zero lo))
+entries-at (suc n) lo (suc k) h = entries-at n (suc lo) k (omega arith) ∙ ap entryOf (suc-add lo k ∙ sym (add-suc lo k))
+
+pub entry-at : (k : ℕ) {ks : List ℕ} → k < 256 → ks ≡ kindTable → getD ks k 0 ≡ entryOf k
+unfolding kindTable
+entry-at k h q = ap (λ (ks : List ℕ). getD ks k 0) q ∙ (entries-at 256 0 k h ∙ ap entryOf (zero-add k))

@@ -48,3 +48,11 @@ opWidth k = accessWidth (leb 0x80 k)
 
 unfoldable pub entryOf : ℕ → ℕ
 entryOf k = bodyLength k + 16 * outputCount k + 256 * operandCount k + 4096 * roleNumber k + 65536 * wideBits (operandWidths k)
+
+-- the table of the code: the entry of every kind
+abbrev pub entriesFrom : ℕ → ℕ → List ℕ
+entriesFrom k zero = []
+entriesFrom k (suc n) = entryOf k ∷ entriesFrom (suc k) n
+
+unfoldable pub kindTable : List ℕ
+kindTable = entriesFrom 0 256

@@ -2,7 +2,7 @@
 ghost use mathlib.Core.Path.{_≡_};
 ghost use lib.Dec.{leb};
 ghost use Rattle.ops.specs.Kinds.{rowOf, known, bodyLength, outputCount, pureKind};
-ghost use Rattle.ops.specs.Table.{entryOf, operandCount, operandWidths, wideBits, roleOf};
+ghost use Rattle.ops.specs.Table.{entryOf, kindTable, operandCount, operandWidths, wideBits, roleOf};
 
 // What a kind is for. Constant: a pure op that reads nothing, movi. Computes: one that reads something.
 pub enum Role {
@@ -279,54 +279,69 @@ const KINDS: [u32; 256] = [
     0x000000,
 ];
 
-pub fn entry(kind: u8) -> u32
+// The table, which a call makes once and lends.
+pub fn table() -> [u32; 256]
+    ensures { λ r. ⌜ r ≡ kindTable ⌝ }
+{
+    KINDS
+}
+
+pub fn entry(kinds: &[u32; 256], kind: u8) -> u32
+    requires { ⌜ now kinds ≡ kindTable ⌝ }
     ensures { λ r. ⌜ r ≡ entryOf kind ⌝ }
 {
-    KINDS[kind as usize]
+    kinds[kind as usize]
 }
 
-pub fn is_known(kind: u8) -> bool
+pub fn is_known(kinds: &[u32; 256], kind: u8) -> bool
+    requires { ⌜ now kinds ≡ kindTable ⌝ }
     ensures { λ r. ⌜ r ≡ known kind ⌝ }
 {
-    entry(kind) != 0
+    entry(kinds, kind) != 0
 }
 
-pub fn body_length(kind: u8) -> usize
+pub fn body_length(kinds: &[u32; 256], kind: u8) -> usize
+    requires { ⌜ now kinds ≡ kindTable ⌝ }
     ensures { λ r. ⌜ r ≡ bodyLength kind ⌝ }
 {
-    (entry(kind) % 16) as usize
+    (entry(kinds, kind) % 16) as usize
 }
 
-pub fn output_count(kind: u8) -> usize
+pub fn output_count(kinds: &[u32; 256], kind: u8) -> usize
+    requires { ⌜ now kinds ≡ kindTable ⌝ }
     ensures { λ r. ⌜ r ≡ outputCount kind ⌝ }
 {
-    (entry(kind) / 16 % 16) as usize
+    (entry(kinds, kind) / 16 % 16) as usize
 }
 
-pub fn operand_count(kind: u8) -> usize
+pub fn operand_count(kinds: &[u32; 256], kind: u8) -> usize
+    requires { ⌜ now kinds ≡ kindTable ⌝ }
     ensures { λ r. ⌜ r ≡ operandCount kind ⌝ }
 {
-    (entry(kind) / 256 % 16) as usize
+    (entry(kinds, kind) / 256 % 16) as usize
 }
 
-pub fn is_pure(kind: u8) -> bool
+pub fn is_pure(kinds: &[u32; 256], kind: u8) -> bool
+    requires { ⌜ now kinds ≡ kindTable ⌝ }
     ensures { λ r. ⌜ r ≡ pureKind kind ⌝ }
 {
-    let role = entry(kind) / 4096 % 16;
+    let role = entry(kinds, kind) / 4096 % 16;
     role == 5 || role == 6
 }
 
 // A bit for each operand, the first lowest: 1 if it has 64 bits.
-pub fn wide_bits(kind: u8) -> u32
+pub fn wide_bits(kinds: &[u32; 256], kind: u8) -> u32
+    requires { ⌜ now kinds ≡ kindTable ⌝ }
     ensures { λ r. ⌜ r ≡ wideBits (operandWidths kind) ⌝ }
 {
-    entry(kind) / 65536
+    entry(kinds, kind) / 65536
 }
 
-pub fn role_of(kind: u8) -> Role
+pub fn role_of(kinds: &[u32; 256], kind: u8) -> Role
+    requires { ⌜ now kinds ≡ kindTable ⌝ }
     ensures { λ r. ⌜ r ≡ roleOf kind ⌝ }
 {
-    let role = entry(kind) / 4096 % 16;
+    let role = entry(kinds, kind) / 4096 % 16;
     match role {
         1 => Role::Declares,
         2 => Role::SetsLabel,
@@ -342,10 +357,11 @@ pub fn role_of(kind: u8) -> Role
 }
 
 // How many bytes follow the operands.
-pub fn rest_length(kind: u8) -> usize
+pub fn rest_length(kinds: &[u32; 256], kind: u8) -> usize
+    requires { ⌜ now kinds ≡ kindTable ⌝ }
     ensures { λ r. ⌜ r ≡ (rowOf kind) .rest ⌝ }
 {
-    body_length(kind) - operand_count(kind)
+    body_length(kinds, kind) - operand_count(kinds, kind)
 }
 
 // The op has its 64-bit form.

@@ -5,7 +5,7 @@ ghost use Prim.Native.Nat.{_+_, _≤_, _<_};
 ghost use lib.ListN.{length, getD};
 ghost use Rattle.theory.specs.Machine.{upd};
 ghost use Rattle.ops.specs.Ops.{bytesAt};
-ghost use Rattle.ops.specs.Table.{roleOf};
+ghost use Rattle.ops.specs.Table.{kindTable, roleOf};
 ghost use Rattle.block.specs.Records.{recordsOf, opsFrom};
 ghost use Rattle.block.specs.Scan.{Stands, marked};
 ghost use Rattle.runner.specs.Evaluates.{Computed};
@@ -53,33 +53,35 @@ fn all_known(block: &[u8], from: usize, count: usize, known: &[u8; 256]) -> bool
 
 // What an op states where all its inputs are known.
 fn evaluate_known(
+    kinds: &[u32; 256],
     block: &[u8],
     at: usize,
     kind: u8,
     known: &[u8; 256],
     values: &[u64; 256],
 ) -> Stated
-    requires { ⌜ Computed (now block) at kind ⌝ }
+    requires { ⌜ Computed (now block) at kind × (now kinds ≡ kindTable) ⌝ }
     ensures { λ r. ⌜ StatesKnown (now (block .entry)) at kind (now (known .entry)) (now (values .entry)) r ⌝ }
 {
-    if all_known(block, at + 2, operand_count(kind) - 1, known) {
-        return evaluate(block, at, kind, values);
+    if all_known(block, at + 2, operand_count(kinds, kind) - 1, known) {
+        return evaluate(kinds, block, at, kind, values);
     }
     Stated::NoResult
 }
 
 // Fold at a pure op that reads something.
 fn fold_computing(
+    kinds: &[u32; 256],
     block: &[u8],
     at: usize,
     kind: u8,
     known: &mut [u8; 256],
     values: &mut [u64; 256],
 ) -> Stated
-    requires { ⌜ Computed (now block) at kind ⌝ }
+    requires { ⌜ Computed (now block) at kind × (now kinds ≡ kindTable) ⌝ }
     ensures { λ r. ⌜ Folds (now (block .entry)) at kind (now (known .entry)) (now (values .entry)) (now (known .exit)) (now (values .exit)) r ⌝ }
 {
-    let stated = evaluate_known(block, at, kind, known, values);
+    let stated = evaluate_known(kinds, block, at, kind, known, values);
     match stated {
         Stated::Value(x) => {
             learn(known, values, block[at + 1], x);
@@ -93,11 +95,18 @@ fn fold_computing(
 }
 
 // What is known after an op that fold leaves as it is.
-fn pass_over(block: &[u8], at: usize, kind: u8, known: &mut [u8; 256], values: &mut [u64; 256])
-    requires { ⌜ Stands (now block) at kind × (roleOf kind ≡ Role.Computes → ⊥) ⌝ }
+fn pass_over(
+    kinds: &[u32; 256],
+    block: &[u8],
+    at: usize,
+    kind: u8,
+    known: &mut [u8; 256],
+    values: &mut [u64; 256],
+)
+    requires { ⌜ Stands (now block) at kind × (roleOf kind ≡ Role.Computes → ⊥) × (now kinds ≡ kindTable) ⌝ }
     ensures { λ _. ⌜ Folds (now (block .entry)) at kind (now (known .entry)) (now (values .entry)) (now (known .exit)) (now (values .exit)) Stated.NoResult ⌝ }
 {
-    let role = role_of(kind);
+    let role = role_of(kinds, kind);
     match role {
         Role::Constant => learn(known, values, block[at + 1], low_first(block, at + 2, 8)),
         Role::Loads => put(known, block[at + 1], 0),
@@ -107,10 +116,11 @@ fn pass_over(block: &[u8], at: usize, kind: u8, known: &mut [u8; 256], values: &
 }
 
 // Whether a kind is pure and reads something.
-fn is_computing(kind: u8) -> bool
+fn is_computing(kinds: &[u32; 256], kind: u8) -> bool
+    requires { ⌜ now kinds ≡ kindTable ⌝ }
     ensures { λ r. ⌜ IfComputes r kind ⌝ }
 {
-    let role = role_of(kind);
+    let role = role_of(kinds, kind);
     match role {
         Role::Computes => true,
         _ => false,
@@ -119,24 +129,26 @@ fn is_computing(kind: u8) -> bool
 
 // Fold at one op: the constant's value if one takes its place.
 fn fold_op(
+    kinds: &[u32; 256],
     block: &[u8],
     at: usize,
     kind: u8,
     known: &mut [u8; 256],
     values: &mut [u64; 256],
 ) -> Stated
-    requires { ⌜ Stands (now block) at kind ⌝ }
+    requires { ⌜ Stands (now block) at kind × (now kinds ≡ kindTable) ⌝ }
     ensures { λ r. ⌜ Folds (now (block .entry)) at kind (now (known .entry)) (now (values .entry)) (now (known .exit)) (now (values .exit)) r ⌝ }
 {
-    if is_computing(kind) {
-        return fold_computing(block, at, kind, known, values);
+    if is_computing(kinds, kind) {
+        return fold_computing(kinds, block, at, kind, known, values);
     }
-    pass_over(block, at, kind, known, values);
+    pass_over(kinds, block, at, kind, known, values);
     Stated::NoResult
 }
 
 // Fold at the i-th op: its byte, and its constant if it has one.
 fn fold_at(
+    kinds: &[u32; 256],
     block: &[u8],
     at: usize,
     i: usize,
@@ -145,10 +157,10 @@ fn fold_at(
     folded: &mut [u8],
     consts: &mut [u64],
 )
-    requires { ⌜ Stands (now block) at (getD (now block) at 0) × (i < length (now folded)) × (i < length (now consts)) ⌝ }
+    requires { ⌜ Stands (now block) at (getD (now block) at 0) × (i < length (now folded)) × (i < length (now consts)) × (now kinds ≡ kindTable) ⌝ }
     ensures { λ _. ⌜ FoldsAt (now (block .entry)) at i (now (known .entry)) (now (values .entry)) (now (known .exit)) (now (values .exit)) (now (folded .entry)) (now (consts .entry)) (now (folded .exit)) (now (consts .exit)) ⌝ }
 {
-    let stated = fold_op(block, at, block[at], known, values);
+    let stated = fold_op(kinds, block, at, block[at], known, values);
     match stated {
         Stated::Value(x) => {
             folded[i] = 1;
@@ -159,8 +171,15 @@ fn fold_at(
 }
 
 // Which ops fold replaces, read forward, and the constants that take their places.
-pub fn fold(block: &[u8], ops: usize, places: &[u16; 256], folded: &mut [u8], consts: &mut [u64])
-    requires { ⌜ OpsHere (now block) (now places) (opsFrom (recordsOf (now block))) ops × (length (now folded) ≡ 256) × (length (now consts) ≡ 256) ⌝ }
+pub fn fold(
+    kinds: &[u32; 256],
+    block: &[u8],
+    ops: usize,
+    places: &[u16; 256],
+    folded: &mut [u8],
+    consts: &mut [u64],
+)
+    requires { ⌜ OpsHere (now block) (now places) (opsFrom (recordsOf (now block))) ops × (length (now folded) ≡ 256) × (length (now consts) ≡ 256) × (now kinds ≡ kindTable) ⌝ }
     ensures { λ _. ⌜ FoldsAll (now (block .entry)) (now (folded .exit)) (now (consts .exit)) ⌝ }
 {
     let mut known = [0u8; 256];
@@ -168,6 +187,7 @@ pub fn fold(block: &[u8], ops: usize, places: &[u16; 256], folded: &mut [u8], co
     let mut i: usize = 0;
     while i < ops {
         fold_at(
+            kinds,
             block,
             places[i] as usize,
             i,

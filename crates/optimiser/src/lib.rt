@@ -1,8 +1,10 @@
 // The pass: fold, prune and the result in the lent buffer.
 ghost use mathlib.Core.Path.{_≡_};
+ghost use Rattle.ops.specs.Table.{kindTable};
 ghost use Rattle.optimiser.specs.Passes.{passOf};
 ghost use Rattle.optimiser.specs.Ready.{Ready};
 use block::scan::scan;
+use ops::kinds::table;
 
 mod emit;
 mod fold;
@@ -16,6 +18,7 @@ pub enum Written {
 
 // The pass of an accepted block with n variables.
 fn write_result(
+    kinds: &[u32; 256],
     block: &[u8],
     ops: usize,
     places: &[u16; 256],
@@ -23,16 +26,16 @@ fn write_result(
     n: usize,
     out: &mut [u8],
 ) -> Written
-    requires { ⌜ Ready (now block) (now places) (now classes) ops n ⌝ }
+    requires { ⌜ Ready (now block) (now places) (now classes) ops n × (now kinds ≡ kindTable) ⌝ }
     ensures { λ r. ⌜ (r ≡ (passOf (now (block .entry)) (now (out .entry))) .answer) × (now (out .exit) ≡ (passOf (now (block .entry)) (now (out .entry))) .out) ⌝ }
 {
     let mut folded = [0u8; 256];
     let mut consts = [0u64; 256];
-    fold::fold(block, ops, places, &mut folded, &mut consts);
+    fold::fold(kinds, block, ops, places, &mut folded, &mut consts);
     let mut keep = [0u8; 256];
-    prune::prune(block, ops, places, &folded, classes, n, &mut keep);
+    prune::prune(kinds, block, ops, places, &folded, classes, n, &mut keep);
     let start = 3 * n;
-    let size = start + emit::kept_size(block, ops, places, &folded, &keep);
+    let size = start + emit::kept_size(kinds, block, ops, places, &folded, &keep);
     if out.len() < size {
         return Written::Refused {
             number: 12,
@@ -40,7 +43,17 @@ fn write_result(
         };
     }
     emit::copy(block, 0, start, out, 0);
-    emit::emit_ops(block, ops, places, &folded, &consts, &keep, out, start);
+    emit::emit_ops(
+        kinds,
+        block,
+        ops,
+        places,
+        &folded,
+        &consts,
+        &keep,
+        out,
+        start,
+    );
     Written::Length(size)
 }
 
@@ -52,7 +65,15 @@ pub fn pass(block: &[u8], out: &mut [u8]) -> Written
     let mut types = [0u8; 256];
     let mut places = [0u16; 256];
     let mut labels = [0u16; 256];
-    let s = scan(block, &mut classes, &mut types, &mut places, &mut labels);
+    let kinds = table();
+    let s = scan(
+        &kinds,
+        block,
+        &mut classes,
+        &mut types,
+        &mut places,
+        &mut labels,
+    );
     let rule = s.rule;
     if rule != 0 {
         return Written::Refused {
@@ -60,5 +81,5 @@ pub fn pass(block: &[u8], out: &mut [u8]) -> Written
             place: s.place,
         };
     }
-    write_result(block, s.ops, &places, &classes, s.variables, out)
+    write_result(&kinds, block, s.ops, &places, &classes, s.variables, out)
 }

@@ -8,6 +8,7 @@ ghost use lib.ListN.{length, take};
 ghost use Rattle.theory.specs.Sets.{without, plus, both};
 ghost use Rattle.theory.specs.Prune.{dead};
 ghost use Rattle.ops.specs.Ops.{bytesAt, viewOf};
+ghost use Rattle.ops.specs.Table.{kindTable};
 ghost use Rattle.block.specs.Rules.{globalsIn, keptIn};
 ghost use Rattle.block.specs.Scan.{recordAt, Stands, marked};
 ghost use Rattle.optimiser.specs.Choose.{pickOp, Foldable, Chosen};
@@ -109,6 +110,7 @@ fn pure_before(block: &[u8], at: usize, inputs: usize, live: &mut [u8; 256])
 
 // What is live before an op that is kept, from what is live after it.
 fn live_before(
+    kinds: &[u32; 256],
     block: &[u8],
     at: usize,
     kind: u8,
@@ -116,12 +118,12 @@ fn live_before(
     n: usize,
     live: &mut [u8; 256],
 )
-    requires { ⌜ Declared (now classes) n × Stands (now block) at kind ⌝ }
+    requires { ⌜ Declared (now classes) n × Stands (now block) at kind × (now kinds ≡ kindTable) ⌝ }
     ensures { λ _. ⌜ marked (now (live .exit)) ≡ liveBefore (take n (now (classes .entry))) (recordAt (now (block .entry)) at) (marked (now (live .entry))) ⌝ }
 {
-    let role = role_of(kind);
+    let role = role_of(kinds, kind);
     match role {
-        Role::Computes => pure_before(block, at, operand_count(kind) - 1, live),
+        Role::Computes => pure_before(block, at, operand_count(kinds, kind) - 1, live),
         Role::Constant => pure_before(block, at, 0, live),
         Role::Loads => load_before(block, at, classes, n, live),
         Role::Stores => store_before(block, at, classes, n, live),
@@ -142,11 +144,11 @@ fn is_dead(live: &[u8; 256], v: u8) -> bool
 }
 
 // Whether an op is pure and its output is not live after it.
-fn dead_op(block: &[u8], at: usize, kind: u8, live: &[u8; 256]) -> bool
-    requires { ⌜ Stands (now block) at kind ⌝ }
+fn dead_op(kinds: &[u32; 256], block: &[u8], at: usize, kind: u8, live: &[u8; 256]) -> bool
+    requires { ⌜ Stands (now block) at kind × (now kinds ≡ kindTable) ⌝ }
     ensures { λ r. ⌜ r ≡ dead (viewOf (recordAt (now (block .entry)) at)) (marked (now (live .entry))) ⌝ }
 {
-    let role = role_of(kind);
+    let role = role_of(kinds, kind);
     match role {
         Role::Computes => is_dead(live, block[at + 1]),
         Role::Constant => is_dead(live, block[at + 1]),
@@ -156,6 +158,7 @@ fn dead_op(block: &[u8], at: usize, kind: u8, live: &[u8; 256]) -> bool
 
 // Prune at one op, or at the constant in its place: 1 if it is kept.
 fn prune_op(
+    kinds: &[u32; 256],
     block: &[u8],
     at: usize,
     folded: u8,
@@ -163,23 +166,24 @@ fn prune_op(
     n: usize,
     live: &mut [u8; 256],
 ) -> u8
-    requires { ⌜ Declared (now classes) n × Foldable (now block) at folded ⌝ }
+    requires { ⌜ Declared (now classes) n × Foldable (now block) at folded × (now kinds ≡ kindTable) ⌝ }
     ensures { λ r. ⌜ ((value : ℕ) → Prunes (take n (now (classes .entry))) (pickOp folded value (recordAt (now (block .entry)) at)) (now (live .entry)) (now (live .exit)) r) ⌝ }
 {
     let kind = block[at];
-    if dead_op(block, at, kind, live) {
+    if dead_op(kinds, block, at, kind, live) {
         return 0;
     }
     if folded == 1 {
         put(live, block[at + 1], 0);
         return 1;
     }
-    live_before(block, at, kind, classes, n, live);
+    live_before(kinds, block, at, kind, classes, n, live);
     1
 }
 
 // Which ops prune keeps, read backward.
 pub fn prune(
+    kinds: &[u32; 256],
     block: &[u8],
     ops: usize,
     places: &[u16; 256],
@@ -188,7 +192,7 @@ pub fn prune(
     n: usize,
     keep: &mut [u8],
 )
-    requires { ⌜ Declared (now classes) n × Chosen (now block) (now places) (now folded) ops × (length (now keep) ≡ 256) ⌝ }
+    requires { ⌜ Declared (now classes) n × Chosen (now block) (now places) (now folded) ops × (length (now keep) ≡ 256) × (now kinds ≡ kindTable) ⌝ }
     ensures { λ _. ⌜ Keeps (now (block .entry)) (now (folded .entry)) (take n (now (classes .entry))) (now (keep .exit)) ⌝ }
 {
     let mut live = [0u8; 256];
@@ -196,6 +200,14 @@ pub fn prune(
     let mut i = ops;
     while 0 < i {
         i -= 1;
-        keep[i] = prune_op(block, places[i] as usize, folded[i], classes, n, &mut live);
+        keep[i] = prune_op(
+            kinds,
+            block,
+            places[i] as usize,
+            folded[i],
+            classes,
+            n,
+            &mut live,
+        );
     }
 }

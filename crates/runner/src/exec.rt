@@ -3,6 +3,7 @@ ghost use mathlib.Core.Path.{_≡_};
 ghost use Prim.Native.Nat.{_+_, _<_};
 ghost use lib.ListN.{getD};
 ghost use Rattle.theory.specs.Machine.{cost};
+ghost use Rattle.ops.specs.Table.{kindTable};
 ghost use Rattle.runner.specs.Runs.{answerOf};
 ghost use Rattle.runner.specs.Steps.{endOf, Ready, Executed};
 use crate::Ending;
@@ -54,6 +55,7 @@ fn ended(stop: Stop, op: usize, count: u64) -> Ending
 
 // Runs the ops from the first on. A jump goes to its label's op, whose number the scan kept.
 pub fn execute(
+    kinds: &[u32; 256],
     block: &[u8],
     start: usize,
     ops: usize,
@@ -62,7 +64,7 @@ pub fn execute(
     values: &mut [u64; 256],
     memory: &mut [u8],
 ) -> Ending
-    requires { ⌜ Ready (now block) (now places) (now labels) start ops ⌝ }
+    requires { ⌜ Ready (now block) (now places) (now labels) start ops × (now kinds ≡ kindTable) ⌝ }
     ensures { λ r. ⌜ Executed (now (block .entry)) (now (values .entry)) (now (memory .entry)) (now (values .exit)) (now (memory .exit)) r ⌝ }
 {
     let mut op: usize = 0;
@@ -70,11 +72,11 @@ pub fn execute(
     let mut count: u64 = 0;
     while op < ops {
         let kind = block[at];
-        let outcome = step(block, at, kind, values, memory);
+        let outcome = step(kinds, block, at, kind, values, memory);
         match outcome {
             Outcome::Falls => {
                 op += 1;
-                at += 1 + body_length(kind);
+                at += 1 + body_length(kinds, kind);
             }
             Outcome::JumpsTo(l) => {
                 op = number_of(labels, index(l)) - 1;

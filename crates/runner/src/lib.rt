@@ -2,11 +2,13 @@
 ghost use mathlib.Core.Path.{_≡_};
 ghost use Prim.Native.Nat.{_≤_};
 ghost use lib.ListN.{length};
+ghost use Rattle.ops.specs.Table.{kindTable};
 ghost use Rattle.block.specs.Records.{recordsOf, opsFrom};
 ghost use Rattle.runner.specs.Runs.{runOf, runOps};
 ghost use Rattle.runner.specs.Steps.{Ready, ranAs};
 use block::scan::scan;
 use exec::execute;
+use ops::kinds::table;
 use values::copy_in;
 use values::copy_out;
 use values::lent_ok;
@@ -40,6 +42,7 @@ pub enum Ending {
 
 // Runs the ops of a block that the scan has accepted.
 fn run_ops(
+    kinds: &[u32; 256],
     block: &[u8],
     start: usize,
     ops: usize,
@@ -48,12 +51,21 @@ fn run_ops(
     globals: &mut [u64],
     memory: &mut [u8],
 ) -> Ending
-    requires { ⌜ Ready (now block) (now places) (now labels) start ops × (length (now globals) ≤ 256) ⌝ }
+    requires { ⌜ Ready (now block) (now places) (now labels) start ops × (length (now globals) ≤ 256) × (now kinds ≡ kindTable) ⌝ }
     ensures { λ r. ⌜ ranAs r (now (globals .exit)) (now (memory .exit)) ≡ runOps (opsFrom (recordsOf (now (block .entry)))) (now (globals .entry)) (now (memory .entry)) ⌝ }
 {
     let mut values = [0u64; 256];
     copy_in(globals, &mut values);
-    let ending = execute(block, start, ops, places, labels, &mut values, memory);
+    let ending = execute(
+        kinds,
+        block,
+        start,
+        ops,
+        places,
+        labels,
+        &mut values,
+        memory,
+    );
     copy_out(&values, globals);
     ending
 }
@@ -66,7 +78,15 @@ pub fn run(block: &[u8], globals: &mut [u64], memory: &mut [u8]) -> Ending
     let mut types = [0u8; 256];
     let mut places = [0u16; 256];
     let mut labels = [0u16; 256];
-    let s = scan(block, &mut classes, &mut types, &mut places, &mut labels);
+    let kinds = table();
+    let s = scan(
+        &kinds,
+        block,
+        &mut classes,
+        &mut types,
+        &mut places,
+        &mut labels,
+    );
     let rule = s.rule;
     if rule != 0 {
         return Ending::Refused {
@@ -80,5 +100,14 @@ pub fn run(block: &[u8], globals: &mut [u64], memory: &mut [u8]) -> Ending
             place: 0,
         };
     }
-    run_ops(block, s.start, s.ops, &places, &labels, globals, memory)
+    run_ops(
+        &kinds,
+        block,
+        s.start,
+        s.ops,
+        &places,
+        &labels,
+        globals,
+        memory,
+    )
 }

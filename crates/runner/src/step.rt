@@ -5,6 +5,7 @@ ghost use lib.ListN.{length, getD};
 ghost use Rattle.word.specs.Condition.{condW};
 ghost use Rattle.memory.specs.Answer.{accessWidth};
 ghost use Rattle.ops.specs.Ops.{viewOf};
+ghost use Rattle.ops.specs.Table.{kindTable};
 ghost use Rattle.block.specs.Scan.{recordAt, Stands};
 ghost use Rattle.runner.specs.Evaluates.{Computed};
 ghost use Rattle.runner.specs.Steps.{Performs, PerformsAlone, branchOp, loadOp, storeOp, constantOp};
@@ -114,11 +115,17 @@ fn constant_step(block: &[u8], at: usize, values: &mut [u64; 256]) -> Outcome
 }
 
 // A pure op that reads something: d, its inputs, and for some the condition.
-fn compute_step(block: &[u8], at: usize, kind: u8, values: &mut [u64; 256]) -> Outcome
-    requires { ⌜ Computed (now block) at kind ⌝ }
+fn compute_step(
+    kinds: &[u32; 256],
+    block: &[u8],
+    at: usize,
+    kind: u8,
+    values: &mut [u64; 256],
+) -> Outcome
+    requires { ⌜ Computed (now block) at kind × (now kinds ≡ kindTable) ⌝ }
     ensures { λ r. ⌜ PerformsAlone (viewOf (recordAt (now (block .entry)) at)) (now (values .entry)) (now (values .exit)) r ⌝ }
 {
-    let stated = evaluate(block, at, kind, values);
+    let stated = evaluate(kinds, block, at, kind, values);
     match stated {
         Stated::Value(v) => {
             put(values, block[at + 1], v);
@@ -130,18 +137,19 @@ fn compute_step(block: &[u8], at: usize, kind: u8, values: &mut [u64; 256]) -> O
 
 // Runs the op of this kind that starts at a place.
 pub fn step(
+    kinds: &[u32; 256],
     block: &[u8],
     at: usize,
     kind: u8,
     values: &mut [u64; 256],
     memory: &mut [u8],
 ) -> Outcome
-    requires { ⌜ Stands (now block) at kind ⌝ }
+    requires { ⌜ Stands (now block) at kind × (now kinds ≡ kindTable) ⌝ }
     ensures { λ r. ⌜ Performs (viewOf (recordAt (now (block .entry)) at)) (now (values .entry)) (now (memory .entry)) (now (values .exit)) (now (memory .exit)) r ⌝ }
 {
-    let role = role_of(kind);
+    let role = role_of(kinds, kind);
     match role {
-        Role::Computes => compute_step(block, at, kind, values),
+        Role::Computes => compute_step(kinds, block, at, kind, values),
         Role::Constant => constant_step(block, at, values),
         Role::Loads => load_step(block, at, is_wide(kind), values, memory),
         Role::Stores => store_step(block, at, values, memory),

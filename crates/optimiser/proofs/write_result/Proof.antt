@@ -13,49 +13,50 @@ slice-aggregate-fold-2 : tie.Need-slice-aggregate-fold-2
 slice-aggregate-fold-2 c = search needs
 
 fold-requires : tie.Need-fold-requires
-fold-requires c κs = (c .before .before .before .before .pre .here, refl, refl)
+fold-requires c κs =
+    (c .before .before .before .before .pre .0 .here, refl, refl, c .before .before .before .before .pre .1)
 
 slice-aggregate-prune : tie.Need-slice-aggregate-prune
 slice-aggregate-prune c = search needs
 
 prune-requires : tie.Need-prune-requires
 prune-requires c κs =
-    (its-variables (c .before .before .before .before .before .before .before .before .before .pre), its-choice (c .before .before .before .before .before .before .before .before .before .pre) (c .before .before .before .before .fold .ensures), refl)
+    (its-variables (c .before .before .before .before .before .before .before .before .before .pre .0), its-choice (c .before .before .before .before .before .before .before .before .before .pre .0) (c .before .before .before .before .fold .ensures), refl, c .before .before .before .before .before .before .before .before .before .pre .1)
 
 mul-start : tie.Need-mul-start
-mul-start c = omega (arith, c .before .before .before .before .before .before .before .before .before .before .before .pre .few)
+mul-start c = omega (arith, c .before .before .before .before .before .before .before .before .before .before .before .pre .0 .few)
 
 kept-size-requires : tie.Need-kept-size-requires
 kept-size-requires c κs =
-    its-choice (c .before .before .before .before .before .before .before .before .before .before .before .before .before .pre) (c .before .before .before .before .before .before .before .before .fold .ensures)
+    (its-choice (c .before .before .before .before .before .before .before .before .before .before .before .before .before .pre .0) (c .before .before .before .before .before .before .before .before .fold .ensures), c .before .before .before .before .before .before .before .before .before .before .before .before .before .pre .1)
 
 add-size : tie.Need-add-size
 add-size c =
-    let r = c .before .before .before .before .before .before .before .before .before .before .before .before .before .before .pre in
+    let r = c .before .before .before .before .before .before .before .before .before .before .before .before .before .before .pre .0 in
     omega (arith, result-small r, result-size r (c .before .before .before .before .before .before .before .before .before .fold .ensures) (c .before .before .before .before .prune .ensures) (c .kept-size .ensures))
 
 returns : tie.Need-returns
 returns c =
-    pass-short (c .before .before .before .before .before .before .before .before .before .before .before .before .before .before .before .pre) (c .before .before .before .before .before .before .before .before .before .before .fold .ensures) (c .before .before .before .before .before .prune .ensures) (c .before .kept-size .ensures) (c .if1 .taken)
+    pass-short (c .before .before .before .before .before .before .before .before .before .before .before .before .before .before .before .pre .0) (c .before .before .before .before .before .before .before .before .before .before .fold .ensures) (c .before .before .before .before .before .prune .ensures) (c .before .kept-size .ensures) (c .if1 .taken)
 
 copy-requires : tie.Need-copy-requires
 copy-requires c κs =
-    (omega (arith, declared-fit (c .before .before .before .before .before .before .before .before .before .before .before .before .before .before .before .before .pre)), omega (arith, c .before .if1 .left))
+    (omega (arith, declared-fit (c .before .before .before .before .before .before .before .before .before .before .before .before .before .before .before .before .pre .0)), omega (arith, c .before .if1 .left))
 
 emit-ops-requires : tie.Need-emit-ops-requires
 emit-ops-requires c κs =
-    let r = c .before .before .before .before .before .before .before .before .before .before .before .before .before .before .before .before .before .before .before .before .before .before .before .pre in
+    let r = c .before .before .before .before .before .before .before .before .before .before .before .before .before .before .before .before .before .before .before .before .before .before .before .pre .0 in
     let f = c .before .before .before .before .before .before .before .before .before .before .before .before .before .before .before .before .before .before .fold .ensures in
     let k = c .before .before .before .before .before .before .before .before .before .before .before .before .before .prune .ensures in
     let s = c .before .before .before .before .before .before .before .before .before .kept-size .ensures in
-    (its-choice r f, ops-fit r f k s (c .before .before .before .before .before .before .before .before .before .before .before .before .before .before .before .before .before .before .before .before .before .before .before .args .out .now) (c .before .before .before .before .before .before .before .before .if1 .left) (c .before .before .before .before .before .before .copy .ensures))
+    (its-choice r f, ops-fit r f k s (c .before .before .before .before .before .before .before .before .before .before .before .before .before .before .before .before .before .before .before .before .before .before .before .args .out .now) (c .before .before .before .before .before .before .before .before .if1 .left) (c .before .before .before .before .before .before .copy .ensures), c .before .before .before .before .before .before .before .before .before .before .before .before .before .before .before .before .before .before .before .before .before .before .before .pre .1)
 
 same-length : tie.Need-same-length
 same-length c = search needs
 
 returns-2 : tie.Need-returns-2
 returns-2 c =
-    let r = c .before .before .before .before .before .before .before .before .before .before .before .before .before .before .before .before .before .before .before .before .before .before .before .before .before .before .pre in
+    let r = c .before .before .before .before .before .before .before .before .before .before .before .before .before .before .before .before .before .before .before .before .before .before .before .before .before .before .pre .0 in
     let f = c .before .before .before .before .before .before .before .before .before .before .before .before .before .before .before .before .before .before .before .before .before .fold .ensures in
     let k = c .before .before .before .before .before .before .before .before .before .before .before .before .before .before .before .before .prune .ensures in
     let s = c .before .before .before .before .before .before .before .before .before .before .before .before .kept-size .ensures in

@@ -12,7 +12,8 @@ copy-in-requires : tie.Need-copy-in-requires
 copy-in-requires c κs = (refl, c .before .before .before .before .before .pre .1)
 
 execute-requires : tie.Need-execute-requires
-execute-requires c κs = c .before .before .before .before .before .before .before .before .before .pre .0
+execute-requires c κs =
+    (c .before .before .before .before .before .before .before .before .before .pre .0, c .before .before .before .before .before .before .before .before .before .pre .2)
 
 copy-out-requires : tie.Need-copy-out-requires
 copy-out-requires c κs = c .before .before .before .before .before .before .before .before .before .before .before .before .before .before .pre .1

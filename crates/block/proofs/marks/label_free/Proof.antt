@@ -10,7 +10,7 @@ use Rattle.block.proofs.marks.label_free.Statement.{statement}
 use Rattle.block.proofs.marks.label_free.Tie as tie
 
 role-of-requires : tie.Need-role-of-requires
-role-of-requires c κs = tt
+role-of-requires c κs = search needs
 
 enum-told : tie.Need-enum-told
 enum-told c = c .match .keys1
@@ -20,7 +20,7 @@ add-is-set c = search needs
 
 shared-slice-read-is-set : tie.Need-shared-slice-read-is-set
 shared-slice-read-is-set c =
-    inside (c .before .before .before .before .before .pre) (sym (c .before .before .before .role-of .ensures) ∙ c .before .enum-told .given .1) 1 (omega arith)
+    inside (c .before .before .before .before .before .pre .0) (sym (c .before .before .before .role-of .ensures) ∙ c .before .enum-told .given .1) 1 (omega arith)
 
 is-set-requires : tie.Need-is-set-requires
 is-set-requires c κs = tt
@@ -33,7 +33,7 @@ add-is-set-2 c = search needs
 
 shared-slice-read-is-set-2 : tie.Need-shared-slice-read-is-set-2
 shared-slice-read-is-set-2 c =
-    inside (c .before .before .before .before .before .pre) (sym (c .before .before .before .role-of .ensures) ∙ c .before .enum-told2 .given .1) 1 (omega arith)
+    inside (c .before .before .before .before .before .pre .0) (sym (c .before .before .before .role-of .ensures) ∙ c .before .enum-told2 .given .1) 1 (omega arith)
 
 is-set-requires-2 : tie.Need-is-set-requires-2
 is-set-requires-2 c κs = tt
@@ -46,26 +46,26 @@ add-is-set-3 c = search needs
 
 shared-slice-read-is-set-3 : tie.Need-shared-slice-read-is-set-3
 shared-slice-read-is-set-3 c =
-    inside (c .before .before .before .before .before .pre) (sym (c .before .before .before .role-of .ensures) ∙ c .before .enum-told3 .given .1) 4 (omega arith)
+    inside (c .before .before .before .before .before .pre .0) (sym (c .before .before .before .role-of .ensures) ∙ c .before .enum-told3 .given .1) 4 (omega arith)
 
 is-set-requires-3 : tie.Need-is-set-requires-3
 is-set-requires-3 c κs = tt
 
 returns : tie.Need-returns
 returns c =
-    rw (c .is-set .ensures, label-view (c .before .before .before .before .before .before .pre) (sym (c .before .before .before .before .role-of .ensures) ∙ c .before .before .enum-told .given .1))
+    rw (c .is-set .ensures, label-view (c .before .before .before .before .before .before .pre .0) (sym (c .before .before .before .before .role-of .ensures) ∙ c .before .before .enum-told .given .1))
 
 returns-2 : tie.Need-returns-2
 returns-2 c =
-    rw (c .is-set2 .ensures, jump-view (c .before .before .before .before .before .before .pre) (sym (c .before .before .before .before .role-of .ensures) ∙ c .before .before .enum-told2 .given .1))
+    rw (c .is-set2 .ensures, jump-view (c .before .before .before .before .before .before .pre .0) (sym (c .before .before .before .before .role-of .ensures) ∙ c .before .before .enum-told2 .given .1))
 
 returns-3 : tie.Need-returns-3
 returns-3 c =
-    rw (c .is-set3 .ensures, branch-view (c .before .before .before .before .before .before .pre) (sym (c .before .before .before .before .role-of .ensures) ∙ c .before .before .enum-told3 .given .1))
+    rw (c .is-set3 .ensures, branch-view (c .before .before .before .before .before .before .pre .0) (sym (c .before .before .before .before .role-of .ensures) ∙ c .before .before .enum-told3 .given .1))
 
 returns-4 : tie.Need-returns-4
 returns-4 c =
-    none-named (c .before .before .before .pre)
+    none-named (c .before .before .before .pre .0)
     (λ e. miss (0 ∷ 1 ∷ 4 ∷ 5 ∷ 6 ∷ 8 ∷ 9 ∷ []) 2 tt (rw (c .before .role-of .ensures ∙ e) at (c .match .keys4)))
     (λ e. miss (0 ∷ 1 ∷ 4 ∷ 5 ∷ 6 ∷ 8 ∷ 9 ∷ []) 3 tt (rw (c .before .role-of .ensures ∙ e) at (c .match .keys4)))
     (λ e. miss (0 ∷ 1 ∷ 4 ∷ 5 ∷ 6 ∷ 8 ∷ 9 ∷ []) 7 tt (rw (c .before .role-of .ensures ∙ e) at (c .match .keys4)))

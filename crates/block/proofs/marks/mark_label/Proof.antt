@@ -11,7 +11,7 @@ use Rattle.block.proofs.marks.mark_label.Statement.{statement}
 use Rattle.block.proofs.marks.mark_label.Tie as tie
 
 role-of-requires : tie.Need-role-of-requires
-role-of-requires c κs = tt
+role-of-requires c κs = search needs
 
 enum-told : tie.Need-enum-told
 enum-told c = c .match .keys1

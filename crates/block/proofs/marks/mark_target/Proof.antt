@@ -11,7 +11,7 @@ use Rattle.block.proofs.marks.mark_target.Statement.{statement}
 use Rattle.block.proofs.marks.mark_target.Tie as tie
 
 role-of-requires : tie.Need-role-of-requires
-role-of-requires c κs = tt
+role-of-requires c κs = search needs
 
 enum-told : tie.Need-enum-told
 enum-told c = c .match .keys1
@@ -21,7 +21,7 @@ add-put c = search needs
 
 shared-slice-read-put : tie.Need-shared-slice-read-put
 shared-slice-read-put c =
-    inside (c .before .before .before .before .before .before .pre) (sym (c .before .before .before .before .role-of .ensures) ∙ c .before .before .enum-told .given .1) 1 (omega arith)
+    inside (c .before .before .before .before .before .before .pre .0) (sym (c .before .before .before .before .role-of .ensures) ∙ c .before .before .enum-told .given .1) 1 (omega arith)
 
 put-requires : tie.Need-put-requires
 put-requires c κs = tt
@@ -34,22 +34,22 @@ add-put-2 c = search needs
 
 shared-slice-read-put-2 : tie.Need-shared-slice-read-put-2
 shared-slice-read-put-2 c =
-    inside (c .before .before .before .before .before .before .pre) (sym (c .before .before .before .before .role-of .ensures) ∙ c .before .before .enum-told2 .given .1) 4 (omega arith)
+    inside (c .before .before .before .before .before .before .pre .0) (sym (c .before .before .before .before .role-of .ensures) ∙ c .before .before .enum-told2 .given .1) 4 (omega arith)
 
 put-requires-2 : tie.Need-put-requires-2
 put-requires-2 c κs = tt
 
 returns : tie.Need-returns
 returns c =
-    rw (jump-view (c .before .before .before .before .before .before .before .pre) (sym (c .before .before .before .before .before .role-of .ensures) ∙ c .before .before .before .enum-told .given .1)) (marked-upd (c .put .ensures))
+    rw (jump-view (c .before .before .before .before .before .before .before .pre .0) (sym (c .before .before .before .before .before .role-of .ensures) ∙ c .before .before .before .enum-told .given .1)) (marked-upd (c .put .ensures))
 
 returns-2 : tie.Need-returns-2
 returns-2 c =
-    rw (branch-view (c .before .before .before .before .before .before .before .pre) (sym (c .before .before .before .before .before .role-of .ensures) ∙ c .before .before .before .enum-told2 .given .1)) (marked-upd (c .put2 .ensures))
+    rw (branch-view (c .before .before .before .before .before .before .before .pre .0) (sym (c .before .before .before .before .before .role-of .ensures) ∙ c .before .before .before .enum-told2 .given .1)) (marked-upd (c .put2 .ensures))
 
 returns-3 : tie.Need-returns-3
 returns-3 c =
-    targets-kept (c .before .before .before .pre)
+    targets-kept (c .before .before .before .pre .0)
     (λ e. miss (0 ∷ 1 ∷ 2 ∷ 4 ∷ 5 ∷ 6 ∷ 8 ∷ 9 ∷ []) 3 tt (rw (c .before .role-of .ensures ∙ e) at (c .match .keys3)))
     (λ e. miss (0 ∷ 1 ∷ 2 ∷ 4 ∷ 5 ∷ 6 ∷ 8 ∷ 9 ∷ []) 7 tt (rw (c .before .role-of .ensures ∙ e) at (c .match .keys3)))
     _

@@ -9,7 +9,7 @@ use Rattle.block.proofs.marks.rest_ok.Statement.{statement}
 use Rattle.block.proofs.marks.rest_ok.Tie as tie
 
 role-of-requires : tie.Need-role-of-requires
-role-of-requires c κs = tt
+role-of-requires c κs = search needs
 
 enum-told : tie.Need-enum-told
 enum-told c = c .match .keys1
@@ -39,7 +39,7 @@ enum-told-4 : tie.Need-enum-told-4
 enum-told-4 c = c .match .keys4
 
 rest-length-requires : tie.Need-rest-length-requires
-rest-length-requires c κs = tt
+rest-length-requires c κs = search needs
 
 shared-slice-read-result-3 : tie.Need-shared-slice-read-result-3
 shared-slice-read-result-3 c = search needs

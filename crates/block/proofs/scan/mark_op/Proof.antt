@@ -3,13 +3,13 @@ use Rattle.block.proofs.scan.mark_op.Statement.{statement}
 use Rattle.block.proofs.scan.mark_op.Tie as tie
 
 mark-written-requires : tie.Need-mark-written-requires
-mark-written-requires c κs = c .before .before .pre .0
+mark-written-requires c κs = (c .before .before .pre .0, c .before .before .pre .2)
 
 mark-label-requires : tie.Need-mark-label-requires
 mark-label-requires c κs = c .before .before .before .before .pre
 
 mark-target-requires : tie.Need-mark-target-requires
-mark-target-requires c κs = c .before .before .before .before .before .before .pre .0
+mark-target-requires c κs = (c .before .before .before .before .before .before .pre .0, c .before .before .before .before .before .before .pre .2)
 
 returns : tie.Need-returns
 returns c =

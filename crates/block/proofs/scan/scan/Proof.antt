@@ -4,14 +4,14 @@ use Rattle.block.proofs.scan.scan.Statement.{statement}
 use Rattle.block.proofs.scan.scan.Tie as tie
 
 scan-declarations-requires : tie.Need-scan-declarations-requires
-scan-declarations-requires c κs = c .before .before .before .pre
+scan-declarations-requires c κs = (c .before .before .before .pre .0, c .before .before .before .pre .1)
 
 returns : tie.Need-returns
 returns c = scan-refused _ _ _ (c .before .scan-declarations .ensures) (c .if1 .taken)
 
 scan-ops-requires : tie.Need-scan-ops-requires
 scan-ops-requires c κs =
-    (begins-by (c .before .before .before .before .before .scan-declarations .ensures) (c .before .before .before .before .if1 .left)) .0
+    ((begins-by (c .before .before .before .before .before .scan-declarations .ensures) (c .before .before .before .before .if1 .left)) .0, c .before .before .before .before .before .before .before .before .before .pre .2)
 
 returns-2 : tie.Need-returns-2
 returns-2 c =

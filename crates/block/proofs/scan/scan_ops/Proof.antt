@@ -12,19 +12,19 @@ use Rattle.block.proofs.scan.scan_ops.Statement.{statement}
 use Rattle.block.proofs.scan.scan_ops.Tie as tie
 
 abbrev Inv-loop : tie.InvT-loop
-Inv-loop block start n classes types places₀ labels₀ written₀ targets₀ at₀ ops₀ last₀ places labels written targets at ops last =
+Inv-loop kinds block start n classes types places₀ labels₀ written₀ targets₀ at₀ ops₀ last₀ places labels written targets at ops last =
     (at ≤ length block) × Scanning block start places₀ classes types written labels targets places n at ops last
 
 abbrev μ-loop : tie.MeasureT-loop
-μ-loop block start n classes types places₀ labels₀ written₀ targets₀ at₀ ops₀ last₀ places labels written targets at ops last =
+μ-loop kinds block start n classes types places₀ labels₀ written₀ targets₀ at₀ ops₀ last₀ places labels written targets at ops last =
     length block - at
 
 loop-holds : tie.Need-loop-holds Inv-loop μ-loop
-loop-holds c = (begins-inside (c .before .before .pre), begins-start _ (c .before .before .pre))
+loop-holds c = (begins-inside (c .before .before .pre .0), begins-start _ (c .before .before .pre .0))
 
 record-rule-requires : tie.Need-record-rule-requires Inv-loop μ-loop
 record-rule-requires c κs =
-    record-asked (c .before .before .before .before .before .before .pre) (c .before .before .before .loop .inv .1) (c .before .before .loop-test .taken)
+    (record-asked (c .before .before .before .before .before .before .pre .0) (c .before .before .before .loop .inv .1) (c .before .before .loop-test .taken), c .before .before .before .before .before .before .pre .1)
 
 returns : tie.Need-returns Inv-loop μ-loop
 returns c =
@@ -35,7 +35,8 @@ shared-slice-read-kind c = search needs
 
 mark-op-requires : tie.Need-mark-op-requires Inv-loop μ-loop
 mark-op-requires c κs =
-    marks-asked (c .before .before .before .before .before .before .before .before .before .loop .inv .1) (c .before .before .before .before .before .before .before .before .loop-test .taken) (c .before .before .before .before .before .record-rule .ensures) (c .before .before .before .before .if1 .left)
+    let m = marks-asked (c .before .before .before .before .before .before .before .before .before .loop .inv .1) (c .before .before .before .before .before .before .before .before .loop-test .taken) (c .before .before .before .before .before .record-rule .ensures) (c .before .before .before .before .if1 .left) in
+    (m .0, m .1, c .before .before .before .before .before .before .before .before .before .before .before .before .pre .1)
 
 cast-places : tie.Need-cast-places Inv-loop μ-loop
 cast-places c = search needs

@@ -19,7 +19,7 @@ element-copy-out-emit-op : tie.Need-element-copy-out-emit-op
 element-copy-out-emit-op c = search needs
 
 cast-emit-op : tie.Need-cast-emit-op
-cast-emit-op c = omega (arith, op-inside (c .before .before .before .before .before .pre .1 (c .before .if1 .left)), c .before .before .before .before .before .good .0 .0)
+cast-emit-op c = omega (arith, op-inside (c .before .before .before .before .before .pre .1 (c .before .if1 .left)), c .before .before .before .before .before .good .1 .0)
 
 element-copy-out-emit-op-2 : tie.Need-element-copy-out-emit-op-2
 element-copy-out-emit-op-2 c = search needs
@@ -31,7 +31,8 @@ element-copy-out-emit-op-3 : tie.Need-element-copy-out-emit-op-3
 element-copy-out-emit-op-3 c = search needs
 
 emit-op-requires : tie.Need-emit-op-requires
-emit-op-requires c κs = c .before .before .before .before .before .before .before .before .pre .1 (c .before .before .before .before .if1 .left)
+emit-op-requires c κs =
+    (c .before .before .before .before .before .before .before .before .pre .1 (c .before .before .before .before .if1 .left), c .before .before .before .before .before .before .before .before .pre .2)
 
 same-length : tie.Need-same-length
 same-length c = search needs

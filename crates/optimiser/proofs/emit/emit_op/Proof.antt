@@ -6,51 +6,52 @@ use Rattle.optimiser.proofs.emit.emit_op.Statement.{statement}
 use Rattle.optimiser.proofs.emit.emit_op.Tie as tie
 
 shared-slice-read-kind : tie.Need-shared-slice-read-kind
-shared-slice-read-kind c = op-inside (c .before .before .before .pre)
+shared-slice-read-kind c = op-inside (c .before .before .before .pre .0)
 
 movi-kind-requires : tie.Need-movi-kind-requires
-movi-kind-requires c κs = computes-here (c .before .before .before .before .before .pre) (c .before .if1 .taken)
+movi-kind-requires c κs =
+    (computes-here (c .before .before .before .before .before .pre .0) (c .before .if1 .taken), c .before .before .before .before .before .pre .1)
 
 add-put-movi : tie.Need-add-put-movi
-add-put-movi c = omega (arith, output-inside (c .before .before .before .before .before .before .pre) (c .before .before .if1 .taken))
+add-put-movi c = omega (arith, output-inside (c .before .before .before .before .before .before .pre .0) (c .before .before .if1 .taken))
 
 shared-slice-read-put-movi : tie.Need-shared-slice-read-put-movi
-shared-slice-read-put-movi c = output-inside (c .before .before .before .before .before .before .before .pre) (c .before .before .before .if1 .taken)
+shared-slice-read-put-movi c = output-inside (c .before .before .before .before .before .before .before .pre .0) (c .before .before .before .if1 .taken)
 
 put-movi-requires : tie.Need-put-movi-requires
-put-movi-requires c κs = movi-room (c .before .before .before .before .before .before .before .pre) (c .before .before .before .if1 .taken)
+put-movi-requires c κs = movi-room (c .before .before .before .before .before .before .before .pre .0) (c .before .before .before .if1 .taken)
 
 add-result : tie.Need-add-result
 add-result c =
-    omega (arith, movi-room (c .before .before .before .before .before .before .before .before .before .before .pre) (c .before .before .before .before .before .before .if1 .taken))
+    omega (arith, movi-room (c .before .before .before .before .before .before .before .before .before .before .pre .0) (c .before .before .before .before .before .before .if1 .taken))
 
 same-length : tie.Need-same-length
 same-length c = c .before .before .put-movi .kept .0
 
 returns : tie.Need-returns
 returns c =
-    (movi-next (c .before .before .before .before .before .before .before .before .before .before .pre) (c .before .before .before .before .before .before .if1 .taken), movi-stored (c .before .before .before .before .before .before .before .before .before .before .pre) (c .before .before .before .before .before .before .if1 .taken) (c .before .before .before .before .movi-kind .ensures) (c .before .before .put-movi .ensures))
+    (movi-next (c .before .before .before .before .before .before .before .before .before .before .pre .0) (c .before .before .before .before .before .before .if1 .taken), movi-stored (c .before .before .before .before .before .before .before .before .before .before .pre .0) (c .before .before .before .before .before .before .if1 .taken) (c .before .before .before .before .movi-kind .ensures) (c .before .before .put-movi .ensures))
 
 body-length-requires : tie.Need-body-length-requires
 body-length-requires c κs = search needs
 
 add-n : tie.Need-add-n
-add-n c = omega (arith, plain-room (c .before .before .before .before .before .pre) (c .before .if1 .left) (c .body-length .ensures) .0)
+add-n c = omega (arith, plain-room (c .before .before .before .before .before .pre .0) (c .before .if1 .left) (c .body-length .ensures) .0)
 
 copy-requires : tie.Need-copy-requires
 copy-requires c κs =
-    plain-room (c .before .before .before .before .before .before .pre) (c .before .before .if1 .left) (c .before .body-length .ensures)
+    plain-room (c .before .before .before .before .before .before .pre .0) (c .before .before .if1 .left) (c .before .body-length .ensures)
 
 add-result-2 : tie.Need-add-result-2
 add-result-2 c =
-    omega (arith, plain-room (c .before .before .before .before .before .before .before .before .before .pre) (c .before .before .before .before .before .if1 .left) (c .before .before .before .before .body-length .ensures) .1)
+    omega (arith, plain-room (c .before .before .before .before .before .before .before .before .before .pre .0) (c .before .before .before .before .before .if1 .left) (c .before .before .before .before .body-length .ensures) .1)
 
 same-length-2 : tie.Need-same-length-2
 same-length-2 c = c .before .before .copy .kept .1 .1 .1 .0
 
 returns-2 : tie.Need-returns-2
 returns-2 c =
-    (plain-next (c .before .before .before .before .before .before .before .before .before .pre) (c .before .before .before .before .before .if1 .left) (c .before .before .before .before .body-length .ensures), plain-stored (c .before .before .before .before .before .before .before .before .before .pre) (c .before .before .before .before .before .if1 .left) (c .before .before .before .before .body-length .ensures) (c .before .before .copy .ensures))
+    (plain-next (c .before .before .before .before .before .before .before .before .before .pre .0) (c .before .before .before .before .before .if1 .left) (c .before .before .before .before .body-length .ensures), plain-stored (c .before .before .before .before .before .before .before .before .before .pre .0) (c .before .before .before .before .before .if1 .left) (c .before .before .before .before .body-length .ensures) (c .before .before .copy .ensures))
 
 pub emit-op-spec : {M : Type 1} → statement M
 emit-op-spec =

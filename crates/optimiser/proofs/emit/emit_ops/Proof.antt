@@ -7,20 +7,20 @@ use Rattle.optimiser.proofs.emit.emit_ops.Statement.{statement}
 use Rattle.optimiser.proofs.emit.emit_ops.Tie as tie
 
 abbrev Inv-loop : tie.InvT-loop
-Inv-loop block ops places folded values keep out₀ to i₀ p₀ out i p = (i ≤ ops) × Storing block folded values keep out₀ out (opsFrom (recordsOf block)) to i p
+Inv-loop kinds block ops places folded values keep out₀ to op₀ p₀ out op p = (op ≤ ops) × Storing block folded values keep out₀ out (opsFrom (recordsOf block)) to op p
 
 abbrev μ-loop : tie.MeasureT-loop
-μ-loop block ops places folded values keep out₀ to i₀ p₀ out i p = ops - i
+μ-loop kinds block ops places folded values keep out₀ to op₀ p₀ out op p = ops - op
 
 loop-holds : tie.Need-loop-holds Inv-loop μ-loop
 loop-holds c = (omega arith, storing-start)
 
 emit-at-requires : tie.Need-emit-at-requires Inv-loop μ-loop
 emit-at-requires c κs =
-    (omega (arith, c .before .before .before .before .before .pre .0 .here .few, c .before .loop-test .taken), λ k. emittable-op (c .before .before .before .before .before .pre .0) (c .before .before .loop .inv .1) (c .before .loop-test .taken) k (c .before .before .before .before .before .pre .1))
+    (omega (arith, c .before .before .before .before .before .pre .0 .here .few, c .before .loop-test .taken), λ k. emittable-op (c .before .before .before .before .before .pre .0) (c .before .before .loop .inv .1) (c .before .loop-test .taken) k (c .before .before .before .before .before .pre .1), c .before .before .before .before .before .pre .2)
 
-add-i : tie.Need-add-i Inv-loop μ-loop
-add-i c =
+add-op : tie.Need-add-op Inv-loop μ-loop
+add-op c =
     omega (arith, c .before .before .before .before .before .before .before .before .pre .0 .here .few, c .before .before .before .before .loop-test .taken)
 
 loop-less : tie.Need-loop-less Inv-loop μ-loop
@@ -44,7 +44,7 @@ emit-ops-spec =
     μ-loop
     loop-holds
     emit-at-requires
-    add-i
+    add-op
     loop-less
     loop-again
     same-length

@@ -8,10 +8,10 @@ wide-bits-requires : tie.Need-wide-bits-requires
 wide-bits-requires c κs = search needs
 
 returns : tie.Need-returns
-returns c = movi-wide (c .before .before .args .kind) (c .before .before .pre) (c .before .wide-bits .ensures) (c .if1 .taken)
+returns c = movi-wide (c .before .before .args .kind) (c .before .before .pre .0) (c .before .wide-bits .ensures) (c .if1 .taken)
 
 returns-2 : tie.Need-returns-2
-returns-2 c = movi-narrow (c .before .before .args .kind) (c .before .before .pre) (c .before .wide-bits .ensures) (c .if1 .left)
+returns-2 c = movi-narrow (c .before .before .args .kind) (c .before .before .pre .0) (c .before .wide-bits .ensures) (c .if1 .left)
 
 pub movi-kind-spec : {M : Type 1} → statement M
 movi-kind-spec = tie.close (tie.spec wide-bits-requires returns returns-2)

@@ -24,7 +24,8 @@ element-copy-out-op-size-2 : tie.Need-element-copy-out-op-size-2
 element-copy-out-op-size-2 c = search needs
 
 op-size-requires : tie.Need-op-size-requires
-op-size-requires c κs = c .before .before .before .before .before .pre .1
+op-size-requires c κs =
+    (c .before .before .before .before .before .pre .1, c .before .before .before .before .before .pre .2)
 
 returns-2 : tie.Need-returns-2
 returns-2 c =

@@ -10,24 +10,24 @@ add-all-known : tie.Need-add-all-known
 add-all-known c = search needs
 
 operand-count-requires : tie.Need-operand-count-requires
-operand-count-requires c κs = tt
+operand-count-requires c κs = search needs
 
 sub-all-known : tie.Need-sub-all-known
-sub-all-known c = an-output (c .before .before .pre .stands) (c .before .before .pre .role-is) (c .operand-count .ensures)
+sub-all-known c = an-output (c .before .before .pre .0 .stands) (c .before .before .pre .0 .role-is) (c .operand-count .ensures)
 
 all-known-requires : tie.Need-all-known-requires
-all-known-requires c κs = omega (arith, inputs-inside (c .before .before .pre .stands) (c .before .before .pre .role-is) (c .operand-count .ensures))
+all-known-requires c κs = omega (arith, inputs-inside (c .before .before .pre .0 .stands) (c .before .before .pre .0 .role-is) (c .operand-count .ensures))
 
 evaluate-requires : tie.Need-evaluate-requires
 evaluate-requires c κs = c .before .before .before .before .pre
 
 returns : tie.Need-returns
 returns c =
-    states-known (c .before .before .before .before .before .pre) (c .before .before .before .before .before .args .known .now) (c .before .before .before .before .before .args .values .now) (c .before .before .before .operand-count .ensures) (c .before .before .all-known .ensures) (c .before .if1 .taken) (c .evaluate .ensures)
+    states-known (c .before .before .before .before .before .pre .0) (c .before .before .before .before .before .args .known .now) (c .before .before .before .before .before .args .values .now) (c .before .before .before .operand-count .ensures) (c .before .before .all-known .ensures) (c .before .if1 .taken) (c .evaluate .ensures)
 
 returns-2 : tie.Need-returns-2
 returns-2 c =
-    unknown-states (c .before .before .before .before .pre) (c .before .before .before .before .args .known .now) (c .before .before .before .before .args .values .now) (c .before .before .operand-count .ensures) (c .before .all-known .ensures) (c .if1 .left)
+    unknown-states (c .before .before .before .before .pre .0) (c .before .before .before .before .args .known .now) (c .before .before .before .before .args .values .now) (c .before .before .operand-count .ensures) (c .before .all-known .ensures) (c .if1 .left)
 
 pub evaluate-known-spec : {M : Type 1} → statement M
 evaluate-known-spec =

@@ -10,10 +10,10 @@ use Rattle.optimiser.proofs.fold.fold.Statement.{statement}
 use Rattle.optimiser.proofs.fold.fold.Tie as tie
 
 abbrev Inv-loop : tie.InvT-loop
-Inv-loop block ops places folded₀ consts₀ known₀ values₀ i₀ folded consts known values i = (i ≤ ops) × FoldingSo block folded consts known values (opsFrom (recordsOf block)) i
+Inv-loop kinds block ops places folded₀ consts₀ known₀ values₀ i₀ folded consts known values i = (i ≤ ops) × FoldingSo block folded consts known values (opsFrom (recordsOf block)) i
 
 abbrev μ-loop : tie.MeasureT-loop
-μ-loop block ops places folded₀ consts₀ known₀ values₀ i₀ folded consts known values i = ops - i
+μ-loop kinds block ops places folded₀ consts₀ known₀ values₀ i₀ folded consts known values i = ops - i
 
 loop-holds : tie.Need-loop-holds Inv-loop μ-loop
 loop-holds c = (omega arith, folding-start (c .before .before .before .pre .1) (c .before .before .before .pre .2) refl)
@@ -26,11 +26,11 @@ element-copy-out-fold-at c = omega (arith, c .before .before .before .before .be
 
 cast-fold-at : tie.Need-cast-fold-at Inv-loop μ-loop
 cast-fold-at c =
-    omega (arith, (this-op (c .before .before .before .before .before .before .pre .0) (c .before .loop-test .taken)) .stands .whole, c .before .before .before .before .before .before .good .0 .0)
+    omega (arith, (this-op (c .before .before .before .before .before .before .pre .0) (c .before .loop-test .taken)) .stands .whole, c .before .before .before .before .before .before .good .1 .0)
 
 fold-at-requires : tie.Need-fold-at-requires Inv-loop μ-loop
 fold-at-requires c κs =
-    ((this-op (c .before .before .before .before .before .before .before .before .before .before .pre .0) (c .before .before .before .before .before .loop-test .taken)) .stands, omega (arith, c .before .before .before .before .before .before .before .before .before .before .pre .0 .few, c .before .before .before .before .before .loop-test .taken, c .before .before .before .before .before .before .loop .inv .1 .long-folded), omega (arith, c .before .before .before .before .before .before .before .before .before .before .pre .0 .few, c .before .before .before .before .before .loop-test .taken, c .before .before .before .before .before .before .loop .inv .1 .long-consts))
+    ((this-op (c .before .before .before .before .before .before .before .before .before .before .pre .0) (c .before .before .before .before .before .loop-test .taken)) .stands, omega (arith, c .before .before .before .before .before .before .before .before .before .before .pre .0 .few, c .before .before .before .before .before .loop-test .taken, c .before .before .before .before .before .before .loop .inv .1 .long-folded), omega (arith, c .before .before .before .before .before .before .before .before .before .before .pre .0 .few, c .before .before .before .before .before .loop-test .taken, c .before .before .before .before .before .before .loop .inv .1 .long-consts), c .before .before .before .before .before .before .before .before .before .before .pre .3)
 
 add-i : tie.Need-add-i Inv-loop μ-loop
 add-i c =

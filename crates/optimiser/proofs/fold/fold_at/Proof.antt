@@ -9,7 +9,8 @@ shared-slice-read-fold-op : tie.Need-shared-slice-read-fold-op
 shared-slice-read-fold-op c = omega (arith, c .before .before .before .before .pre .0 .whole)
 
 fold-op-requires : tie.Need-fold-op-requires
-fold-op-requires c κs = c .before .before .before .before .before .before .pre .0
+fold-op-requires c κs =
+    (c .before .before .before .before .before .before .pre .0, c .before .before .before .before .before .before .pre .3)
 
 enum-known-stated : tie.Need-enum-known-stated
 enum-known-stated c = search needs

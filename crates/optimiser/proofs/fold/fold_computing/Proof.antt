@@ -17,7 +17,7 @@ add-learn c = search needs
 
 shared-slice-read-learn : tie.Need-shared-slice-read-learn
 shared-slice-read-learn c =
-    inside (c .before .before .before .before .before .before .before .before .before .before .pre .stands) (c .before .before .before .before .before .before .before .before .before .before .pre .role-is) 1 (omega arith)
+    inside (c .before .before .before .before .before .before .before .before .before .before .pre .0 .stands) (c .before .before .before .before .before .before .before .before .before .before .pre .0 .role-is) 1 (omega arith)
 
 learn-requires : tie.Need-learn-requires
 learn-requires c κs = tt
@@ -30,18 +30,18 @@ add-put c = search needs
 
 shared-slice-read-put : tie.Need-shared-slice-read-put
 shared-slice-read-put c =
-    inside (c .before .before .before .before .before .before .before .before .pre .stands) (c .before .before .before .before .before .before .before .before .pre .role-is) 1 (omega arith)
+    inside (c .before .before .before .before .before .before .before .before .pre .0 .stands) (c .before .before .before .before .before .before .before .before .pre .0 .role-is) 1 (omega arith)
 
 put-requires : tie.Need-put-requires
 put-requires c κs = tt
 
 returns : tie.Need-returns
 returns c =
-    folds-value (c .before .before .before .before .before .before .before .before .before .before .before .pre) (omega (arith, c .before .before .before .before .before .before .before .before .before .before .before .fits .kind)) (c .before .before .before .before .before .before .before .before .before .before .before .args .known .now) (c .before .before .before .before .before .before .before .before .before .before .before .args .values .now) (c .before .before .before .before .before .before .before .evaluate-known .ensures) (c .before .before .before .before .before .stated .given .1) (c .learn .ensures)
+    folds-value (c .before .before .before .before .before .before .before .before .before .before .before .pre .0) (omega (arith, c .before .before .before .before .before .before .before .before .before .before .before .fits .kind)) (c .before .before .before .before .before .before .before .before .before .before .before .args .known .now) (c .before .before .before .before .before .before .before .before .before .before .before .args .values .now) (c .before .before .before .before .before .before .before .evaluate-known .ensures) (c .before .before .before .before .before .stated .given .1) (c .learn .ensures)
 
 returns-2 : tie.Need-returns-2
 returns-2 c =
-    folds-none (c .before .before .before .before .before .before .before .before .before .pre) (omega (arith, c .before .before .before .before .before .before .before .before .before .fits .kind)) (c .before .before .before .before .before .before .before .before .before .args .known .now) (c .before .before .before .before .before .before .before .before .before .args .values .now) (c .before .before .before .before .before .evaluate-known .ensures) (c .before .before .before .enum-told .given .1) (c .put .ensures)
+    folds-none (c .before .before .before .before .before .before .before .before .before .pre .0) (omega (arith, c .before .before .before .before .before .before .before .before .before .fits .kind)) (c .before .before .before .before .before .before .before .before .before .args .known .now) (c .before .before .before .before .before .before .before .before .before .args .values .now) (c .before .before .before .before .before .evaluate-known .ensures) (c .before .before .before .enum-told .given .1) (c .put .ensures)
 
 pub fold-computing-spec : {M : Type 1} → statement M
 fold-computing-spec =

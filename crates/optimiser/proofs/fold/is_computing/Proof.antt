@@ -3,12 +3,13 @@ use mathlib.Core.Path.{sym, _∙_}
 use mathlib.Core.Bool.{false≢true, true≢false}
 use mathlib.Core.List.{[], _∷_}
 use types.Run.{miss}
+use borrow.Author.Needs.{needs}
 use Rattle.ops.specs.Kinds.{at}
 use Rattle.optimiser.proofs.fold.is_computing.Statement.{statement}
 use Rattle.optimiser.proofs.fold.is_computing.Tie as tie
 
 role-of-requires : tie.Need-role-of-requires
-role-of-requires c κs = tt
+role-of-requires c κs = search needs
 
 enum-told : tie.Need-enum-told
 enum-told c = c .match .keys1

@@ -12,7 +12,7 @@ use Rattle.optimiser.proofs.prune.dead_op.Statement.{statement}
 use Rattle.optimiser.proofs.prune.dead_op.Tie as tie
 
 role-of-requires : tie.Need-role-of-requires
-role-of-requires c κs = tt
+role-of-requires c κs = search needs
 
 enum-told : tie.Need-enum-told
 enum-told c = c .match .keys1
@@ -22,7 +22,7 @@ add-is-dead c = search needs
 
 shared-slice-read-is-dead : tie.Need-shared-slice-read-is-dead
 shared-slice-read-is-dead c =
-    inside (c .before .before .before .before .before .pre) (sym (c .before .before .before .role-of .ensures) ∙ c .before .enum-told .given .1) 1 (omega arith)
+    inside (c .before .before .before .before .before .pre .0) (sym (c .before .before .before .role-of .ensures) ∙ c .before .enum-told .given .1) 1 (omega arith)
 
 is-dead-requires : tie.Need-is-dead-requires
 is-dead-requires c κs = tt
@@ -35,22 +35,22 @@ add-is-dead-2 c = search needs
 
 shared-slice-read-is-dead-2 : tie.Need-shared-slice-read-is-dead-2
 shared-slice-read-is-dead-2 c =
-    inside (c .before .before .before .before .before .pre) (sym (c .before .before .before .role-of .ensures) ∙ c .before .enum-told2 .given .1) 1 (omega arith)
+    inside (c .before .before .before .before .before .pre .0) (sym (c .before .before .before .role-of .ensures) ∙ c .before .enum-told2 .given .1) 1 (omega arith)
 
 is-dead-requires-2 : tie.Need-is-dead-requires-2
 is-dead-requires-2 c κs = tt
 
 returns : tie.Need-returns
 returns c =
-    dead-computes (c .before .before .before .before .before .before .pre) (marked (c .before .before .before .before .before .before .args .live .now)) (sym (c .before .before .before .before .role-of .ensures) ∙ c .before .before .enum-told .given .1) (c .is-dead .ensures)
+    dead-computes (c .before .before .before .before .before .before .pre .0) (marked (c .before .before .before .before .before .before .args .live .now)) (sym (c .before .before .before .before .role-of .ensures) ∙ c .before .before .enum-told .given .1) (c .is-dead .ensures)
 
 returns-2 : tie.Need-returns-2
 returns-2 c =
-    dead-constant (c .before .before .before .before .before .before .pre) (marked (c .before .before .before .before .before .before .args .live .now)) (sym (c .before .before .before .before .role-of .ensures) ∙ c .before .before .enum-told2 .given .1) (c .is-dead2 .ensures)
+    dead-constant (c .before .before .before .before .before .before .pre .0) (marked (c .before .before .before .before .before .before .args .live .now)) (sym (c .before .before .before .before .role-of .ensures) ∙ c .before .before .enum-told2 .given .1) (c .is-dead2 .ensures)
 
 returns-3 : tie.Need-returns-3
 returns-3 c =
-    not-dead (c .before .before .before .pre) (marked (c .before .before .before .args .live .now)) (λ e. miss (0 ∷ 1 ∷ 2 ∷ 3 ∷ 4 ∷ 7 ∷ 8 ∷ 9 ∷ []) 6 tt (rw (c .before .role-of .ensures ∙ e) at (c .match .keys3))) (λ e. miss (0 ∷ 1 ∷ 2 ∷ 3 ∷ 4 ∷ 7 ∷ 8 ∷ 9 ∷ []) 5 tt (rw (c .before .role-of .ensures ∙ e) at (c .match .keys3)))
+    not-dead (c .before .before .before .pre .0) (marked (c .before .before .before .args .live .now)) (λ e. miss (0 ∷ 1 ∷ 2 ∷ 3 ∷ 4 ∷ 7 ∷ 8 ∷ 9 ∷ []) 6 tt (rw (c .before .role-of .ensures ∙ e) at (c .match .keys3))) (λ e. miss (0 ∷ 1 ∷ 2 ∷ 3 ∷ 4 ∷ 7 ∷ 8 ∷ 9 ∷ []) 5 tt (rw (c .before .role-of .ensures ∙ e) at (c .match .keys3)))
 
 pub dead-op-spec : {M : Type 1} → statement M
 dead-op-spec =

@@ -11,13 +11,13 @@ use Rattle.optimiser.proofs.prune.live_before.Statement.{statement}
 use Rattle.optimiser.proofs.prune.live_before.Tie as tie
 
 role-of-requires : tie.Need-role-of-requires
-role-of-requires c κs = tt
+role-of-requires c κs = search needs
 
 enum-told : tie.Need-enum-told
 enum-told c = c .match .keys1
 
 operand-count-requires : tie.Need-operand-count-requires
-operand-count-requires c κs = tt
+operand-count-requires c κs = search needs
 
 sub-pure-before : tie.Need-sub-pure-before
 sub-pure-before c =

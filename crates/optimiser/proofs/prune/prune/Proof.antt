@@ -12,10 +12,10 @@ use Rattle.optimiser.proofs.prune.prune.Statement.{statement}
 use Rattle.optimiser.proofs.prune.prune.Tie as tie
 
 abbrev Inv-loop : tie.InvT-loop
-Inv-loop block ops places folded classes n keep₀ live₀ i₀ keep live i = (i ≤ ops) × Pruning block folded (take n classes) keep live (opsFrom (recordsOf block)) i
+Inv-loop kinds block ops places folded classes n keep₀ live₀ i₀ keep live i = (i ≤ ops) × Pruning block folded (take n classes) keep live (opsFrom (recordsOf block)) i
 
 abbrev μ-loop : tie.MeasureT-loop
-μ-loop block ops places folded classes n keep₀ live₀ i₀ keep live i = i
+μ-loop kinds block ops places folded classes n keep₀ live₀ i₀ keep live i = i
 
 mark-classes-requires : tie.Need-mark-classes-requires Inv-loop μ-loop
 mark-classes-requires c κs = (c .before .before .before .pre .0, omega arith)
@@ -35,7 +35,7 @@ element-copy-out-prune-op c = omega (arith, c .before .before .before .before .b
 
 cast-prune-op : tie.Need-cast-prune-op Inv-loop μ-loop
 cast-prune-op c =
-    omega (arith, place-inside (foldable-op {i = c .before .before .loop .i - 1} (c .before .before .before .before .before .before .before .pre .1) (omega (arith, c .before .before .loop .inv .0, c .before .loop-test .taken))), c .before .before .before .before .before .before .before .good .0 .0)
+    omega (arith, place-inside (foldable-op {i = c .before .before .loop .i - 1} (c .before .before .before .before .before .before .before .pre .1) (omega (arith, c .before .before .loop .inv .0, c .before .loop-test .taken))), c .before .before .before .before .before .before .before .good .1 .0)
 
 element-copy-out-prune-op-2 : tie.Need-element-copy-out-prune-op-2 Inv-loop μ-loop
 element-copy-out-prune-op-2 c =
@@ -43,7 +43,7 @@ element-copy-out-prune-op-2 c =
 
 prune-op-requires : tie.Need-prune-op-requires Inv-loop μ-loop
 prune-op-requires c κs =
-    (c .before .before .before .before .before .before .before .before .before .pre .0, foldable-op (c .before .before .before .before .before .before .before .before .before .pre .1) (omega (arith, c .before .before .before .before .loop .inv .0, c .before .before .before .loop-test .taken)))
+    (c .before .before .before .before .before .before .before .before .before .pre .0, foldable-op (c .before .before .before .before .before .before .before .before .before .pre .1) (omega (arith, c .before .before .before .before .loop .inv .0, c .before .before .before .loop-test .taken)), c .before .before .before .before .before .before .before .before .before .pre .3)
 
 slice-write-keep : tie.Need-slice-write-keep Inv-loop μ-loop
 slice-write-keep c =

@@ -11,7 +11,8 @@ shared-slice-read-kind : tie.Need-shared-slice-read-kind
 shared-slice-read-kind c = place-inside (c .before .before .pre .1)
 
 dead-op-requires : tie.Need-dead-op-requires
-dead-op-requires c κs = c .before .before .before .pre .1 .stands
+dead-op-requires c κs =
+    (c .before .before .before .pre .1 .stands, c .before .before .before .pre .2)
 
 returns : tie.Need-returns
 returns c =
@@ -33,7 +34,7 @@ returns-2 c =
 
 live-before-requires : tie.Need-live-before-requires
 live-before-requires c κs =
-    (c .before .before .before .before .before .before .before .pre .0, c .before .before .before .before .before .before .before .pre .1 .stands)
+    (c .before .before .before .before .before .before .before .pre .0, c .before .before .before .before .before .before .before .pre .1 .stands, c .before .before .before .before .before .before .before .pre .2)
 
 returns-3 : tie.Need-returns-3
 returns-3 c =

@@ -37,7 +37,7 @@ operand-count-requires c κs = search needs
 
 add-byte-at-2 : tie.Need-add-byte-at-2
 add-byte-at-2 c =
-    omega (arith, count-fits (c .before .before .before .before .before .before .pre) (c .operand-count .ensures), c .before .before .before .before .before .before .good .0 .0)
+    omega (arith, count-fits (c .before .before .before .before .before .before .pre .0) (c .operand-count .ensures), c .before .before .before .before .before .before .good .1 .0)
 
 byte-at-requires : tie.Need-byte-at-requires
 byte-at-requires c κs = search needs
@@ -47,7 +47,7 @@ eval-requires c κs = search needs
 
 returns : tie.Need-returns
 returns c =
-    evaluates (c .before .before .before .before .before .before .before .before .pre) (omega (arith, c .before .before .before .before .before .before .before .before .fits .kind)) (c .before .before .before .before .before .before .before .before .args .values .now) (c .before .before .operand-count .ensures) (c .before .byte-at .ensures) (c .before .before .before .before .before .before .input .ensures) (c .before .before .before .before .before .input2 .ensures) (c .before .before .before .before .input3 .ensures) (c .before .before .before .input4 .ensures) (c .eval .ensures)
+    evaluates (c .before .before .before .before .before .before .before .before .pre .0) (omega (arith, c .before .before .before .before .before .before .before .before .fits .kind)) (c .before .before .before .before .before .before .before .before .args .values .now) (c .before .before .operand-count .ensures) (c .before .byte-at .ensures) (c .before .before .before .before .before .before .input .ensures) (c .before .before .before .before .before .input2 .ensures) (c .before .before .before .before .input3 .ensures) (c .before .before .before .input4 .ensures) (c .eval .ensures)
 
 pub evaluate-spec : {M : Type 1} → statement M
 evaluate-spec =

@@ -11,20 +11,20 @@ use Rattle.runner.proofs.exec.execute.Statement.{statement}
 use Rattle.runner.proofs.exec.execute.Tie as tie
 
 abbrev Inv-loop : tie.InvT-loop
-Inv-loop block start ops places labels values₀ memory₀ op₀ at₀ count₀ values memory op at count = (length memory ≡ length memory₀) × Running block values₀ memory₀ values memory op at count
+Inv-loop kinds block start ops places labels values₀ memory₀ op₀ at₀ count₀ values memory op at count = (length memory ≡ length memory₀) × Running block values₀ memory₀ values memory op at count
 
 abbrev μ-loop : tie.MeasureT-loop
-μ-loop block start ops places labels values₀ memory₀ op₀ at₀ count₀ values memory op at count = ops - op
+μ-loop kinds block start ops places labels values₀ memory₀ op₀ at₀ count₀ values memory op at count = ops - op
 
 loop-holds : tie.Need-loop-holds Inv-loop μ-loop
-loop-holds c = (refl, running-start (c .before .before .pre) _ _)
+loop-holds c = (refl, running-start (c .before .before .pre .0) _ _)
 
 shared-slice-read-kind : tie.Need-shared-slice-read-kind Inv-loop μ-loop
-shared-slice-read-kind c = inside-now (c .before .before .before .before .before .pre) (c .before .before .loop .inv .1) (c .before .loop-test .taken)
+shared-slice-read-kind c = inside-now (c .before .before .before .before .before .pre .0) (c .before .before .loop .inv .1) (c .before .loop-test .taken)
 
 step-requires : tie.Need-step-requires Inv-loop μ-loop
 step-requires c κs =
-    stands-now (c .before .before .before .before .before .before .before .pre) (c .before .before .before .before .loop .inv .1) (c .before .before .before .loop-test .taken)
+    (stands-now (c .before .before .before .before .before .before .before .pre .0) (c .before .before .before .before .loop .inv .1) (c .before .before .before .loop-test .taken), c .before .before .before .before .before .before .before .pre .1)
 
 enum-told : tie.Need-enum-told Inv-loop μ-loop
 enum-told c = search needs
@@ -37,11 +37,11 @@ body-length-requires c κs = search needs
 
 add-at : tie.Need-add-at Inv-loop μ-loop
 add-at c =
-    omega (arith, body-now (c .before .before .before .before .before .before .before .before .before .before .before .before .before .pre) (c .before .before .before .before .before .before .before .before .before .before .loop .inv .1) (c .before .before .before .before .before .before .before .before .before .loop-test .taken) (c .body-length .ensures))
+    omega (arith, body-now (c .before .before .before .before .before .before .before .before .before .before .before .before .before .pre .0) (c .before .before .before .before .before .before .before .before .before .before .loop .inv .1) (c .before .before .before .before .before .before .before .before .before .loop-test .taken) (c .body-length .ensures))
 
 add-at-2 : tie.Need-add-at-2 Inv-loop μ-loop
 add-at-2 c =
-    omega (arith, body-now (c .before .before .before .before .before .before .before .before .before .before .before .before .before .pre) (c .before .before .before .before .before .before .before .before .before .before .loop .inv .1) (c .before .before .before .before .before .before .before .before .before .loop-test .taken) (c .body-length .ensures))
+    omega (arith, body-now (c .before .before .before .before .before .before .before .before .before .before .before .before .before .pre .0) (c .before .before .before .before .before .before .before .before .before .before .loop .inv .1) (c .before .before .before .before .before .before .before .before .before .loop-test .taken) (c .body-length .ensures))
 
 enum-known-outcome : tie.Need-enum-known-outcome Inv-loop μ-loop
 enum-known-outcome c = search needs
@@ -54,43 +54,43 @@ number-of-requires c κs = search needs
 
 sub-op : tie.Need-sub-op Inv-loop μ-loop
 sub-op c =
-    number-now (c .before .before .before .before .before .before .before .before .before .before .before .before .before .before .before .pre) (c .before .before .before .before .before .before .before .before .before .before .before .before .loop .inv .1) (c .before .before .before .before .before .before .before .before .before .before .before .loop-test .taken) (c .before .before .before .before .before .before .before .step .ensures) (c .before .before .before .outcome .given .1) (c .before .index .ensures) (c .number-of .ensures)
+    number-now (c .before .before .before .before .before .before .before .before .before .before .before .before .before .before .before .pre .0) (c .before .before .before .before .before .before .before .before .before .before .before .before .loop .inv .1) (c .before .before .before .before .before .before .before .before .before .before .before .loop-test .taken) (c .before .before .before .before .before .before .before .step .ensures) (c .before .before .before .outcome .given .1) (c .before .index .ensures) (c .number-of .ensures)
 
 number-of-requires-2 : tie.Need-number-of-requires-2 Inv-loop μ-loop
 number-of-requires-2 c κs =
-    target-now (c .before .before .before .before .before .before .before .before .before .before .before .before .before .before .before .pre) (c .before .before .before .before .before .before .before .before .before .before .before .before .loop .inv .1) (c .before .before .before .before .before .before .before .before .before .before .before .loop-test .taken) (c .before .before .before .before .before .before .before .step .ensures) (c .before .before .before .outcome .given .1) (c .before .index .ensures) (c .number-of .ensures)
+    target-now (c .before .before .before .before .before .before .before .before .before .before .before .before .before .before .before .pre .0) (c .before .before .before .before .before .before .before .before .before .before .before .before .loop .inv .1) (c .before .before .before .before .before .before .before .before .before .before .before .loop-test .taken) (c .before .before .before .before .before .before .before .step .ensures) (c .before .before .before .outcome .given .1) (c .before .index .ensures) (c .number-of .ensures)
 
 enum-known-outcome-2 : tie.Need-enum-known-outcome-2 Inv-loop μ-loop
 enum-known-outcome-2 c = search needs
 
 ended-requires : tie.Need-ended-requires Inv-loop μ-loop
 ended-requires c κs =
-    few-now (c .before .before .before .before .before .before .before .before .before .before .before .before .before .pre) (c .before .before .before .before .before .before .before .before .before .before .loop .inv .1) (c .before .before .before .before .before .before .before .before .before .loop-test .taken)
+    few-now (c .before .before .before .before .before .before .before .before .before .before .before .before .before .pre .0) (c .before .before .before .before .before .before .before .before .before .before .loop .inv .1) (c .before .before .before .before .before .before .before .before .before .loop-test .taken)
 
 same-length : tie.Need-same-length Inv-loop μ-loop
 same-length c = search needs
 
 returns : tie.Need-returns Inv-loop μ-loop
 returns c =
-    stops-now (c .before .before .before .before .before .before .before .before .before .before .before .before .before .before .pre) (c .before .before .before .before .before .before .before .before .before .before .before .loop .inv .1) (c .before .before .before .before .before .before .before .before .before .before .loop-test .taken) (c .before .before .before .before .before .before .step .ensures) (c .before .before .outcome2 .given .1) (c .ended .ensures)
+    stops-now (c .before .before .before .before .before .before .before .before .before .before .before .before .before .before .pre .0) (c .before .before .before .before .before .before .before .before .before .before .before .loop .inv .1) (c .before .before .before .before .before .before .before .before .before .before .loop-test .taken) (c .before .before .before .before .before .before .step .ensures) (c .before .before .outcome2 .given .1) (c .ended .ensures)
 
 add-count : tie.Need-add-count Inv-loop μ-loop
 add-count c =
-    omega (arith, few-now (c .before .before .before .before .before .before .before .before .before .before .before .pre) (c .before .before .before .before .before .before .before .before .loop .inv .1) (c .before .before .before .before .before .before .before .loop-test .taken))
+    omega (arith, few-now (c .before .before .before .before .before .before .before .before .before .before .before .pre .0) (c .before .before .before .before .before .before .before .before .loop .inv .1) (c .before .before .before .before .before .before .before .loop-test .taken))
 
 loop-less : tie.Need-loop-less Inv-loop μ-loop
 loop-less c =
-    omega (arith, c .before .before .before .before .before .before .before .loop-test .taken, ⊎-elim (λ w. (falls-on (c .before .before .before .before .before .before .before .before .before .before .before .pre) (c .before .before .before .before .before .before .before .before .loop .inv .1) (c .before .before .before .before .before .before .before .loop-test .taken) (c .before .before .before .step .ensures) (w .1 .given .1) (w .2 .ensures) (w .3) (w .4)) .0) (λ w. (jumps-on (c .before .before .before .before .before .before .before .before .before .before .before .pre) (c .before .before .before .before .before .before .before .before .loop .inv .1) (c .before .before .before .before .before .before .before .loop-test .taken) (c .before .before .before .step .ensures) (w .1 .given .1) (w .3 .ensures) (w .4 .ensures) (w .5 .ensures) (w .6) (w .7)) .0) (c .match .came))
+    omega (arith, c .before .before .before .before .before .before .before .loop-test .taken, ⊎-elim (λ w. (falls-on (c .before .before .before .before .before .before .before .before .before .before .before .pre .0) (c .before .before .before .before .before .before .before .before .loop .inv .1) (c .before .before .before .before .before .before .before .loop-test .taken) (c .before .before .before .step .ensures) (w .1 .given .1) (w .2 .ensures) (w .3) (w .4)) .0) (λ w. (jumps-on (c .before .before .before .before .before .before .before .before .before .before .before .pre .0) (c .before .before .before .before .before .before .before .before .loop .inv .1) (c .before .before .before .before .before .before .before .loop-test .taken) (c .before .before .before .step .ensures) (w .1 .given .1) (w .3 .ensures) (w .4 .ensures) (w .5 .ensures) (w .6) (w .7)) .0) (c .match .came))
 
 loop-again : tie.Need-loop-again Inv-loop μ-loop
 loop-again c =
-    (search needs, ⊎-elim (λ w. (falls-on (c .before .before .before .before .before .before .before .before .before .before .before .pre) (c .before .before .before .before .before .before .before .before .loop .inv .1) (c .before .before .before .before .before .before .before .loop-test .taken) (c .before .before .before .step .ensures) (w .1 .given .1) (w .2 .ensures) (w .3) (w .4)) .1) (λ w. (jumps-on (c .before .before .before .before .before .before .before .before .before .before .before .pre) (c .before .before .before .before .before .before .before .before .loop .inv .1) (c .before .before .before .before .before .before .before .loop-test .taken) (c .before .before .before .step .ensures) (w .1 .given .1) (w .3 .ensures) (w .4 .ensures) (w .5 .ensures) (w .6) (w .7)) .1) (c .match .came))
+    (search needs, ⊎-elim (λ w. (falls-on (c .before .before .before .before .before .before .before .before .before .before .before .pre .0) (c .before .before .before .before .before .before .before .before .loop .inv .1) (c .before .before .before .before .before .before .before .loop-test .taken) (c .before .before .before .step .ensures) (w .1 .given .1) (w .2 .ensures) (w .3) (w .4)) .1) (λ w. (jumps-on (c .before .before .before .before .before .before .before .before .before .before .before .pre .0) (c .before .before .before .before .before .before .before .before .loop .inv .1) (c .before .before .before .before .before .before .before .loop-test .taken) (c .before .before .before .step .ensures) (w .1 .given .1) (w .3 .ensures) (w .4 .ensures) (w .5 .ensures) (w .6) (w .7)) .1) (c .match .came))
 
 same-length-2 : tie.Need-same-length-2 Inv-loop μ-loop
 same-length-2 c = search needs
 
 returns-2 : tie.Need-returns-2 Inv-loop μ-loop
-returns-2 c = ends-past (c .before .before .before .before .pre) (c .before .loop .inv .1) (c .loop-test .left)
+returns-2 c = ends-past (c .before .before .before .before .pre .0) (c .before .loop .inv .1) (c .loop-test .left)
 
 pub execute-spec : {M : Type 1} → statement M
 execute-spec =

@@ -17,7 +17,7 @@ add-put c = search needs
 
 shared-slice-read-put : tie.Need-shared-slice-read-put
 shared-slice-read-put c =
-    inside (c .before .before .before .before .before .before .before .before .pre .stands) (c .before .before .before .before .before .before .before .before .pre .role-is) 1 (omega arith)
+    inside (c .before .before .before .before .before .before .before .before .pre .0 .stands) (c .before .before .before .before .before .before .before .before .pre .0 .role-is) 1 (omega arith)
 
 put-requires : tie.Need-put-requires
 put-requires c κs = tt
@@ -27,11 +27,11 @@ enum-told c = search needs
 
 returns : tie.Need-returns
 returns c =
-    compute-falls (c .before .before .before .before .before .before .before .before .before .pre) (c .before .before .before .before .before .before .before .before .before .args .values .now) (c .before .before .before .before .before .before .evaluate .result) (c .before .before .before .before .before .before .evaluate .ensures) (c .before .before .before .before .stated .given .1) (c .put .ensures)
+    compute-falls (c .before .before .before .before .before .before .before .before .before .pre .0) (c .before .before .before .before .before .before .before .before .before .args .values .now) (c .before .before .before .before .before .before .evaluate .result) (c .before .before .before .before .before .before .evaluate .ensures) (c .before .before .before .before .stated .given .1) (c .put .ensures)
 
 returns-2 : tie.Need-returns-2
 returns-2 c =
-    compute-unstated (c .before .before .before .before .before .pre) (c .before .before .before .before .before .args .values .now) (c .before .before .evaluate .result) (c .before .before .evaluate .ensures) (c .enum-told .given .1)
+    compute-unstated (c .before .before .before .before .before .pre .0) (c .before .before .before .before .before .args .values .now) (c .before .before .evaluate .result) (c .before .before .evaluate .ensures) (c .enum-told .given .1)
 
 pub compute-step-spec : {M : Type 1} → statement M
 compute-step-spec =

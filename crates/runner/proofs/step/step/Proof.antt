@@ -15,14 +15,14 @@ enum-told c = search needs
 
 compute-step-requires : tie.Need-compute-step-requires
 compute-step-requires c κs =
-    record { stands = c .before .before .before .before .before .before .pre; role-is = sym (c .before .before .before .role-of .ensures) ∙ c .before .enum-told .given .1 }
+    (record { stands = c .before .before .before .before .before .before .pre .0; role-is = sym (c .before .before .before .role-of .ensures) ∙ c .before .enum-told .given .1 }, c .before .before .before .before .before .before .pre .1)
 
 enum-told-2 : tie.Need-enum-told-2
 enum-told-2 c = search needs
 
 constant-step-requires : tie.Need-constant-step-requires
 constant-step-requires c κs =
-    omega (arith, inside (c .before .before .before .before .before .before .pre) (sym (c .before .before .before .role-of .ensures) ∙ c .before .enum-told2 .given .1) 9 (omega arith))
+    omega (arith, inside (c .before .before .before .before .before .before .pre .0) (sym (c .before .before .before .role-of .ensures) ∙ c .before .enum-told2 .given .1) 9 (omega arith))
 
 enum-told-3 : tie.Need-enum-told-3
 enum-told-3 c = search needs
@@ -32,14 +32,14 @@ is-wide-requires c κs = search needs
 
 load-step-requires : tie.Need-load-step-requires
 load-step-requires c κs =
-    inside (c .before .before .before .before .before .before .before .before .pre) (sym (c .before .before .before .before .before .role-of .ensures) ∙ c .before .before .before .enum-told3 .given .1) 3 (omega arith)
+    inside (c .before .before .before .before .before .before .before .before .pre .0) (sym (c .before .before .before .before .before .role-of .ensures) ∙ c .before .before .before .enum-told3 .given .1) 3 (omega arith)
 
 enum-told-4 : tie.Need-enum-told-4
 enum-told-4 c = search needs
 
 store-step-requires : tie.Need-store-step-requires
 store-step-requires c κs =
-    inside (c .before .before .before .before .before .before .before .pre) (sym (c .before .before .before .before .role-of .ensures) ∙ c .before .before .enum-told4 .given .1) 3 (omega arith)
+    inside (c .before .before .before .before .before .before .before .pre .0) (sym (c .before .before .before .before .role-of .ensures) ∙ c .before .before .enum-told4 .given .1) 3 (omega arith)
 
 enum-told-5 : tie.Need-enum-told-5
 enum-told-5 c = search needs
@@ -49,7 +49,7 @@ is-wide-requires-2 c κs = search needs
 
 branch-step-requires : tie.Need-branch-step-requires
 branch-step-requires c κs =
-    inside (c .before .before .before .before .before .before .before .pre) (sym (c .before .before .before .before .role-of .ensures) ∙ c .before .before .enum-told5 .given .1) 4 (omega arith)
+    inside (c .before .before .before .before .before .before .before .pre .0) (sym (c .before .before .before .before .role-of .ensures) ∙ c .before .before .enum-told5 .given .1) 4 (omega arith)
 
 enum-told-6 : tie.Need-enum-told-6
 enum-told-6 c = search needs
@@ -57,12 +57,12 @@ enum-told-6 c = search needs
 enum-told-7 : tie.Need-enum-told-7
 enum-told-7 c = search needs
 
-add-t19 : tie.Need-add-t19
-add-t19 c = search needs
+add-t20 : tie.Need-add-t20
+add-t20 c = search needs
 
-shared-slice-read-t21 : tie.Need-shared-slice-read-t21
-shared-slice-read-t21 c =
-    inside (c .before .before .before .before .before .before .pre) (sym (c .before .before .before .role-of .ensures) ∙ c .before .enum-told7 .given .1) 1 (omega arith)
+shared-slice-read-t22 : tie.Need-shared-slice-read-t22
+shared-slice-read-t22 c =
+    inside (c .before .before .before .before .before .before .pre .0) (sym (c .before .before .before .role-of .ensures) ∙ c .before .enum-told7 .given .1) 1 (omega arith)
 
 enum-told-8 : tie.Need-enum-told-8
 enum-told-8 c = search needs
@@ -72,7 +72,7 @@ add-get c = search needs
 
 shared-slice-read-get : tie.Need-shared-slice-read-get
 shared-slice-read-get c =
-    inside (c .before .before .before .before .before .before .before .pre) (sym (c .before .before .before .before .role-of .ensures) ∙ c .before .before .enum-told8 .given .1) 1 (omega arith)
+    inside (c .before .before .before .before .before .before .before .pre .0) (sym (c .before .before .before .before .role-of .ensures) ∙ c .before .before .enum-told8 .given .1) 1 (omega arith)
 
 get-requires : tie.Need-get-requires
 get-requires c κs = search needs
@@ -94,45 +94,45 @@ returns c = c .compute-step .ensures .under (c .before .before .before .before .
 
 returns-2 : tie.Need-returns-2
 returns-2 c =
-    step-constant (c .before .before .before .before .before .before .before .pre) (sym (c .before .before .before .before .role-of .ensures) ∙ c .before .before .enum-told2 .given .1) (c .constant-step .ensures .under (c .before .before .before .before .before .before .before .args .memory .now))
+    step-constant (c .before .before .before .before .before .before .before .pre .0) (sym (c .before .before .before .before .role-of .ensures) ∙ c .before .before .enum-told2 .given .1) (c .constant-step .ensures .under (c .before .before .before .before .before .before .before .args .memory .now))
 
 same-length : tie.Need-same-length
 same-length c = search needs
 
 returns-3 : tie.Need-returns-3
 returns-3 c =
-    step-loads (c .before .before .before .before .before .before .before .before .before .pre) (sym (c .before .before .before .before .before .before .role-of .ensures) ∙ c .before .before .before .before .enum-told3 .given .1) (c .before .before .before .is-wide .ensures) (c .load-step .ensures)
+    step-loads (c .before .before .before .before .before .before .before .before .before .pre .0) (sym (c .before .before .before .before .before .before .role-of .ensures) ∙ c .before .before .before .before .enum-told3 .given .1) (c .before .before .before .is-wide .ensures) (c .load-step .ensures)
 
 same-length-2 : tie.Need-same-length-2
 same-length-2 c = search needs
 
 returns-4 : tie.Need-returns-4
 returns-4 c =
-    step-stores (c .before .before .before .before .before .before .before .before .before .before .pre) (sym (c .before .before .before .before .before .before .before .role-of .ensures) ∙ c .before .before .before .before .before .enum-told4 .given .1) (c .before .before .store-step .ensures)
+    step-stores (c .before .before .before .before .before .before .before .before .before .before .pre .0) (sym (c .before .before .before .before .before .before .before .role-of .ensures) ∙ c .before .before .before .before .before .enum-told4 .given .1) (c .before .before .store-step .ensures)
 
 returns-5 : tie.Need-returns-5
 returns-5 c =
-    step-branches (c .before .before .before .before .before .before .before .before .pre) (sym (c .before .before .before .before .before .role-of .ensures) ∙ c .before .before .before .enum-told5 .given .1) (c .before .before .is-wide2 .ensures) (c .branch-step .ensures .under (c .before .before .before .before .before .before .before .before .args .memory .now))
+    step-branches (c .before .before .before .before .before .before .before .before .pre .0) (sym (c .before .before .before .before .before .role-of .ensures) ∙ c .before .before .before .enum-told5 .given .1) (c .before .before .is-wide2 .ensures) (c .branch-step .ensures .under (c .before .before .before .before .before .before .before .before .args .memory .now))
 
 returns-6 : tie.Need-returns-6
 returns-6 c =
-    step-label (c .before .before .before .before .before .pre) _ _ (sym (c .before .before .role-of .ensures) ∙ c .enum-told6 .given .1)
+    step-label (c .before .before .before .before .before .pre .0) _ _ (sym (c .before .before .role-of .ensures) ∙ c .enum-told6 .given .1)
 
 returns-7 : tie.Need-returns-7
 returns-7 c =
-    step-jumps (c .before .before .before .before .before .before .pre) _ _ (sym (c .before .before .before .role-of .ensures) ∙ c .before .enum-told7 .given .1)
+    step-jumps (c .before .before .before .before .before .before .pre .0) _ _ (sym (c .before .before .before .role-of .ensures) ∙ c .before .enum-told7 .given .1)
 
 returns-8 : tie.Need-returns-8
 returns-8 c =
-    step-exits (c .before .before .before .before .before .before .before .before .pre) _ _ (sym (c .before .before .before .before .before .role-of .ensures) ∙ c .before .before .before .enum-told8 .given .1) (c .get .ensures)
+    step-exits (c .before .before .before .before .before .before .before .before .pre .0) _ _ (sym (c .before .before .before .before .before .role-of .ensures) ∙ c .before .before .before .enum-told8 .given .1) (c .get .ensures)
 
 returns-9 : tie.Need-returns-9
 returns-9 c =
-    step-unknown (c .before .before .before .before .before .before .before .pre) _ _ (sym (c .before .before .before .before .role-of .ensures) ∙ c .before .before .enum-told9 .given .1) (c .get2 .ensures)
+    step-unknown (c .before .before .before .before .before .before .before .pre .0) _ _ (sym (c .before .before .before .before .role-of .ensures) ∙ c .before .before .enum-told9 .given .1) (c .get2 .ensures)
 
 returns-10 : tie.Need-returns-10
 returns-10 c =
-    step-declares (c .before .before .before .before .before .before .before .pre) _ _ (sym (c .before .before .before .before .role-of .ensures) ∙ c .before .before .enum-told10 .given .1) (c .get3 .ensures)
+    step-declares (c .before .before .before .before .before .before .before .pre .0) _ _ (sym (c .before .before .before .before .role-of .ensures) ∙ c .before .before .enum-told10 .given .1) (c .get3 .ensures)
 
 pub step-spec : {M : Type 1} → statement M
 step-spec =
@@ -153,8 +153,8 @@ step-spec =
     branch-step-requires
     enum-told-6
     enum-told-7
-    add-t19
-    shared-slice-read-t21
+    add-t20
+    shared-slice-read-t22
     enum-told-8
     add-get
     shared-slice-read-get
