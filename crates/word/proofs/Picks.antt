@@ -1,11 +1,11 @@
 -- Which results are stated, over the width. Assumes nothing.
-use mathlib.Core.Path.{_≡_, refl}
-use mathlib.Core.Bool.{Bool, true, false, _&&_}
+use mathlib.Core.Path.{_≡_, sym, _∙_, subst}
+use mathlib.Core.Bool.{Bool, true, false}
 use Prim.Native.Nat.{ℕ, _-_, _^_, _≤_, _<_}
-use lib.Dec.{eqb}
-use borrow.Author.Tests.{eq-eqb, ne-eqb, lt-ltb, le-ltb, eqb-true}
+use lib.Dec.{T, eqb}
+use borrow.Author.Tests.{eq-eqb, ne-eqb, lt-ltb, le-ltb}
 use Rattle.word.specs.declared.Stated.the-variants.{Value, NoResult}
-use Rattle.word.specs.Word.{byDivisor, bySigned, byCount}
+use Rattle.word.specs.Word.{byDivisor, noQuotient, bySigned, byCount}
 use Rattle.word.specs.Answer.{statedOf}
 
 -- a count below the width, and one at or above it
@@ -26,21 +26,29 @@ pub by-other : {b v : ℕ} → (b ≡ 0 → ⊥) → Value v ≡ statedOf (byDiv
 unfolding byDivisor
 by-other {b} h = rw (ne-eqb b 0 h)
 
--- and the smallest value by minus one
-module _ (w a b v : ℕ) where
-  pub signed-zero : b ≡ 0 → NoResult ≡ statedOf (bySigned w a b v)
-  unfolding bySigned
-  signed-zero h = rw (eq-eqb b 0 h)
+-- no quotient: by zero, the smallest value by minus one, and the others
+module _ (w a b : ℕ) where
+  pub none-by-zero : b ≡ 0 → eqb b 0 ≡ noQuotient w a b
+  none-by-zero h = rw (eq-eqb b 0 h)
 
-  pub signed-least : (b ≡ 0 → ⊥) → a ≡ 2 ^ (w - 1) → b ≡ 2 ^ w - 1 → NoResult ≡ statedOf (bySigned w a b v)
-  unfolding bySigned
-  signed-least n p q = rw (ne-eqb b 0 n, eq-eqb a (2 ^ (w - 1)) p, eq-eqb b (2 ^ w - 1) q)
+  pub none-of-least : (b ≡ 0 → ⊥) → a ≡ 2 ^ (w - 1) → eqb b (2 ^ w - 1) ≡ noQuotient w a b
+  none-of-least n p = rw (ne-eqb b 0 n, eq-eqb a (2 ^ (w - 1)) p)
 
-  pub signed-other : (b ≡ 0 → ⊥) → (a ≡ 2 ^ (w - 1) → b ≡ 2 ^ w - 1 → ⊥) → {r : ℕ} → r ≡ v → Value r ≡ statedOf (bySigned w a b v)
+  pub none-else : (b ≡ 0 → ⊥) → (a ≡ 2 ^ (w - 1) → ⊥) → eqb a (2 ^ (w - 1)) ≡ noQuotient w a b
+  none-else n p = rw (ne-eqb b 0 n, ne-eqb a (2 ^ (w - 1)) p)
+
+-- what a test for it settles
+module _ (w a b : ℕ) {r : Bool} (e : r ≡ noQuotient w a b) where
+  pub signed-none : (v : ℕ) → r ≡ true → NoResult ≡ statedOf (bySigned w a b v)
   unfolding bySigned
-  signed-other n f e = rw (ne-eqb b 0 n, both (eqb a (2 ^ (w - 1))) (eqb b (2 ^ w - 1)) (λ p q. f (eqb-true _ _ p) (eqb-true _ _ q)), e)
-    where
-      both : (s t : Bool) → (s ≡ true → t ≡ true → ⊥) → (s && t) ≡ false
-      both true true f = absurd (f refl refl)
-      both true false f = refl
-      both false t f = refl
+  signed-none v t = rw (sym e ∙ t)
+
+  pub signed-value : {x v : ℕ} → r ≡ false → x ≡ v → Value x ≡ statedOf (bySigned w a b v)
+  unfolding bySigned
+  signed-value f q = rw (sym e ∙ f, q)
+
+  pub not-by-zero : r ≡ false → b ≡ 0 → ⊥
+  not-by-zero f z = absurd (subst T (sym (eq-eqb b 0 z) ∙ (none-by-zero w a b z ∙ (sym e ∙ f))) tt)
+
+  pub not-least : r ≡ false → a ≡ 2 ^ (w - 1) → b ≡ 2 ^ w - 1 → ⊥
+  not-least f p q = absurd (subst T (sym (eq-eqb b (2 ^ w - 1) q) ∙ (none-of-least w a b (not-by-zero f) p ∙ (sym e ∙ f))) tt)

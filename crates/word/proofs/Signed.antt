@@ -5,12 +5,13 @@ use mathlib.Core.Bool.{Bool, true, false}
 use Prim.Native.Nat.{ℕ, zero, suc, _+_, _-_, _/_, _^_, _≤_, _<_, zero-le, suc-le-suc}
 use native.Mathlib.Nat.{le-trans, lt-of-le-of-lt, lt-of-lt-of-le, div-le-self, div-one, div-lt-self, pos-of-ne-zero}
 use native.Mathlib.Omega.{arith}
-use lib.Dec.{T, leb·zero}
+use lib.Dec.{T, ltb, leb·zero}
 use lib.IntN.{ℤ, pos, negsuc, natAbs, negℤ}
 use lib.Signed.{mag, leZ, nonNeg, quotZ, remZ, shrZ, mag-rem}
 use borrow.Author.Tests.{le-ltb}
 use lib.Arith.{lt-of-le-ne}
-use Rattle.word.specs.Word.{bitsW}
+use Rattle.word.specs.Word.{signedW, bitsW, divsW, remsW, noQuotient}
+use Rattle.word.proofs.Picks.{not-by-zero, not-least}
 use mir.Syntax.{Width, w8, w16, w32, w64, w128}
 use mir.Val.{bits, hbits, Fits, SFits, toZ, ofZ, sel}
 use mir.Facts.{toZ-ofZ, ofZ-toZ, toZ-pos, sfits-toZ}
@@ -22,6 +23,18 @@ half w16 = refl
 half w32 = refl
 half w64 = refl
 half w128 = refl
+
+-- and its half one bit less
+less-one : (w : Width) → bits w - 1 ≡ hbits w
+less-one w8 = refl
+less-one w16 = refl
+less-one w32 = refl
+less-one w64 = refl
+less-one w128 = refl
+
+-- a word read as signed
+reads-signed : (w : Width) (a : ℕ) → toZ w a ≡ signedW (bits w) a
+reads-signed w a = ap (λ (k : ℕ). sel (ltb a (2 ^ k)) (pos a) (negsuc (2 ^ bits w - suc a))) (sym (less-one w))
 
 -- what the cast of a number that is not negative asks and gives
 pub not-negative : (w : Width) (z : ℤ) → SFits w z → leZ (pos 0) z ≡ true → T (nonNeg z) × Fits w (natAbs z)
@@ -68,10 +81,11 @@ only w a b fa fb but e = by-sign (toZ w a) refl
         (sym (ofZ-toZ fb) ∙ ap (ofZ w) q))
 
 -- the words behind two readings: a divisor that is not zero, and the one quotient that does not fit left out
-pub divides : (w : Width) {a b : ℕ} {x y : ℤ} → Fits w a → Fits w b → x ≡ toZ w a → y ≡ toZ w b → (b ≡ 0 → ⊥) → (a ≡ 2 ^ hbits w → b ≡ 2 ^ bits w - 1 → ⊥)
+pub divides : (w : Width) {a b : ℕ} {x y : ℤ} {r : Bool} → Fits w a → Fits w b → x ≡ toZ w a → y ≡ toZ w b → r ≡ noQuotient (bits w) a b → r ≡ false
     → (0 < ofZ w y) × SFits w (quotZ (toZ w (ofZ w x)) (toZ w (ofZ w y)))
-divides w {a} {b} {x} {y} fa fb ex ey nz but =
-    rw (ex, ey, ofZ-toZ fa, ofZ-toZ fb) (pos-of-ne-zero nz, quot-fits w (toZ w a) (toZ w b) (sfits-toZ fa) (only w a b fa fb but))
+divides w {a} {b} {x} {y} fa fb ex ey e f =
+    rw (ex, ey, ofZ-toZ fa, ofZ-toZ fb)
+    (pos-of-ne-zero (not-by-zero (bits w) a b e f), quot-fits w (toZ w a) (toZ w b) (sfits-toZ fa) (only w a b fa fb (λ p. not-least (bits w) a b e f (p ∙ ap (2 ^_) (sym (less-one w))))))
 
 -- the bits of a number that is not negative, and of one that is, as the code takes them
 module _ (w : Width) {z : ℤ} (f : SFits w z) where
@@ -107,13 +121,17 @@ module _ (w : Width) {a b : ℕ} {x y : ℤ} (fa : Fits w a) (fb : Fits w b) (ex
   pub compared : (f : ℤ → ℤ → Bool) → f (toZ w (ofZ w x)) (toZ w (ofZ w y)) ≡ f (toZ w a) (toZ w b)
   compared f = λ i. f (reads w fa ex i) (reads w fb ey i)
 
-  pub quotient : SFits w (quotZ (toZ w (ofZ w x)) (toZ w (ofZ w y))) → toZ w (ofZ w (quotZ (toZ w (ofZ w x)) (toZ w (ofZ w y)))) ≡ quotZ (toZ w a) (toZ w b)
-  quotient f = toZ-ofZ f ∙ (λ i. quotZ (reads w fa ex i) (reads w fb ey i))
+  pub quotient : {r : ℕ} → SFits w (quotZ (toZ w (ofZ w x)) (toZ w (ofZ w y))) → r ≡ bitsW (bits w) (toZ w (ofZ w (quotZ (toZ w (ofZ w x)) (toZ w (ofZ w y))))) → r ≡ divsW (bits w) a b
+  unfolding divsW
+  quotient f e = e ∙ ap (bitsW (bits w)) (toZ-ofZ f ∙ (λ i. quotZ ((reads w fa ex ∙ reads-signed w a) i) ((reads w fb ey ∙ reads-signed w b) i)))
 
-  pub remainder : toZ w (ofZ w (remZ (toZ w (ofZ w x)) (toZ w (ofZ w y)))) ≡ remZ (toZ w a) (toZ w b)
-  remainder =
-      ap (λ (z : ℤ). toZ w (ofZ w z)) (λ i. remZ (reads w fa ex i) (reads w fb ey i))
-      ∙ toZ-ofZ (record { sfits = lt-of-le-of-lt (mag-rem (toZ w a) (toZ w b)) (sfits-toZ fa .sfits) })
+  pub remainder : {r : ℕ} → r ≡ bitsW (bits w) (toZ w (ofZ w (remZ (toZ w (ofZ w x)) (toZ w (ofZ w y))))) → r ≡ remsW (bits w) a b
+  unfolding remsW
+  remainder e =
+      e ∙ ap (bitsW (bits w))
+      (ap (λ (z : ℤ). toZ w (ofZ w z)) (λ i. remZ (reads w fa ex i) (reads w fb ey i))
+      ∙ (toZ-ofZ (record { sfits = lt-of-le-of-lt (mag-rem (toZ w a) (toZ w b)) (sfits-toZ fa .sfits) })
+      ∙ (λ i. remZ (reads-signed w a i) (reads-signed w b i))))
 
 -- an arithmetic shift, by the top bit
 pub shift-up : (w : Width) (a k : ℕ) → a < 2 ^ hbits w → a / 2 ^ k ≡ bitsW (bits w) (shrZ (toZ w a) (2 ^ k))

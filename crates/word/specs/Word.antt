@@ -80,8 +80,11 @@ unfoldable pub byDivisor : ℕ → ℕ → Option ℕ
 byDivisor b x = cond (eqb b 0) none (some x)
 
 -- ", for the smallest signed value divided by minus one (divs and rems)"
+abbrev pub noQuotient : ℕ → ℕ → ℕ → Bool
+noQuotient w a b = eqb b 0 || (eqb a (2 ^ (w - 1)) && eqb b (2 ^ w - 1))
+
 unfoldable pub bySigned : ℕ → ℕ → ℕ → ℕ → Option ℕ
-bySigned w a b x = cond (eqb b 0 || (eqb a (2 ^ (w - 1)) && eqb b (2 ^ w - 1))) none (some x)
+bySigned w a b x = cond (noQuotient w a b) none (some x)
 
 -- ", and for a shift or rotate whose count, read unsigned, is at or above the width."
 unfoldable pub byCount : ℕ → ℕ → ℕ → Option ℕ

@@ -3,7 +3,7 @@ ghost use mathlib.Core.Path.{_≡_};
 ghost use Prim.Native.Nat.{_/_, _%_};
 ghost use lib.Bits.{bitAnd, bitOr, bitXor};
 ghost use Rattle.word.specs.Word.{addW, subW, mulW, negW, notW, andcW, orcW, eqvW, nandW, norW, shlW, shrW, sarW, rotlW, rotrW};
-ghost use Rattle.word.specs.Word.{signedW, bitsW, divsW, remsW, byDivisor, bySigned, byCount};
+ghost use Rattle.word.specs.Word.{signedW, bitsW, divsW, remsW, noQuotient, byDivisor, bySigned, byCount};
 ghost use Rattle.word.specs.Answer.{statedOf};
 use super::Stated;
 
@@ -111,16 +111,18 @@ pub fn to_bits(z: i32) -> u32
     if 0 <= z { z as u32 } else { !((!z) as u32) }
 }
 
+// A signed division by zero, or of the smallest value by minus one.
+fn no_quotient(a: u32, b: u32) -> bool
+    ensures { λ r. ⌜ r ≡ noQuotient 32 a b ⌝ }
+{
+    b == 0 || a == SMALLEST && b == MINUS_ONE
+}
+
 pub fn divs(a: u32, b: u32) -> Stated
     ensures { λ r. ⌜ r ≡ statedOf (bySigned 32 a b (divsW 32 a b)) ⌝ }
 {
-    if b == 0 {
+    if no_quotient(a, b) {
         return Stated::NoResult;
-    }
-    if a == SMALLEST {
-        if b == MINUS_ONE {
-            return Stated::NoResult;
-        }
     }
     let x = to_signed(a);
     let y = to_signed(b);
@@ -130,13 +132,8 @@ pub fn divs(a: u32, b: u32) -> Stated
 pub fn rems(a: u32, b: u32) -> Stated
     ensures { λ r. ⌜ r ≡ statedOf (bySigned 32 a b (remsW 32 a b)) ⌝ }
 {
-    if b == 0 {
+    if no_quotient(a, b) {
         return Stated::NoResult;
-    }
-    if a == SMALLEST {
-        if b == MINUS_ONE {
-            return Stated::NoResult;
-        }
     }
     let x = to_signed(a);
     let y = to_signed(b);

@@ -3,7 +3,7 @@ ghost use mathlib.Core.Path.{_≡_};
 ghost use Prim.Native.Nat.{_/_, _%_};
 ghost use lib.Bits.{bitAnd, bitOr, bitXor};
 ghost use Rattle.word.specs.Word.{addW, subW, mulW, negW, notW, andcW, orcW, eqvW, nandW, norW, shlW, shrW, sarW, rotlW, rotrW};
-ghost use Rattle.word.specs.Word.{signedW, bitsW, divsW, remsW, byDivisor, bySigned, byCount};
+ghost use Rattle.word.specs.Word.{signedW, bitsW, divsW, remsW, noQuotient, byDivisor, bySigned, byCount};
 ghost use Rattle.word.specs.Answer.{statedOf};
 use super::Stated;
 
@@ -115,16 +115,18 @@ pub fn to_bits(z: i64) -> u64
     if 0 <= z { z as u64 } else { !((!z) as u64) }
 }
 
+// A signed division by zero, or of the smallest value by minus one.
+fn no_quotient(a: u64, b: u64) -> bool
+    ensures { λ r. ⌜ r ≡ noQuotient 64 a b ⌝ }
+{
+    b == 0 || a == SMALLEST && b == MINUS_ONE
+}
+
 pub fn divs(a: u64, b: u64) -> Stated
     ensures { λ r. ⌜ r ≡ statedOf (bySigned 64 a b (divsW 64 a b)) ⌝ }
 {
-    if b == 0 {
+    if no_quotient(a, b) {
         return Stated::NoResult;
-    }
-    if a == SMALLEST {
-        if b == MINUS_ONE {
-            return Stated::NoResult;
-        }
     }
     let x = to_signed(a);
     let y = to_signed(b);
@@ -134,13 +136,8 @@ pub fn divs(a: u64, b: u64) -> Stated
 pub fn rems(a: u64, b: u64) -> Stated
     ensures { λ r. ⌜ r ≡ statedOf (bySigned 64 a b (remsW 64 a b)) ⌝ }
 {
-    if b == 0 {
+    if no_quotient(a, b) {
         return Stated::NoResult;
-    }
-    if a == SMALLEST {
-        if b == MINUS_ONE {
-            return Stated::NoResult;
-        }
     }
     let x = to_signed(a);
     let y = to_signed(b);
