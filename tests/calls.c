@@ -1,11 +1,8 @@
-/* The calls for C on case 12 of document 01, on a fault, on an op without a stated result, and on refusals. Answers 0 if all are as they should be. */
-#include <stdint.h>
+/* The calls for C on case 12 of document 01, on a fault, on an op without a stated result, on every refusal, and with no bytes lent. Answers 0 if all are as they should be. */
+#include "ngulo.h"
+
 #include <stdio.h>
 #include <string.h>
-
-uint64_t ngulo_check(const uint8_t *block, size_t block_length);
-uint64_t ngulo_pass(const uint8_t *block, size_t block_length, uint8_t *out, size_t out_length);
-uint64_t ngulo_run(const uint8_t *block, size_t block_length, uint64_t *globals, size_t globals_length, uint8_t *memory, size_t memory_length, uint64_t report[4]);
 
 static int failures;
 
@@ -56,14 +53,14 @@ static void runs(void)
     uint64_t globals[4] = {7, 2, 3, 4};
     uint64_t report[4] = {9, 9, 9, 9};
 
-    expect("case 12: run", ngulo_run(case12, sizeof case12, globals, 4, NULL, 0, report), 0);
+    expect("case 12: run", ngulo_run_nullable(case12, sizeof case12, globals, 4, NULL, 0, report), 0);
     expect_report("case 12: before", report, 1, 7, 0, 5);
     expect("case 12: global 1", globals[1], 1);
     globals[1] = 2;
-    expect("case 12: run of the result", ngulo_run(case12_out, sizeof case12_out, globals, 4, NULL, 0, report), 0);
+    expect("case 12: run of the result", ngulo_run_nullable(case12_out, sizeof case12_out, globals, 4, NULL, 0, report), 0);
     expect_report("case 12: after", report, 1, 7, 0, 2);
     expect("case 12: global 1", globals[1], 1);
-    expect("too few globals", ngulo_run(case12, sizeof case12, globals, 3, NULL, 0, report), 11);
+    expect("too few globals", ngulo_run_nullable(case12, sizeof case12, globals, 3, NULL, 0, report), 11);
     expect_report("a refused run's report", report, 1, 7, 0, 2);
 }
 
@@ -95,12 +92,146 @@ static void refuses(void)
     expect("an unknown kind", ngulo_check(unknown, sizeof unknown), 2 + 256 * 3);
 }
 
+/* A block, and the refusal its check answers. */
+struct refused_block {
+    const char *what;
+    uint8_t bytes[14];
+    size_t length;
+    unsigned number;
+    size_t place;
+};
+
+static const struct refused_block refused_blocks[] = {
+    {"a record past the end", {0x01, 0x00, 0x01, 0x04}, 4, NGULO_REFUSAL_RECORD_CUT, 3},
+    {"kind 00", {0x00}, 1, NGULO_REFUSAL_UNKNOWN_KIND, 0},
+    {"class 3", {0x01, 0x03, 0x00}, 3, NGULO_REFUSAL_BAD_DECLARATION, 0},
+    {"type 2", {0x01, 0x00, 0x02}, 3, NGULO_REFUSAL_BAD_DECLARATION, 0},
+    {"a global after a temporary", {0x01, 0x02, 0x00, 0x01, 0x00, 0x00}, 6, NGULO_REFUSAL_BAD_DECLARATION, 3},
+    {"a declaration after an op", {0x01, 0x00, 0x01, 0x03, 0x00, 0x01, 0x00, 0x01}, 8, NGULO_REFUSAL_BAD_DECLARATION, 5},
+    {"a variable not declared", {0x01, 0x00, 0x01, 0x04, 0x01}, 5, NGULO_REFUSAL_UNDECLARED, 3},
+    {"an exit with 32 bits", {0x01, 0x00, 0x00, 0x04, 0x00}, 5, NGULO_REFUSAL_WRONG_WIDTH, 3},
+    {"condition 10", {0x01, 0x00, 0x00, 0x28, 0x00, 0x00, 0x00, 0x0A}, 8, NGULO_REFUSAL_BAD_FIELD, 3},
+    {"flag bit 4", {0x01, 0x00, 0x01, 0xAB, 0x00, 0x00, 0x10}, 7, NGULO_REFUSAL_BAD_FIELD, 3},
+    {"label 32", {0x02, NGULO_MAX_LABELS}, 2, NGULO_REFUSAL_BAD_FIELD, 0},
+    {"a 32-bit movi of 2^32", {0x01, 0x00, 0x00, 0x10, 0x00, 0x00, 0x00, 0x00, 0x00, 0x01}, 13, NGULO_REFUSAL_BAD_FIELD, 3},
+    {"a label set twice", {0x02, 0x00, 0x02, 0x00}, 4, NGULO_REFUSAL_BAD_LABEL, 2},
+    {"a jump to a label already set", {0x02, 0x00, 0x03, 0x00}, 4, NGULO_REFUSAL_BAD_LABEL, 2},
+    {"a label never set", {0x01, 0x00, 0x01, 0x03, 0x00, 0x04, 0x00}, 7, NGULO_REFUSAL_BAD_LABEL, 7},
+    {"a temporary not written", {0x01, 0x02, 0x01, 0x04, 0x00}, 5, NGULO_REFUSAL_UNWRITTEN, 3},
+    {"no op", {0x01, 0x00, 0x01}, 3, NGULO_REFUSAL_NO_EXIT, 3},
+    {"a last op that is no exit", {0x01, 0x00, 0x00, 0x11, 0x00, 0x00}, 6, NGULO_REFUSAL_NO_EXIT, 6}};
+
+/* The three calls answer a refused block alike. */
+static void expect_refused(const char *what, const uint8_t *bytes, size_t length, unsigned number, size_t place)
+{
+    uint64_t answer = ngulo_check(bytes, length);
+    uint8_t out = 0xEE;
+    uint64_t report[4] = {9, 9, 9, 9};
+
+    expect(what, ngulo_refusal_number(answer), number);
+    expect(what, ngulo_refusal_place(answer), place);
+    expect(what, ngulo_pass(bytes, length, &out, 1), answer);
+    expect(what, out, 0xEE);
+    expect(what, ngulo_run_nullable(bytes, length, NULL, 0, NULL, 0, report), answer);
+    expect_report(what, report, 9, 9, 9, 9);
+}
+
+static void refuses_each(void)
+{
+    size_t i;
+
+    for (i = 0; i < sizeof refused_blocks / sizeof refused_blocks[0]; i += 1) {
+        const struct refused_block *b = &refused_blocks[i];
+
+        expect_refused(b->what, b->bytes, b->length, b->number, b->place);
+    }
+}
+
+/* This many declarations of a 64-bit global, this many movs, and an exit. */
+static size_t fill(uint8_t *bytes, size_t declarations, size_t movs)
+{
+    size_t i;
+    size_t at = 0;
+
+    for (i = 0; i < declarations; i += 1, at += 3) {
+        bytes[at] = 0x01;
+        bytes[at + 1] = 0x00;
+        bytes[at + 2] = 0x01;
+    }
+    for (i = 0; i < movs; i += 1, at += 3) {
+        bytes[at] = 0x91;
+        bytes[at + 1] = 0x00;
+        bytes[at + 2] = 0x00;
+    }
+    bytes[at] = 0x04;
+    bytes[at + 1] = 0x00;
+    return at + 2;
+}
+
+/* Case 11: the limits, and one more. */
+static void limits(void)
+{
+    static uint8_t bytes[2 + 3 * (NGULO_MAX_VARIABLES + NGULO_MAX_OPS)];
+    static uint8_t memory[NGULO_MAX_MEMORY + 1];
+    uint64_t globals[1] = {7};
+    uint64_t report[4] = {9, 9, 9, 9};
+    size_t length;
+
+    expect("64 variables", ngulo_check(bytes, fill(bytes, NGULO_MAX_VARIABLES, 0)), 0);
+    length = fill(bytes, NGULO_MAX_VARIABLES + 1, 0);
+    expect_refused("65 variables", bytes, length, NGULO_REFUSAL_BAD_DECLARATION, 3 * NGULO_MAX_VARIABLES);
+    expect("256 ops", ngulo_check(bytes, fill(bytes, 1, NGULO_MAX_OPS - 1)), 0);
+    length = fill(bytes, 1, NGULO_MAX_OPS);
+    expect_refused("257 ops", bytes, length, NGULO_REFUSAL_TOO_MANY_OPS, 3 + 3 * NGULO_MAX_OPS);
+    length = fill(bytes, 1, 0);
+    expect("65,537 bytes", ngulo_run(bytes, length, globals, 1, memory, sizeof memory, report), NGULO_REFUSAL_UNFIT_STATE);
+    expect_report("65,537 bytes", report, 9, 9, 9, 9);
+    expect("65,536 bytes", ngulo_run(bytes, length, globals, 1, memory, NGULO_MAX_MEMORY, report), 0);
+    expect_report("65,536 bytes", report, NGULO_ENDING_EXIT, 7, 0, 1);
+}
+
+/* Any pointer will do where the length is 0. */
+static void lends_nothing(void)
+{
+    static const uint8_t no_globals[] = {0x01, 0x02, 0x01, 0x90, 0x00, 0x2A, 0x00, 0x00, 0x00, 0x00, 0x00, 0x00, 0x00, 0x04, 0x00};
+    uint64_t report[4] = {9, 9, 9, 9};
+    uint8_t out[64];
+
+    expect("check of NULL", ngulo_check_nullable(NULL, 0), NGULO_REFUSAL_NO_EXIT);
+    expect("check of bytes", ngulo_check_nullable(case12, sizeof case12), 0);
+    expect("pass of NULL", ngulo_pass_nullable(NULL, 0, NULL, 0), NGULO_REFUSAL_NO_EXIT);
+    expect("pass into NULL", ngulo_pass_nullable(case12, sizeof case12, NULL, 0), NGULO_REFUSAL_NO_ROOM);
+    expect("pass into bytes", ngulo_pass_nullable(case12, sizeof case12, out, sizeof out), 256 * sizeof case12_out);
+    expect("pass into bytes", (uint64_t)memcmp(out, case12_out, sizeof case12_out), 0);
+    expect("run of NULL", ngulo_run_nullable(NULL, 0, NULL, 0, NULL, 0, report), NGULO_REFUSAL_NO_EXIT);
+    expect_report("run of NULL", report, 9, 9, 9, 9);
+    expect("run on NULL", ngulo_run_nullable(no_globals, sizeof no_globals, NULL, 0, NULL, 0, report), 0);
+    expect_report("run on NULL", report, NGULO_ENDING_EXIT, 42, 0, 2);
+}
+
+/* Globals and memory are written through the nullable call too. */
+static void lends_all(void)
+{
+    uint64_t globals[2] = {4, 1};
+    uint64_t report[4] = {9, 9, 9, 9};
+    uint8_t memory[8] = {0};
+
+    expect("a store", ngulo_run_nullable(faulting, sizeof faulting, globals, 2, memory, sizeof memory, report), 0);
+    expect_report("a store", report, NGULO_ENDING_EXIT, 4, 0, 3);
+    expect("a store: global 1", globals[1], 5);
+    expect("a store: memory", memory[4], 5);
+}
+
 int main(void)
 {
     optimises();
     runs();
     stops();
     refuses();
+    refuses_each();
+    limits();
+    lends_nothing();
+    lends_all();
     if (failures == 0) {
         puts("calls from C: as they should be");
     }

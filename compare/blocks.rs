@@ -1,0 +1,800 @@
+//! Blocks to compare on. Each case follows from the seed and its number alone.
+
+use crate::cases::Case;
+use crate::second::{Form, LABELS, MEMORY, OPS, SHAPES, VARIABLES};
+
+/// A small generator of pseudo-random numbers (splitmix64).
+pub struct Random(u64);
+
+impl Random {
+    pub fn new(seed: u64, number: u64) -> Random {
+        let mut random = Random(seed ^ number.wrapping_mul(0xD1B5_4A32_D192_ED03));
+        random.next();
+        random
+    }
+
+    pub fn next(&mut self) -> u64 {
+        self.0 = self.0.wrapping_add(0x9E37_79B9_7F4A_7C15);
+        let mut z = self.0;
+        z = (z ^ z >> 30).wrapping_mul(0xBF58_476D_1CE4_E5B9);
+        z = (z ^ z >> 27).wrapping_mul(0x94D0_49BB_1331_11EB);
+        z ^ z >> 31
+    }
+
+    /// A number below the bound, which is not zero.
+    pub fn below(&mut self, bound: usize) -> usize {
+        (self.next() % bound as u64) as usize
+    }
+
+    /// True in so many cases of a hundred.
+    pub fn chance(&mut self, percent: usize) -> bool {
+        self.below(100) < percent
+    }
+
+    pub fn pick<T: Copy>(&mut self, from: &[T]) -> T {
+        from[self.below(from.len())]
+    }
+}
+
+/// Values at the edges of both widths and of the shift counts.
+const CORNERS: [u64; 26] = [
+    0,
+    1,
+    2,
+    3,
+    7,
+    8,
+    15,
+    31,
+    32,
+    33,
+    63,
+    64,
+    65,
+    0x80,
+    0x8000,
+    0x7FFF_FFFF,
+    0x8000_0000,
+    0x8000_0001,
+    0xFFFF_FFFE,
+    0xFFFF_FFFF,
+    0x1_0000_0000,
+    0x1_0000_0001,
+    0x7FFF_FFFF_FFFF_FFFF,
+    0x8000_0000_0000_0000,
+    0x8000_0000_0000_0001,
+    0xFFFF_FFFF_FFFF_FFFF,
+];
+
+fn narrowed(value: u64, wide: bool) -> u64 {
+    if wide {
+        value
+    } else {
+        value & 0xFFFF_FFFF
+    }
+}
+
+fn corner(random: &mut Random, wide: bool) -> u64 {
+    let value = match random.below(10) {
+        0..=5 => random.pick(&CORNERS),
+        6 | 7 => random.next() & 0x3F,
+        8 => random.next(),
+        _ => (random.next() & 0x3F).wrapping_neg(),
+    };
+    narrowed(value, wide)
+}
+
+/// How often ops of each sort come, in cases of a hundred, and how many ops.
+struct Style {
+    constants: usize,
+    accesses: usize,
+    jumps: usize,
+    /// Divisors, counts and addresses that may have no result or fault.
+    risk: usize,
+    ops: usize,
+    /// Fill up to exactly so many ops.
+    exact: bool,
+}
+
+fn style(random: &mut Random) -> Style {
+    let ops = match random.below(20) {
+        0..=9 => 5 + random.below(12),
+        10..=15 => 10 + random.below(40),
+        16..=18 => 40 + random.below(OPS - 40),
+        _ => OPS,
+    };
+    let exact = ops == OPS || random.chance(10);
+    Style {
+        constants: random.pick(&[5, 15, 30, 45]),
+        accesses: random.pick(&[0, 5, 20, 50]),
+        jumps: random.pick(&[0, 3, 10, 25]),
+        risk: random.pick(&[0, 0, 2, 10, 50]),
+        ops,
+        exact,
+    }
+}
+
+/// Writes one accepted block, op by op.
+struct Maker<'a> {
+    random: &'a mut Random,
+    bytes: Vec<u8>,
+    classes: Vec<u8>,
+    types: Vec<u8>,
+    ops: usize,
+    /// Variables written in this basic block.
+    written: u64,
+    set: u32,
+    jumped: u32,
+    memory: usize,
+    /// Whether temporaries may be read before a write.
+    careless: bool,
+}
+
+impl Maker<'_> {
+    fn new(random: &mut Random, variables: usize, memory: usize) -> Maker<'_> {
+        let globals = random.below(variables + 1);
+        let sure = random.below(variables);
+        let mut maker = Maker {
+            random,
+            bytes: vec![],
+            classes: vec![],
+            types: vec![],
+            ops: 0,
+            written: 0,
+            set: 0,
+            jumped: 0,
+            memory,
+            careless: false,
+        };
+        for variable in 0..variables {
+            let class = if variable < globals {
+                0
+            } else {
+                1 + maker.random.below(2) as u8
+            };
+            // At least one variable has 64 bits, for exit_tb.
+            let width = if variable == sure {
+                1
+            } else {
+                maker.random.below(2) as u8
+            };
+            maker.bytes.extend([1, class, width]);
+            maker.classes.push(class);
+            maker.types.push(width);
+        }
+        maker
+    }
+
+    fn of_width(&self, wide: bool) -> Vec<u8> {
+        (0..self.types.len() as u8)
+            .filter(|&v| (self.types[v as usize] == 1) == wide)
+            .collect()
+    }
+
+    fn output(&mut self, wide: bool) -> Option<u8> {
+        let all = self.of_width(wide);
+        // Few outputs make many dead writes.
+        let some = if self.random.chance(40) {
+            all.len().min(2)
+        } else {
+            all.len()
+        };
+        if all.is_empty() {
+            None
+        } else {
+            Some(all[self.random.below(some)])
+        }
+    }
+
+    /// A variable that may be read here, often one written in this basic block.
+    fn input(&mut self, wide: bool) -> Option<u8> {
+        let mut all = self.of_width(wide);
+        if self.careless && self.random.chance(15) && !all.is_empty() {
+            return Some(self.random.pick(&all));
+        }
+        all.retain(|&v| self.classes[v as usize] != 2 || self.written >> v & 1 != 0);
+        let fresh: Vec<u8> = all
+            .iter()
+            .copied()
+            .filter(|&v| self.written >> v & 1 != 0)
+            .collect();
+        if !fresh.is_empty() && self.random.chance(75) {
+            return Some(self.random.pick(&fresh));
+        }
+        if all.is_empty() {
+            None
+        } else {
+            Some(self.random.pick(&all))
+        }
+    }
+
+    fn op(&mut self, kind: u8, body: &[u8]) {
+        self.bytes.push(kind);
+        self.bytes.extend(body);
+        self.ops += 1;
+        let shape = &SHAPES[kind as usize];
+        if shape.outputs == 1 {
+            self.written |= 1 << body[0];
+        }
+        if matches!(
+            shape.form,
+            Form::SetLabel | Form::Br | Form::BrCond | Form::ExitTb
+        ) {
+            self.written = 0;
+        }
+    }
+
+    fn movi(&mut self, variable: u8, value: u64) {
+        let wide = self.types[variable as usize] == 1;
+        let mut body = vec![variable];
+        body.extend(narrowed(value, wide).to_le_bytes());
+        self.op(if wide { 0x90 } else { 0x10 }, &body);
+    }
+
+    fn constant(&mut self) {
+        let wide = self.random.chance(50);
+        if let Some(variable) = self.output(wide) {
+            let value = corner(self.random, wide);
+            self.movi(variable, value);
+        }
+    }
+
+    /// An input that a movi has just written.
+    fn known(&mut self, wide: bool, value: u64) -> Option<u8> {
+        let variable = self.output(wide)?;
+        self.movi(variable, value);
+        Some(variable)
+    }
+
+    /// The divisor or count, mostly one that gives a stated result.
+    fn second(&mut self, kind: u8, wide: bool, risk: usize) -> Option<u8> {
+        let width = if wide { 64 } else { 32 };
+        let value = match kind & 0x7F {
+            0x1F..=0x22 if !self.random.chance(risk) => 1 + self.random.next() % 9,
+            0x23..=0x27 if !self.random.chance(risk) => self.random.next() % width,
+            0x1F..=0x22 => self.random.pick(&[0, u64::MAX, 1]),
+            0x23..=0x27 => self
+                .random
+                .pick(&[0, width - 1, width, width + 1, u64::MAX, 1 << 31]),
+            _ => return self.input(wide),
+        };
+        if risk > 0 && self.random.chance(15) {
+            self.input(wide)
+        } else {
+            self.known(wide, value)
+        }
+    }
+
+    /// An op that fold may replace.
+    fn compute(&mut self, risk: usize) -> Option<()> {
+        let kinds: Vec<u8> = (0..=255)
+            .filter(|&k| SHAPES[k as usize].form == Form::Compute)
+            .collect();
+        let kind = self.random.pick(&kinds);
+        let shape = SHAPES[kind as usize];
+        let wide = |i: u8| shape.wide >> i & 1 != 0;
+        let mut body = vec![self.output(wide(0))?];
+        if shape.inputs >= 2 {
+            let b = self.second(kind, wide(2), risk)?;
+            // The smallest signed value meets minus one.
+            let edge = (kind & 0x7F) <= 0x22 && self.random.chance(risk / 2);
+            let smallest = if wide(1) { 1 << 63 } else { 1 << 31 };
+            let a = if edge {
+                self.known(wide(1), smallest)?
+            } else {
+                self.input(wide(1))?
+            };
+            body.extend([a, b]);
+        }
+        while body.len() <= shape.inputs as usize {
+            body.push(self.input(wide(body.len() as u8))?);
+        }
+        if shape.body as usize > body.len() {
+            body.push(self.random.below(10) as u8);
+        }
+        self.op(kind, &body);
+        Some(())
+    }
+
+    /// An address about the memory's length, or near 2^64.
+    fn address(&mut self, size: u64, risk: usize) -> u64 {
+        let length = self.memory as u64;
+        if length >= size && !self.random.chance(risk) {
+            let far = length - size;
+            return if self.random.chance(30) {
+                far
+            } else {
+                self.random.next() % (far + 1)
+            };
+        }
+        let edge = length.wrapping_sub(size);
+        let high = 0u64.wrapping_sub(size);
+        self.random.pick(&[
+            edge.wrapping_add(1),
+            length,
+            edge,
+            high,
+            high.wrapping_add(1),
+            u64::MAX,
+            1 << 63,
+            1 << 32,
+        ])
+    }
+
+    fn access(&mut self, risk: usize) -> Option<()> {
+        let wide = self.random.chance(50);
+        let store = self.random.chance(50);
+        let mut flags = self.random.below(16) as u8;
+        if !wide && flags & 3 == 3 {
+            flags ^= 1;
+        }
+        if store {
+            flags &= !4;
+        }
+        let known = risk == 0 || self.random.chance(70);
+        let place = self.address(1 << (flags & 3), risk);
+        let address = if known {
+            self.known(true, place)?
+        } else {
+            self.input(true)?
+        };
+        let value = if store {
+            self.input(wide)?
+        } else {
+            self.output(wide)?
+        };
+        let kind = if store { 0x2C } else { 0x2B } + if wide { 0x80 } else { 0 };
+        self.op(kind, &[value, address, flags]);
+        Some(())
+    }
+
+    /// A label that is not set; often one already jumped to.
+    fn label(&mut self) -> Option<u8> {
+        let unset: Vec<u8> = (0..LABELS as u8)
+            .filter(|&l| self.set >> l & 1 == 0)
+            .collect();
+        let jumped: Vec<u8> = unset
+            .iter()
+            .copied()
+            .filter(|&l| self.jumped >> l & 1 != 0)
+            .collect();
+        let from = if jumped.is_empty() || self.random.chance(40) {
+            unset
+        } else {
+            jumped
+        };
+        if from.is_empty() {
+            None
+        } else {
+            Some(self.random.pick(&from))
+        }
+    }
+
+    fn set_label(&mut self, label: u8) {
+        self.set |= 1 << label;
+        self.op(0x02, &[label]);
+    }
+
+    fn jump(&mut self) -> Option<()> {
+        let label = self.label()?;
+        match self.random.below(20) {
+            0..=7 => self.set_label(label),
+            8 | 9 => {
+                self.jumped |= 1 << label;
+                self.op(0x03, &[label]);
+            }
+            10 => self.exit(),
+            _ => {
+                let wide = self.random.chance(50);
+                let a = self.input(wide)?;
+                let b = self.input(wide)?;
+                let cond = self.random.below(10) as u8;
+                self.jumped |= 1 << label;
+                self.op(if wide { 0xAA } else { 0x2A }, &[a, b, cond, label]);
+            }
+        }
+        Some(())
+    }
+
+    fn exit(&mut self) {
+        if let Some(variable) = self.input(true).or_else(|| self.known(true, 5)) {
+            self.op(0x04, &[variable]);
+        }
+    }
+
+    /// The labels still to set; every exit may need a movi before it.
+    fn owed(&self) -> usize {
+        (self.jumped & !self.set).count_ones() as usize + 2
+    }
+
+    fn finish(&mut self, style: &Style) {
+        while style.exact && self.ops + self.owed() < style.ops {
+            self.constant();
+        }
+        for label in 0..LABELS as u8 {
+            if (self.jumped & !self.set) >> label & 1 != 0 {
+                self.set_label(label);
+            }
+        }
+        if style.exact {
+            // What exit_tb reads, and then as many movis as are left.
+            self.known(true, 6);
+            while self.ops + 1 < style.ops {
+                self.constant();
+            }
+        }
+        self.exit();
+    }
+
+    fn body(&mut self, style: &Style) {
+        // An op may come with two movis, and jump to a new label.
+        while self.ops + self.owed() + 4 <= style.ops {
+            let sort = self.random.below(100);
+            if sort < style.jumps {
+                self.jump();
+            } else if sort < style.jumps + style.accesses {
+                self.access(style.risk);
+            } else if sort < style.jumps + style.accesses + style.constants {
+                self.constant();
+            } else {
+                self.compute(style.risk);
+            }
+        }
+        self.finish(style);
+    }
+}
+
+fn variables(random: &mut Random) -> usize {
+    match random.below(20) {
+        0..=9 => 1 + random.below(6),
+        10..=16 => 4 + random.below(13),
+        17 | 18 => 16 + random.below(VARIABLES - 16),
+        _ => VARIABLES,
+    }
+}
+
+fn memory_length(random: &mut Random) -> usize {
+    match random.below(1000) {
+        0 => MEMORY,
+        1 => 257,
+        2..=99 => 0,
+        _ => random.pick(&[1, 2, 3, 4, 7, 8, 9, 15, 16, 17, 32, 64]),
+    }
+}
+
+fn made(random: &mut Random, memory: usize, careless: bool) -> Vec<u8> {
+    let style = style(random);
+    let variables = variables(random);
+    let mut maker = Maker {
+        careless,
+        ..Maker::new(random, variables, memory)
+    };
+    maker.body(&style);
+    maker.bytes
+}
+
+/// An accepted block.
+fn accepted(random: &mut Random, memory: usize) -> Vec<u8> {
+    made(random, memory, false)
+}
+
+/// The starts of the records, as far as they can be read.
+pub fn records(block: &[u8]) -> Vec<usize> {
+    let mut starts = vec![];
+    let mut place = 0;
+    while place < block.len() && SHAPES[block[place] as usize].form != Form::Unknown {
+        starts.push(place);
+        place += 1 + SHAPES[block[place] as usize].body as usize;
+    }
+    starts
+}
+
+/// The bytes of one record.
+fn record(block: &[u8], start: usize) -> Vec<u8> {
+    let end = start + 1 + SHAPES[block[start] as usize].body as usize;
+    block[start..end.min(block.len())].to_vec()
+}
+
+/// A jump over all of this many ops less one, to the label after them.
+fn jump(random: &mut Random, length: usize) -> Vec<u8> {
+    let mut maker = Maker {
+        classes: vec![0, 1],
+        types: vec![1, 0],
+        ..Maker::new(random, 1, 0)
+    };
+    maker.bytes = vec![1, 0, 1, 1, 1, 0];
+    maker.op(0x03, &[31]);
+    while maker.ops < length {
+        maker.constant();
+    }
+    maker.set_label(31);
+    maker.exit();
+    maker.bytes
+}
+
+/// As many folded copies as fit, so the result is longer than the block.
+fn growth(random: &mut Random) -> Vec<u8> {
+    let copies = 1 + random.below(63) as u8;
+    let mut maker = Maker {
+        classes: vec![0; 64],
+        types: vec![1; 64],
+        ..Maker::new(random, 1, 8)
+    };
+    maker.bytes = [1, 0, 1].repeat(64);
+    while maker.ops + copies as usize + 3 <= OPS {
+        let value = corner(maker.random, true);
+        maker.movi(0, value);
+        for copy in 1..=copies {
+            maker.op(0x91, &[copy, copy - 1]);
+        }
+        maker.op(0xAC, &[1, 63, 0x0B]);
+    }
+    maker.exit();
+    maker.bytes
+}
+
+/// A record to break, often one with a cond, a label or flags.
+fn broken_record(random: &mut Random, block: &[u8], starts: &[usize]) -> usize {
+    let constants = |start: &&usize| {
+        let shape = SHAPES[block[**start] as usize];
+        shape.form != Form::Movi
+            && shape.form != Form::Declaration
+            && shape.body > shape.outputs + shape.inputs
+    };
+    let some: Vec<usize> = starts.iter().filter(constants).copied().collect();
+    let any = some.is_empty() || random.chance(40);
+    random.pick(if any { starts } else { &some })
+}
+
+/// Raises one field of one record just above its limit.
+fn broken(random: &mut Random, memory: usize) -> Vec<u8> {
+    let mut block = accepted(random, memory);
+    let starts = records(&block);
+    let start = broken_record(random, &block, &starts);
+    let variables = starts.iter().filter(|&&s| block[s] == 1).count() as u8;
+    let shape = SHAPES[block[start] as usize];
+    let operands = (shape.outputs + shape.inputs) as usize;
+    let first = if random.chance(70) && operands < shape.body as usize {
+        operands
+    } else {
+        0
+    };
+    let field = first + random.below(shape.body as usize - first);
+    let place = start + 1 + field;
+    block[place] = match shape.form {
+        _ if field < operands && random.chance(50) => variables,
+        _ if field < operands => random.below(variables as usize) as u8,
+        Form::Declaration => 3 - field as u8,
+        Form::Movi => {
+            block[start + 6] = 1;
+            block[place]
+        }
+        Form::SetLabel | Form::Br => LABELS as u8,
+        Form::BrCond if field == 3 => LABELS as u8,
+        Form::Load | Form::Store => random.pick(&[16, 3, 4, 7, 0x20, 0x80]),
+        _ => 10,
+    };
+    block
+}
+
+/// Blocks that reach a limit or break it by one.
+fn limit(random: &mut Random, number: usize, memory: usize) -> Vec<u8> {
+    let full = Style {
+        constants: 20,
+        accesses: 10,
+        jumps: 5,
+        risk: 1,
+        ops: OPS,
+        exact: true,
+    };
+    let mut maker = Maker::new(random, VARIABLES, memory);
+    maker.body(&full);
+    let mut block = maker.bytes;
+    let first = 3 * VARIABLES;
+    match number % 7 {
+        0 => block,
+        1 => {
+            block.splice(first..first, [1, 1 + random.below(2) as u8, 1]);
+            block
+        }
+        2 => {
+            let starts = records(&block);
+            let start = starts[VARIABLES + random.below(OPS)];
+            let twice = record(&block, start);
+            block.splice(start..start, twice);
+            block
+        }
+        3 => growth(random),
+        4 => {
+            // Declarations alone, or one of the last ops gone.
+            let keep = random.pick(&[first, 3, block.len() - 2, block.len() - 1]);
+            block.truncate(keep);
+            block
+        }
+        5 => jump_gone_wrong(random, memory),
+        _ => broken(random, memory),
+    }
+}
+
+/// A label never set, set twice, or set before the jump.
+fn jump_gone_wrong(random: &mut Random, memory: usize) -> Vec<u8> {
+    let mut block = accepted(random, memory);
+    let starts = records(&block);
+    let ops: Vec<usize> = starts.into_iter().filter(|&s| block[s] != 1).collect();
+    let start = random.pick(&ops);
+    let kind = random.pick(&[2, 3]);
+    let label = if random.chance(50) {
+        31
+    } else {
+        random.below(LABELS) as u8
+    };
+    block.splice(start..start, [kind, label]);
+    block
+}
+
+/// One damage: a byte or a record changed, removed, inserted, swapped, cut.
+fn damage(random: &mut Random, block: &mut Vec<u8>) {
+    if block.is_empty() {
+        return;
+    }
+    let place = random.below(block.len());
+    let starts = records(block);
+    let (one, two) = match starts.len() {
+        0 => (0, 0),
+        n => (starts[random.below(n)], starts[random.below(n)]),
+    };
+    match random.below(9) {
+        0 => block[place] = random.next() as u8,
+        1 => block[place] ^= 1 << random.below(8),
+        2 => block[place] = random.below(12) as u8,
+        3 => drop(block.remove(place)),
+        4 => block.insert(place, random.below(48) as u8),
+        5 => block.truncate(place),
+        6 => drop(block.splice(one..one, record(block, two))),
+        7 => {
+            let gone = record(block, one).len();
+            block.drain(one..one + gone);
+        }
+        _ => swap(block, one.min(two), one.max(two)),
+    }
+}
+
+fn swap(block: &mut Vec<u8>, one: usize, two: usize) {
+    let (first, second) = (record(block, one), record(block, two));
+    block.splice(two..two + second.len(), first.clone());
+    block.splice(one..one + first.len(), second);
+}
+
+fn damaged(random: &mut Random, memory: usize) -> Vec<u8> {
+    let mut block = accepted(random, memory);
+    for _ in 0..1 + random.below(3) {
+        damage(random, &mut block);
+    }
+    block
+}
+
+/// Byte soup, uniform or of known kinds with small operands.
+fn soup(random: &mut Random) -> Vec<u8> {
+    let length = random.below(80);
+    if random.chance(30) {
+        return (0..length).map(|_| random.next() as u8).collect();
+    }
+    // In the tame half all variables are 64-bit globals, so some are accepted.
+    let tame = random.chance(50);
+    let mut block = vec![];
+    for _ in 0..if tame { 4 } else { random.below(5) } {
+        block.extend(if tame {
+            [1, 0, 1]
+        } else {
+            [1, random.below(3) as u8, random.below(2) as u8]
+        });
+    }
+    let known = |kind: &u8| {
+        SHAPES[*kind as usize].form != Form::Unknown && (!tame || *kind >= 0x90 && *kind != 0xAA)
+    };
+    let kinds: Vec<u8> = (0..=255).filter(known).collect();
+    while block.len() < length {
+        let kind = random.pick(&kinds);
+        block.push(kind);
+        let large = random.chance(3);
+        for _ in 0..SHAPES[kind as usize].body {
+            block.push(if large {
+                random.next() as u8
+            } else {
+                random.below(4) as u8
+            });
+        }
+    }
+    if tame {
+        block.extend([4, 0]);
+    }
+    block
+}
+
+/// More than 100,000 bytes.
+fn long(random: &mut Random, memory: usize) -> Vec<u8> {
+    let length = 100_000 + random.below(40_000);
+    let mut block = match random.below(4) {
+        0 => vec![],
+        1 => vec![1, 0, 1],
+        _ => accepted(random, memory),
+    };
+    let unit: &[u8] = random.pick(&[
+        &[1u8, 0, 1] as &[u8],
+        &[4, 0],
+        &[2, 1],
+        &[0x90, 0, 1, 2, 3, 4, 5, 6, 7, 8],
+        &[0],
+    ]);
+    while block.len() < length {
+        block.extend(unit);
+    }
+    block
+}
+
+/// Globals that fit the block's declarations, as far as it has any.
+pub fn lent(random: &mut Random, block: &[u8]) -> Vec<u64> {
+    let mut globals = vec![];
+    for start in records(block) {
+        if block[start] != 1 || start + 2 >= block.len() || globals.len() == VARIABLES {
+            break;
+        }
+        if block[start + 1] == 0 {
+            globals.push(corner(random, block[start + 2] != 0));
+        }
+    }
+    globals
+}
+
+/// The case of this number.
+pub fn case(seed: u64, number: u64) -> Case {
+    let mut random = Random::new(seed, number);
+    let hundreds = (number / 100) as usize;
+    let length = memory_length(&mut random);
+    let block = match number % 100 {
+        0 if hundreds.is_multiple_of(10) => vec![],
+        0 if hundreds % 10 == 1 => long(&mut random, length),
+        0..=2 => jump(
+            &mut random,
+            1 + (hundreds * 2 + (number % 2) as usize) % (OPS - 2),
+        ),
+        3..=8 => limit(&mut random, hundreds * 6 + (number % 100) as usize, length),
+        9..=13 => broken(&mut random, length),
+        14..=16 => made(&mut random, length, true),
+        17..=28 => damaged(&mut random, length),
+        29..=36 => soup(&mut random),
+        _ => accepted(&mut random, length),
+    };
+    let globals = lent(&mut random, &block);
+    let memory = (0..length).map(|_| random.next() as u8).collect();
+    Case {
+        block,
+        globals,
+        memory,
+    }
+}
+
+/// The same block with other globals or memory; most do not fit.
+pub fn other(seed: u64, number: u64, case: &Case) -> Case {
+    let mut random = Random::new(!seed, number);
+    let mut other = case.clone();
+    let globals = &mut other.globals;
+    match random.below(100) {
+        0 => other.memory = vec![0x80; MEMORY],
+        1 => other.memory = vec![0x80; MEMORY + 1],
+        2..=19 => other.memory.clear(),
+        20..=39 => globals.push(0),
+        40..=49 => globals.clear(),
+        50..=64 => drop(globals.pop()),
+        _ if globals.is_empty() => globals.push(1),
+        sort => {
+            let place = random.below(globals.len());
+            globals[place] = if sort < 90 {
+                1 << 32
+            } else {
+                random.pick(&[u64::MAX, 0xFFFF_FFFF, 1 << 63])
+            };
+        }
+    }
+    other
+}

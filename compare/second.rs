@@ -1,0 +1,795 @@
+//! A second interpreter of blocks, written from the paper alone: its own
+//! table, check, run, fold and prune. The comparison sets its answers beside
+//! those of the proved library.
+//!
+//! A set of variables is one `u64`, a bit for each of the 64 variables.
+
+/// At most 64 variables.
+pub const VARIABLES: usize = 64;
+/// At most 256 ops.
+pub const OPS: usize = 256;
+/// Labels 0 to 31.
+pub const LABELS: usize = 32;
+/// A run takes at most 65,536 bytes of memory.
+pub const MEMORY: usize = 65_536;
+/// The bytes of a movi: its kind, its output, eight bytes of value.
+const MOVI: usize = 10;
+/// The bytes of a declaration: its kind, class and type.
+const DECLARATION: usize = 3;
+
+/// A refusal carries only its number and place.
+#[derive(Clone, Copy, Debug, PartialEq, Eq)]
+pub struct Refusal {
+    pub number: u8,
+    pub place: usize,
+}
+
+/// A run ends in one of three ways; each gives the number of ops run.
+#[derive(Clone, Copy, Debug, PartialEq, Eq)]
+pub enum Ending {
+    Exit {
+        value: u64,
+        count: u64,
+    },
+    Fault {
+        store: bool,
+        address: u64,
+        flags: u8,
+        count: u64,
+    },
+    NoResult {
+        position: u64,
+        count: u64,
+    },
+}
+
+/// What a record is. `Compute` is every op that fold may replace.
+#[derive(Clone, Copy, Debug, PartialEq, Eq)]
+pub enum Form {
+    Unknown,
+    Declaration,
+    SetLabel,
+    Br,
+    ExitTb,
+    Movi,
+    Compute,
+    BrCond,
+    Load,
+    Store,
+}
+
+/// What the kind fixes: the body's length, the operands and their widths.
+#[derive(Clone, Copy, Debug)]
+pub struct Shape {
+    pub form: Form,
+    pub body: u8,
+    pub outputs: u8,
+    pub inputs: u8,
+    /// Bit i is set when operand i has 64 bits.
+    pub wide: u8,
+}
+
+const fn row(form: Form, body: u8, outputs: u8, inputs: u8, wide: u8) -> Shape {
+    Shape {
+        form,
+        body,
+        outputs,
+        inputs,
+        wide,
+    }
+}
+
+/// Kinds 10 to 2C, and with 80 added their 64-bit forms.
+const fn sized(kind: u8) -> Shape {
+    let wide = if kind & 0x80 != 0 { 0xFF } else { 0 };
+    match kind & 0x7F {
+        0x10 => row(Form::Movi, 9, 1, 0, wide),
+        0x11..=0x13 => row(Form::Compute, 2, 1, 1, wide),
+        0x14..=0x27 => row(Form::Compute, 3, 1, 2, wide),
+        0x28 => row(Form::Compute, 4, 1, 2, wide),
+        0x29 => row(Form::Compute, 6, 1, 4, wide),
+        0x2A => row(Form::BrCond, 4, 0, 2, wide),
+        // Addresses are 64-bit.
+        0x2B => row(Form::Load, 3, 1, 1, wide | 0b10),
+        _ => row(Form::Store, 3, 0, 2, wide | 0b10),
+    }
+}
+
+const fn shape(kind: u8) -> Shape {
+    match kind {
+        0x01 => row(Form::Declaration, 2, 0, 0, 0),
+        0x02 => row(Form::SetLabel, 1, 0, 0, 0),
+        0x03 => row(Form::Br, 1, 0, 0, 0),
+        0x04 => row(Form::ExitTb, 1, 0, 1, 0b1),
+        0x05 | 0x06 => row(Form::Compute, 2, 1, 1, 0b01),
+        0x07 => row(Form::Compute, 2, 1, 1, 0b10),
+        0x10..=0x2C | 0x90..=0xAC => sized(kind),
+        _ => row(Form::Unknown, 0, 0, 0, 0),
+    }
+}
+
+/// The table from kind to shape.
+pub static SHAPES: [Shape; 256] = {
+    let mut table = [row(Form::Unknown, 0, 0, 0, 0); 256];
+    let mut kind = 0;
+    while kind < 256 {
+        table[kind] = shape(kind as u8);
+        kind += 1;
+    }
+    table
+};
+
+/// The set of one variable.
+fn one(variable: u8) -> u64 {
+    1 << variable
+}
+
+/// The set of some operands.
+fn set(operands: &[u8]) -> u64 {
+    operands
+        .iter()
+        .fold(0, |all, &variable| all | one(variable))
+}
+
+/// An op where it stands in the block.
+pub struct Op<'a> {
+    pub kind: u8,
+    pub shape: &'static Shape,
+    pub body: &'a [u8],
+}
+
+impl<'a> Op<'a> {
+    fn at(bytes: &'a [u8], place: usize) -> Op<'a> {
+        let kind = bytes[place];
+        let shape = &SHAPES[kind as usize];
+        Op {
+            kind,
+            shape,
+            body: &bytes[place + 1..place + 1 + shape.body as usize],
+        }
+    }
+
+    fn operands(&self) -> usize {
+        (self.shape.outputs + self.shape.inputs) as usize
+    }
+
+    pub fn outputs(&self) -> &'a [u8] {
+        &self.body[..self.shape.outputs as usize]
+    }
+
+    pub fn inputs(&self) -> &'a [u8] {
+        &self.body[self.shape.outputs as usize..self.operands()]
+    }
+
+    /// The output's number, of an op that has one.
+    fn output(&self) -> usize {
+        self.body[0] as usize
+    }
+
+    /// What follows the operands: value, cond, label or flags.
+    pub fn constants(&self) -> &'a [u8] {
+        &self.body[self.operands()..]
+    }
+
+    /// The value of a movi.
+    fn value(&self) -> u64 {
+        let mut eight = [0; 8];
+        eight.copy_from_slice(&self.body[1..9]);
+        u64::from_le_bytes(eight)
+    }
+
+    /// The label of a set_label, br or brcond.
+    fn label(&self) -> usize {
+        self.body[self.body.len() - 1] as usize
+    }
+
+    fn has_64_bits(&self) -> bool {
+        self.kind & 0x80 != 0
+    }
+
+    /// Pure ops are kinds 05 to 07 and 10 to 29 in either width.
+    pub fn is_pure(&self) -> bool {
+        matches!(self.shape.form, Form::Movi | Form::Compute)
+    }
+
+    /// A basic block ends after br, brcond and exit_tb, and starts at set_label.
+    fn parts_basic_blocks(&self) -> bool {
+        matches!(
+            self.shape.form,
+            Form::SetLabel | Form::Br | Form::BrCond | Form::ExitTb
+        )
+    }
+}
+
+/// An accepted block, read.
+pub struct Block {
+    pub variables: usize,
+    /// The variables of 64 bits, and those of each class.
+    wide: u64,
+    globals: u64,
+    locals: u64,
+    temporaries: u64,
+    pub ops: usize,
+    /// Where each op starts; 64 declarations and 256 ops fit in 2,752 bytes.
+    starts: [u16; OPS],
+    /// The position of each label's set_label.
+    labels: [u16; LABELS],
+}
+
+impl Block {
+    pub fn op<'a>(&self, bytes: &'a [u8], position: usize) -> Op<'a> {
+        Op::at(bytes, self.starts[position] as usize)
+    }
+
+    /// The position of the set_label that a jump goes to.
+    fn target(&self, jump: &Op) -> usize {
+        self.labels[jump.label()] as usize
+    }
+
+    /// The number of declared globals.
+    pub fn lent(&self) -> usize {
+        self.globals.count_ones() as usize
+    }
+}
+
+/// The check's memory between records.
+struct Reader {
+    block: Block,
+    /// Labels set and labels jumped to, a bit for each.
+    set: u32,
+    jumped: u32,
+    /// Variables written in this basic block.
+    written: u64,
+}
+
+impl Reader {
+    fn new() -> Reader {
+        let block = Block {
+            variables: 0,
+            wide: 0,
+            globals: 0,
+            locals: 0,
+            temporaries: 0,
+            ops: 0,
+            starts: [0; OPS],
+            labels: [0; LABELS],
+        };
+        Reader {
+            block,
+            set: 0,
+            jumped: 0,
+            written: 0,
+        }
+    }
+
+    /// One record: 2, 1, then 3 or 9, then 4, 5, 6, 7, 8.
+    fn record(&mut self, bytes: &[u8], place: usize) -> Result<(), u8> {
+        let shape = &SHAPES[bytes[place] as usize];
+        if shape.form == Form::Unknown {
+            return Err(2);
+        }
+        if bytes.len() - place <= shape.body as usize {
+            return Err(1);
+        }
+        let op = Op::at(bytes, place);
+        if shape.form == Form::Declaration {
+            return self.declaration(op.body[0], op.body[1]);
+        }
+        if self.block.ops == OPS {
+            return Err(9);
+        }
+        self.operands(&op)?;
+        constants(&op)?;
+        self.labels(&op)?;
+        self.lifetimes(&op)?;
+        self.block.starts[self.block.ops] = place as u16;
+        self.block.ops += 1;
+        Ok(())
+    }
+
+    /// Declarations stand before the first op, globals before the rest.
+    fn declaration(&mut self, class: u8, width: u8) -> Result<(), u8> {
+        let block = &mut self.block;
+        if block.ops > 0 || class > 2 || width > 1 || block.variables == VARIABLES {
+            return Err(3);
+        }
+        if class == 0 && block.locals | block.temporaries != 0 {
+            return Err(3);
+        }
+        let variable = one(block.variables as u8);
+        match class {
+            0 => block.globals |= variable,
+            1 => block.locals |= variable,
+            _ => block.temporaries |= variable,
+        }
+        if width == 1 {
+            block.wide |= variable;
+        }
+        block.variables += 1;
+        Ok(())
+    }
+
+    /// 4, variable not declared; then 5, an operand has the wrong width.
+    fn operands(&self, op: &Op) -> Result<(), u8> {
+        let operands = &op.body[..op.operands()];
+        if operands
+            .iter()
+            .any(|&variable| variable as usize >= self.block.variables)
+        {
+            return Err(4);
+        }
+        for (i, &variable) in operands.iter().enumerate() {
+            if (op.shape.wide >> i & 1 != 0) != (self.block.wide & one(variable) != 0) {
+                return Err(5);
+            }
+        }
+        Ok(())
+    }
+
+    /// 7, label set twice, or jump to a label already set.
+    fn labels(&mut self, op: &Op) -> Result<(), u8> {
+        if !matches!(op.shape.form, Form::SetLabel | Form::Br | Form::BrCond) {
+            return Ok(());
+        }
+        let label = op.label();
+        if self.set >> label & 1 != 0 {
+            return Err(7);
+        }
+        if op.shape.form == Form::SetLabel {
+            self.set |= 1 << label;
+            self.block.labels[label] = self.block.ops as u16;
+        } else {
+            self.jumped |= 1 << label;
+        }
+        Ok(())
+    }
+
+    /// 8, temporary read before a write in its basic block; reads come first.
+    fn lifetimes(&mut self, op: &Op) -> Result<(), u8> {
+        if set(op.inputs()) & self.block.temporaries & !self.written != 0 {
+            return Err(8);
+        }
+        self.written |= set(op.outputs());
+        if op.parts_basic_blocks() {
+            self.written = 0;
+        }
+        Ok(())
+    }
+
+    /// After the last record 10 comes before 7.
+    fn end(self, bytes: &[u8]) -> Result<Block, Refusal> {
+        let place = bytes.len();
+        let ops = self.block.ops;
+        if ops == 0 || self.block.op(bytes, ops - 1).shape.form != Form::ExitTb {
+            return Err(Refusal { number: 10, place });
+        }
+        if self.jumped & !self.set != 0 {
+            return Err(Refusal { number: 7, place });
+        }
+        Ok(self.block)
+    }
+}
+
+/// 6, cond above 9, bad flags, label above 31, 32-bit movi of 2^32 or more.
+fn constants(op: &Op) -> Result<(), u8> {
+    let constants = op.constants();
+    let good = match op.shape.form {
+        Form::SetLabel | Form::Br => op.label() < LABELS,
+        Form::BrCond => constants[0] <= 9 && op.label() < LABELS,
+        Form::Movi => op.has_64_bits() || op.value() <= u32::MAX as u64,
+        Form::Compute => constants.is_empty() || constants[0] <= 9,
+        Form::Load => flags_fit(op, constants[0]),
+        Form::Store => flags_fit(op, constants[0]) && constants[0] & 4 == 0,
+        _ => true,
+    };
+    if good {
+        Ok(())
+    } else {
+        Err(6)
+    }
+}
+
+/// Other bits are zero, and the size never exceeds the width.
+fn flags_fit(op: &Op, flags: u8) -> bool {
+    flags <= 15 && (op.has_64_bits() || flags & 3 != 3)
+}
+
+/// Records are read in order and the first bad one answers.
+pub fn read(bytes: &[u8]) -> Result<Block, Refusal> {
+    let mut reader = Reader::new();
+    let mut place = 0;
+    while place < bytes.len() {
+        if let Err(number) = reader.record(bytes, place) {
+            return Err(Refusal { number, place });
+        }
+        place += 1 + SHAPES[bytes[place] as usize].body as usize;
+    }
+    reader.end(bytes)
+}
+
+/// The check: a block is accepted if it gives no refusal.
+pub fn check(bytes: &[u8]) -> Result<(), Refusal> {
+    read(bytes).map(|_| ())
+}
+
+/// A value below two to the width, read as signed.
+fn signed(value: u64, wide: bool) -> i64 {
+    if wide {
+        value as i64
+    } else {
+        value as u32 as i32 as i64
+    }
+}
+
+/// Conditions 0 to 9.
+fn holds(cond: u8, a: u64, b: u64, wide: bool) -> bool {
+    match cond {
+        0 => a == b,
+        1 => a != b,
+        2 => signed(a, wide) < signed(b, wide),
+        3 => signed(a, wide) >= signed(b, wide),
+        4 => signed(a, wide) <= signed(b, wide),
+        5 => signed(a, wide) > signed(b, wide),
+        6 => a < b,
+        7 => a >= b,
+        8 => a <= b,
+        _ => a > b,
+    }
+}
+
+/// divs and rems: none for a zero divisor, nor for the smallest by minus one.
+fn divide(rest: bool, a: u64, b: u64, wide: bool) -> Option<u64> {
+    let smallest = if wide { i64::MIN } else { i32::MIN as i64 };
+    let (a, b) = (signed(a, wide), signed(b, wide));
+    if b == 0 || (a == smallest && b == -1) {
+        return None;
+    }
+    Some(if rest { a % b } else { a / b } as u64)
+}
+
+/// Shifts and rotates: none for a count at or above the width.
+fn shift(kind: u8, a: u64, count: u64, wide: bool) -> Option<u64> {
+    if count >= if wide { 64 } else { 32 } {
+        return None;
+    }
+    let count = count as u32;
+    Some(match kind {
+        0x23 => a << count,
+        0x24 => a >> count,
+        0x25 => (signed(a, wide) >> count) as u64,
+        0x26 if wide => a.rotate_left(count),
+        0x26 => (a as u32).rotate_left(count) as u64,
+        _ if wide => a.rotate_right(count),
+        _ => (a as u32).rotate_right(count) as u64,
+    })
+}
+
+/// The result of an op of kinds 05 to 07 or 11 to 29, none if not stated.
+fn result(op: &Op, [a, b, v1, v2]: [u64; 4]) -> Option<u64> {
+    let wide = op.has_64_bits();
+    let all = match op.kind & 0x7F {
+        0x05 => return Some(signed(a, false) as u64),
+        0x06 => return Some(a),
+        0x07 | 0x11 => a,
+        0x12 => a.wrapping_neg(),
+        0x13 => !a,
+        0x14 => a.wrapping_add(b),
+        0x15 => a.wrapping_sub(b),
+        0x16 => a.wrapping_mul(b),
+        0x17 => a & b,
+        0x18 => a | b,
+        0x19 => a ^ b,
+        0x1A => a & !b,
+        0x1B => a | !b,
+        0x1C => !(a ^ b),
+        0x1D => !(a & b),
+        0x1E => !(a | b),
+        0x1F => divide(false, a, b, wide)?,
+        0x20 => a.checked_div(b)?,
+        0x21 => divide(true, a, b, wide)?,
+        0x22 => a.checked_rem(b)?,
+        kind @ 0x23..=0x27 => shift(kind, a, b, wide)?,
+        0x28 => holds(op.constants()[0], a, b, wide) as u64,
+        _ if holds(op.constants()[0], a, b, wide) => v1,
+        _ => v2,
+    };
+    Some(if wide { all } else { all as u32 as u64 })
+}
+
+/// The values of an op's inputs.
+fn inputs(op: &Op, values: &[u64; VARIABLES]) -> [u64; 4] {
+    let mut four = [0; 4];
+    for (place, &variable) in four.iter_mut().zip(op.inputs()) {
+        *place = values[variable as usize];
+    }
+    four
+}
+
+/// Where an access reaches; it faults when address plus size exceeds the length.
+fn reach(memory: &[u8], address: u64, flags: u8) -> Option<std::ops::Range<usize>> {
+    let end = address.checked_add(1 << (flags & 3))?;
+    if end > memory.len() as u64 {
+        return None;
+    }
+    Some(address as usize..end as usize)
+}
+
+/// A load's value: bit 3 means big-endian, bit 2 sign-extends.
+fn load(bytes: &[u8], flags: u8, wide: bool) -> u64 {
+    let put = |value: u64, &byte: &u8| value << 8 | byte as u64;
+    let value = if flags & 8 != 0 {
+        bytes.iter().fold(0, put)
+    } else {
+        bytes.iter().rev().fold(0, put)
+    };
+    let above = 64 - 8 * bytes.len() as u32;
+    let value = if flags & 4 != 0 {
+        ((value << above) as i64 >> above) as u64
+    } else {
+        value
+    };
+    if wide {
+        value
+    } else {
+        value as u32 as u64
+    }
+}
+
+/// A narrow store writes the low bytes.
+fn store(bytes: &mut [u8], flags: u8, value: u64) {
+    let last = bytes.len() - 1;
+    for (i, byte) in bytes.iter_mut().enumerate() {
+        let low = if flags & 8 != 0 { last - i } else { i };
+        *byte = (value >> (8 * low)) as u8;
+    }
+}
+
+/// 11, globals or memory that do not fit the block.
+fn fit(block: &Block, globals: &[u64], memory: &[u8]) -> Result<(), Refusal> {
+    let narrow = |i: usize| block.wide >> i & 1 == 0;
+    let number = globals.len() != block.lent();
+    let large = |(i, &value): (usize, &u64)| narrow(i) && value > u32::MAX as u64;
+    if number || globals.iter().enumerate().any(large) || memory.len() > MEMORY {
+        return Err(Refusal {
+            number: 11,
+            place: 0,
+        });
+    }
+    Ok(())
+}
+
+/// A run takes the block, the globals as 64-bit numbers, and the memory.
+pub fn run(bytes: &[u8], globals: &mut [u64], memory: &mut [u8]) -> Result<Ending, Refusal> {
+    let block = read(bytes)?;
+    fit(&block, globals, memory)?;
+    // Local temporaries start at zero.
+    let mut values = [0; VARIABLES];
+    values[..globals.len()].copy_from_slice(globals);
+    let ending = execute(&block, bytes, &mut values, memory);
+    globals.copy_from_slice(&values[..globals.len()]);
+    Ok(ending)
+}
+
+/// The path taken; the last op is exit_tb, and jumps go forward only.
+fn execute(
+    block: &Block,
+    bytes: &[u8],
+    values: &mut [u64; VARIABLES],
+    memory: &mut [u8],
+) -> Ending {
+    let mut position = 0;
+    let mut count = 0;
+    loop {
+        let op = block.op(bytes, position);
+        let now = inputs(&op, values);
+        count += 1;
+        position += 1;
+        match op.shape.form {
+            Form::ExitTb => return exit(now[0], count),
+            Form::Br => position = block.target(&op),
+            Form::BrCond if holds(op.constants()[0], now[0], now[1], op.has_64_bits()) => {
+                position = block.target(&op);
+            }
+            Form::Movi => values[op.output()] = op.value(),
+            Form::Compute => match result(&op, now) {
+                Some(value) => values[op.output()] = value,
+                // The op without a result does not count.
+                None => return no_result(position - 1, count - 1),
+            },
+            Form::Load | Form::Store => {
+                if let Err(address) = access(&op, now, values, memory) {
+                    return fault(&op, address, count);
+                }
+            }
+            // set_label, or a brcond whose condition does not hold.
+            _ => {}
+        }
+    }
+}
+
+fn exit(value: u64, count: u64) -> Ending {
+    Ending::Exit { value, count }
+}
+
+fn no_result(position: usize, count: u64) -> Ending {
+    Ending::NoResult {
+        position: position as u64,
+        count,
+    }
+}
+
+fn fault(op: &Op, address: u64, count: u64) -> Ending {
+    Ending::Fault {
+        store: op.shape.form == Form::Store,
+        address,
+        flags: op.constants()[0],
+        count,
+    }
+}
+
+/// A load or store; the address of a fault, which changes nothing.
+fn access(
+    op: &Op,
+    now: [u64; 4],
+    values: &mut [u64; VARIABLES],
+    memory: &mut [u8],
+) -> Result<(), u64> {
+    let flags = op.constants()[0];
+    if op.shape.form == Form::Load {
+        let range = reach(memory, now[0], flags).ok_or(now[0])?;
+        values[op.output()] = load(&memory[range], flags, op.has_64_bits());
+    } else {
+        let range = reach(memory, now[1], flags).ok_or(now[1])?;
+        store(&mut memory[range], flags, now[0]);
+    }
+    Ok(())
+}
+
+/// What the pass makes of each op: a movi of a value, kept or dropped.
+pub struct Plan {
+    pub folded: [Option<u64>; OPS],
+    pub kept: [bool; OPS],
+}
+
+impl Plan {
+    fn new() -> Plan {
+        Plan {
+            folded: [None; OPS],
+            kept: [false; OPS],
+        }
+    }
+}
+
+/// Fold reads forward.
+fn fold(block: &Block, bytes: &[u8], plan: &mut Plan) {
+    // Nothing is known at the start.
+    let mut known = 0;
+    let mut values = [0; VARIABLES];
+    for position in 0..block.ops {
+        let op = block.op(bytes, position);
+        let value = match op.shape.form {
+            Form::Movi => Some(op.value()),
+            Form::Compute if set(op.inputs()) & !known == 0 => {
+                plan.folded[position] = result(&op, inputs(&op, &values));
+                plan.folded[position]
+            }
+            _ => None,
+        };
+        // An output neither of a movi nor folded becomes unknown.
+        known &= !set(op.outputs());
+        if let Some(value) = value {
+            known |= one(op.body[0]);
+            values[op.output()] = value;
+        }
+        if op.parts_basic_blocks() {
+            known = 0;
+        }
+    }
+}
+
+/// What is live just before a kept op; a folded op has no inputs.
+fn live_before(block: &Block, op: &Op, folded: bool, after: u64) -> u64 {
+    let inputs = if folded { 0 } else { set(op.inputs()) };
+    let output = set(op.outputs());
+    match op.shape.form {
+        Form::ExitTb => block.globals | inputs,
+        Form::Br | Form::SetLabel => block.globals | block.locals,
+        Form::BrCond => block.globals | block.locals | inputs,
+        Form::Load | Form::Store => after & !output | block.globals | inputs,
+        _ => after & !output | inputs,
+    }
+}
+
+/// Prune reads the folded ops backward.
+fn prune(block: &Block, bytes: &[u8], plan: &mut Plan) {
+    let mut live = 0;
+    for position in (0..block.ops).rev() {
+        let op = block.op(bytes, position);
+        plan.kept[position] = !op.is_pure() || live & one(op.body[0]) != 0;
+        if plan.kept[position] {
+            live = live_before(block, &op, plan.folded[position].is_some(), live);
+        }
+    }
+}
+
+/// Fold, then prune.
+pub fn plan(block: &Block, bytes: &[u8]) -> Plan {
+    let mut plan = Plan::new();
+    fold(block, bytes, &mut plan);
+    prune(block, bytes, &mut plan);
+    plan
+}
+
+/// The length of an op in the result.
+fn length(op: &Op, folded: Option<u64>) -> usize {
+    if folded.is_some() {
+        MOVI
+    } else {
+        1 + op.body.len()
+    }
+}
+
+/// An op of the result: a movi of the output's width, or the op as it stands.
+fn write(out: &mut [u8], op: &Op, folded: Option<u64>) {
+    match folded {
+        Some(value) => {
+            out[0] = if op.shape.wide & 1 != 0 { 0x90 } else { 0x10 };
+            out[1] = op.body[0];
+            out[2..].copy_from_slice(&value.to_le_bytes());
+        }
+        None => {
+            out[0] = op.kind;
+            out[1..].copy_from_slice(op.body);
+        }
+    }
+}
+
+/// The pass: the result is the declarations and kept ops, the answer its length.
+pub fn pass(bytes: &[u8], out: &mut [u8]) -> Result<usize, Refusal> {
+    let block = read(bytes)?;
+    let plan = plan(&block, bytes);
+    let kept = |position: &usize| plan.kept[*position];
+    let declared = block.variables * DECLARATION;
+    let mut whole = declared;
+    for position in (0..block.ops).filter(kept) {
+        whole += length(&block.op(bytes, position), plan.folded[position]);
+    }
+    if out.len() < whole {
+        return Err(Refusal {
+            number: 12,
+            place: 0,
+        });
+    }
+    out[..declared].copy_from_slice(&bytes[..declared]);
+    let mut place = declared;
+    for position in (0..block.ops).filter(kept) {
+        let op = block.op(bytes, position);
+        let next = place + length(&op, plan.folded[position]);
+        write(&mut out[place..next], &op, plan.folded[position]);
+        place = next;
+    }
+    Ok(whole)
+}
+
+/// The first op that fold, reading from the first op, would replace.
+pub fn foldable(bytes: &[u8]) -> Result<Option<usize>, Refusal> {
+    let block = read(bytes)?;
+    let mut plan = Plan::new();
+    fold(&block, bytes, &mut plan);
+    Ok(plan.folded.iter().position(|value| value.is_some()))
+}
+
+/// A pure op whose output is not live after it, read with every op kept.
+pub fn dead(bytes: &[u8]) -> Result<Option<usize>, Refusal> {
+    let block = read(bytes)?;
+    let mut found = None;
+    let mut live = 0;
+    for position in (0..block.ops).rev() {
+        let op = block.op(bytes, position);
+        if op.is_pure() && live & one(op.body[0]) == 0 {
+            found = Some(position);
+        }
+        live = live_before(&block, &op, false, live);
+    }
+    Ok(found)
+}

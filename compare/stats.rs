@@ -1,0 +1,286 @@
+//! What occurred in the comparison. A default run has to have met all of it.
+
+use crate::calls::Side;
+use crate::cases::{passed, Case, RESULT};
+use crate::second::{self, Block, Ending, Form, Plan, Refusal, MEMORY, OPS, SHAPES, VARIABLES};
+
+/// Things that have to occur, each with how often it did.
+type Things = Vec<(String, u64)>;
+
+/// Single things that have to occur.
+const SINGLE: [&str; 12] = [
+    "empty block",
+    "100,000 bytes or more",
+    "64 variables",
+    "256 ops",
+    "longer result",
+    "shorter result",
+    "memory of 65,536 bytes",
+    "empty memory",
+    "lent too few or too many globals",
+    "32-bit global of 2^32 or more",
+    "memory above 65,536 bytes",
+    "jumped-to label never set",
+];
+
+pub struct Stats {
+    refusals: [u64; 13],
+    /// Exit, load fault, store fault, no stated result.
+    endings: [u64; 4],
+    /// By kind: accepted, run, folded, dropped, ended for want of a result.
+    accepted: [u64; 256],
+    run: [u64; 256],
+    folded: [u64; 256],
+    dropped: [u64; 256],
+    unstated: [u64; 256],
+    /// By cond or flags, then kind.
+    conds: [[u64; 256]; 10],
+    flags: [[u64; 256]; 16],
+    /// By flags, with 16 added for a store.
+    faults: [u64; 32],
+    /// By class and type: 2 * class + type.
+    variables: [u64; 6],
+    /// By the number of ops from a jump to its label.
+    jumps: [u64; OPS],
+    single: [u64; SINGLE.len()],
+    pub accepted_blocks: u64,
+}
+
+impl Stats {
+    pub fn new() -> Stats {
+        Stats {
+            refusals: [0; 13],
+            endings: [0; 4],
+            accepted: [0; 256],
+            run: [0; 256],
+            folded: [0; 256],
+            dropped: [0; 256],
+            unstated: [0; 256],
+            conds: [[0; 256]; 10],
+            flags: [[0; 256]; 16],
+            faults: [0; 32],
+            variables: [0; 6],
+            jumps: [0; OPS],
+            single: [0; SINGLE.len()],
+            accepted_blocks: 0,
+        }
+    }
+
+    /// Counts what one case brings, by the second interpreter's readings.
+    pub fn note(&mut self, case: &Case) {
+        let bytes = &case.block;
+        self.single[0] += bytes.is_empty() as u64;
+        self.single[1] += (bytes.len() >= 100_000) as u64;
+        match second::read(bytes) {
+            Err(refusal) => self.refused(refusal, bytes.len()),
+            Ok(block) => {
+                self.accepted_blocks += 1;
+                self.note_block(&block, bytes);
+                self.note_plan(&block, bytes, &second::plan(&block, bytes));
+                self.note_run(case);
+            }
+        }
+    }
+
+    fn refused(&mut self, refusal: Refusal, length: usize) {
+        self.refusals[refusal.number as usize] += 1;
+        self.single[11] += (refusal.number == 7 && refusal.place == length) as u64;
+    }
+
+    fn note_block(&mut self, block: &Block, bytes: &[u8]) {
+        for declaration in bytes[..3 * block.variables].chunks(3) {
+            self.variables[(2 * declaration[1] + declaration[2]) as usize] += 1;
+        }
+        self.single[2] += (block.variables == VARIABLES) as u64;
+        self.single[3] += (block.ops == OPS) as u64;
+        for position in 0..block.ops {
+            let op = block.op(bytes, position);
+            self.accepted[op.kind as usize] += 1;
+            let constants = op.constants();
+            match op.shape.form {
+                Form::Compute | Form::BrCond if !constants.is_empty() => {
+                    self.conds[constants[0] as usize][op.kind as usize] += 1;
+                }
+                Form::Load | Form::Store => {
+                    self.flags[constants[0] as usize][op.kind as usize] += 1
+                }
+                _ => {}
+            }
+            if matches!(op.shape.form, Form::Br | Form::BrCond) {
+                let label = op.body[op.body.len() - 1];
+                let at = |next: &usize| {
+                    let op = block.op(bytes, *next);
+                    op.shape.form == Form::SetLabel && op.body[0] == label
+                };
+                let target = (position..block.ops).find(at).unwrap_or(position);
+                self.jumps[target - position] += 1;
+            }
+        }
+    }
+
+    fn note_plan(&mut self, block: &Block, bytes: &[u8], plan: &Plan) {
+        for position in 0..block.ops {
+            let kind = block.op(bytes, position).kind as usize;
+            self.folded[kind] += plan.folded[position].is_some() as u64;
+            self.dropped[kind] += !plan.kept[position] as u64;
+        }
+        let result = passed(Side::Second, bytes, RESULT)
+            .result()
+            .map_or(0, <[u8]>::len);
+        self.single[4] += (result > bytes.len()) as u64;
+        self.single[5] += (result < bytes.len()) as u64;
+        let little = passed(Side::Second, bytes, result - 1).answer;
+        self.refusals[(little % 256) as usize] += 1;
+    }
+
+    /// The run's ending; the ops on its path as far as the first branch.
+    pub fn note_run(&mut self, case: &Case) {
+        let (mut globals, mut memory) = (case.globals.clone(), case.memory.clone());
+        let ending = second::run(&case.block, &mut globals, &mut memory);
+        let Ok(block) = second::read(&case.block) else {
+            return;
+        };
+        let Ok(ending) = ending else {
+            return self.misfit(&block, case);
+        };
+        self.single[6] += (memory.len() == MEMORY) as u64;
+        self.single[7] += memory.is_empty() as u64;
+        let kind = |position: u64| block.op(&case.block, position as usize).kind as usize;
+        let count = match ending {
+            Ending::Exit { count, .. } => count,
+            Ending::Fault { count, .. } => count,
+            Ending::NoResult { count, .. } => count,
+        };
+        for position in 0..count {
+            self.run[kind(position)] += 1;
+            if matches!(SHAPES[kind(position)].form, Form::Br | Form::BrCond) {
+                break;
+            }
+        }
+        self.note_ending(ending, kind);
+    }
+
+    fn note_ending(&mut self, ending: Ending, kind: impl Fn(u64) -> usize) {
+        match ending {
+            Ending::Exit { .. } => self.endings[0] += 1,
+            Ending::Fault { store, flags, .. } => {
+                self.endings[1 + store as usize] += 1;
+                self.faults[flags as usize + 16 * store as usize] += 1;
+            }
+            Ending::NoResult { position, .. } => {
+                self.endings[3] += 1;
+                self.unstated[kind(position)] += 1;
+            }
+        }
+    }
+
+    fn misfit(&mut self, block: &Block, case: &Case) {
+        self.refusals[11] += 1;
+        if case.memory.len() > MEMORY {
+            self.single[10] += 1;
+        } else if case.globals.len() != block.lent() {
+            self.single[8] += 1;
+        } else {
+            self.single[9] += 1;
+        }
+    }
+
+    /// Every group: its name, and each thing in it with how often it occurred.
+    fn groups(&self) -> Vec<(&'static str, Things)> {
+        let ops = |kind: usize| !matches!(SHAPES[kind].form, Form::Unknown | Form::Declaration);
+        let folds = |kind: usize| SHAPES[kind].form == Form::Compute;
+        let pure = |kind: usize| matches!(SHAPES[kind].form, Form::Compute | Form::Movi);
+        let divides_or_shifts = |kind: usize| folds(kind) && matches!(kind & 0x7F, 0x1F..=0x27);
+        let unstated = by_kind(&self.unstated, divides_or_shifts);
+        let named = |(name, count): (&&str, u64)| (name.to_string(), count);
+        let single = SINGLE.iter().zip(self.single).map(named).collect();
+        vec![
+            ("refusals", numbered(&self.refusals, 1)),
+            ("endings", numbered(&self.endings, 0)),
+            ("kinds accepted", by_kind(&self.accepted, ops)),
+            ("kinds run", by_kind(&self.run, ops)),
+            ("kinds folded", by_kind(&self.folded, folds)),
+            ("kinds dropped", by_kind(&self.dropped, pure)),
+            ("kinds without a result", unstated),
+            ("conds by kind", self.cond_counts()),
+            ("flags by kind", self.flag_counts()),
+            ("faults by flags", fault_counts(&self.faults)),
+            ("classes and types", numbered(&self.variables, 0)),
+            ("jump lengths", numbered(&self.jumps[..OPS - 1], 1)),
+            ("single things", single),
+        ]
+    }
+
+    /// The conds of setcond, movcond and brcond.
+    fn cond_counts(&self) -> Things {
+        let mut all = vec![];
+        for (cond, counts) in self.conds.iter().enumerate() {
+            for kind in [0x28, 0x29, 0x2A, 0xA8, 0xA9, 0xAA] {
+                all.push((format!("{kind:02X} cond {cond}"), counts[kind]));
+            }
+        }
+        all
+    }
+
+    /// The flags that each load and store may have.
+    fn flag_counts(&self) -> Things {
+        let mut all = vec![];
+        for (flags, counts) in self.flags.iter().enumerate() {
+            for kind in [0x2B, 0x2C, 0xAB, 0xAC] {
+                let fits = kind > 0x80 || flags & 3 != 3;
+                if fits && (kind & 1 == 1 || flags & 4 == 0) {
+                    all.push((format!("{kind:02X} flags {flags:X}"), counts[kind]));
+                }
+            }
+        }
+        all
+    }
+
+    /// Prints a line for each group; the things that never occurred.
+    pub fn report(&self) -> Vec<String> {
+        let mut missing = vec![];
+        for (name, things) in self.groups() {
+            let seen = things.iter().filter(|(_, count)| *count > 0).count();
+            let (least, count) = things
+                .iter()
+                .min_by_key(|(_, count)| *count)
+                .cloned()
+                .unwrap_or_default();
+            println!(
+                "{name}: {seen} of {}, least often {least} ({count} times)",
+                things.len()
+            );
+            missing.extend(
+                things
+                    .iter()
+                    .filter(|(_, n)| *n == 0)
+                    .map(|(thing, _)| format!("{name}: {thing}")),
+            );
+        }
+        missing
+    }
+}
+
+/// The counts of those kinds that have to occur.
+fn by_kind(counts: &[u64; 256], needed: impl Fn(usize) -> bool) -> Things {
+    let named = |kind: usize| (format!("{kind:02X}"), counts[kind]);
+    (0..256).filter(|&kind| needed(kind)).map(named).collect()
+}
+
+/// All counts from this number on.
+fn numbered(counts: &[u64], from: usize) -> Things {
+    let named = |(i, &count): (usize, &u64)| (i.to_string(), count);
+    counts.iter().enumerate().skip(from).map(named).collect()
+}
+
+fn fault_counts(faults: &[u64; 32]) -> Things {
+    let may = |i: &usize| *i < 16 || i & 4 == 0;
+    let name = |i: usize| {
+        format!(
+            "{} flags {:X}",
+            if i < 16 { "load" } else { "store" },
+            i % 16
+        )
+    };
+    (0..32).filter(may).map(|i| (name(i), faults[i])).collect()
+}
