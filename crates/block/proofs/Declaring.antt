@@ -16,13 +16,13 @@ use Rattle.ops.specs.Ops.{kindOf}
 use Rattle.block.specs.Checks.{asks, firstBroken, answer, checkOf}
 use Rattle.block.specs.Records.{Cut, cons, cutOf, recordsOf, isDeclaration, classOf, typeOf, widthOf, classesOf, widthsOf, globalCount}
 use Rattle.block.specs.Rules.{Seen}
-use Rattle.block.specs.Scan.{declarationOk, DeclaredBy, refuses, reads-on}
+use Rattle.block.specs.Scan.{Stands, declarationOk, DeclaredBy, refuses, reads-on}
 use Rattle.block.proofs.Cut.{all-append}
-use Rattle.block.proofs.Fields.{field, kind-at}
+use Rattle.block.proofs.Views.{byte, kind-byte}
 use Rattle.block.proofs.Steps.{cut-record, at-short, at-record, at-start}
 use Rattle.block.specs.Rules.{allGlobal, rule3, declared, next}
 use Rattle.block.specs.Scan.{recordAt, checkAt, declaredSeen, Declaring}
-use Rattle.block.specs.declared.Verdict.the-variants.{Accepted, Refused}
+use Rattle.block.specs.declared.Verdict.the-variants.{Refused}
 
 -- the globals come first: all are globals exactly when as many are as there are variables
 count-all : (cs : List ℕ) → eqb (globalCount cs) (length cs) ≡ allGlobal cs
@@ -108,14 +108,17 @@ module _ {b classes types : List ℕ} {p n globals : ℕ} (d : Declaring b class
     within : p + suc (bodyLength (getD b p 0)) ≤ length b
     within = omega (arith, body)
 
+    stands : Stands b p (getD b p 0)
+    stands = record { its-kind = refl; whole = within }
+
     kind : isDeclaration (recordAt b p) ≡ true
-    kind = eq-eqb (kindOf (recordAt b p)) 0x01 (kind-at b p within ∙ k)
+    kind = eq-eqb (kindOf (recordAt b p)) 0x01 (kind-byte stands ∙ k)
 
     class : classOf (recordAt b p) ≡ getD b (p + 1) 0
-    class = field b p within 1 (omega (arith, body))
+    class = byte stands 1 (omega (arith, body))
 
     type : typeOf (recordAt b p) ≡ getD b (p + 2) 0
-    type = field b p within 2 (omega (arith, body))
+    type = byte stands 2 (omega (arith, body))
 
     abbrev met : Bool
     met = declarationOk (getD b (p + 1) 0) (getD b (p + 2) 0) globals n
@@ -224,22 +227,30 @@ module _ {b classes types : List ℕ} {p n globals : ℕ} (d : Declaring b class
   pub short-by : p < length b → getD b p 0 ≡ 1 → length b - p < 3 → DeclaredBy b classes types 1 p n globals
   short-by h k l = refuses {rule = 1} (λ e. omega arith) (declaring-short d h k l)
 
-  pub refused-by : {r : Bool} → p < length b → getD b p 0 ≡ 1 → 3 ≤ length b - p → r ≡ declarationOk (getD b (p + 1) 0) (getD b (p + 2) 0) globals n → r ≡ false
-      → DeclaredBy b classes types 3 p n globals
-  refused-by h k l e t = refuses {rule = 3} (λ q. omega arith) (declaring-refused d h k l (sym e ∙ t))
-
-  module _ {r : Bool} {g : ℕ} (h : p < length b) (k : getD b p 0 ≡ 1) (l : 3 ≤ length b - p) (e : r ≡ declarationOk (getD b (p + 1) 0) (getD b (p + 2) 0) globals n) (t : r ≡ true) where
-    pub again-global : getD b (p + 1) 0 ≡ 0 → g ≡ globals + 1 → Declaring b (set classes n (getD b (p + 1) 0)) (set types n (getD b (p + 2) 0)) (p + 3) (n + 1) g
-    again-global z q = rw q (declaring-global d h k l (sym e ∙ t) z)
-
-    pub again-other : (getD b (p + 1) 0 ≡ 0 → ⊥) → g ≡ globals → Declaring b (set classes n (getD b (p + 1) 0)) (set types n (getD b (p + 2) 0)) (p + 3) (n + 1) g
-    again-other z q = rw q (declaring-other d h k l (sym e ∙ t) z)
-
   pub ended-by : length b ≤ p → DeclaredBy b classes types 0 p n globals
   ended-by l = reads-on d (λ h. absurd (omega arith))
 
   pub stopped-by : (getD b p 0 ≡ 1 → ⊥) → DeclaredBy b classes types 0 p n globals
   stopped-by k = reads-on d (λ h. k)
+
+  -- a declaration stands at the place, whole
+  pub record Here : Type 0 where
+    pub inside : p < length b
+    pub declares-here : getD b p 0 ≡ 1
+    pub whole : 3 ≤ length b - p
+
+module _ {b classes types : List ℕ} {p n globals : ℕ} {d : Declaring b classes types p n globals} {r : Bool} (h : Here d)
+    (e : r ≡ declarationOk (getD b (p + 1) 0) (getD b (p + 2) 0) globals n) where
+  pub refused-by : r ≡ false → DeclaredBy b classes types 3 p n globals
+  refused-by t = refuses {rule = 3} (λ q. omega arith) (declaring-refused d (h .inside) (h .declares-here) (h .whole) (sym e ∙ t))
+
+  pub again-global : {g : ℕ} → r ≡ true → getD b (p + 1) 0 ≡ 0 → g ≡ globals + 1
+      → Declaring b (set classes n (getD b (p + 1) 0)) (set types n (getD b (p + 2) 0)) (p + 3) (n + 1) g
+  again-global t z q = rw q (declaring-global d (h .inside) (h .declares-here) (h .whole) (sym e ∙ t) z)
+
+  pub again-other : {g : ℕ} → r ≡ true → (getD b (p + 1) 0 ≡ 0 → ⊥) → g ≡ globals
+      → Declaring b (set classes n (getD b (p + 1) 0)) (set types n (getD b (p + 2) 0)) (p + 3) (n + 1) g
+  again-other t z q = rw q (declaring-other d (h .inside) (h .declares-here) (h .whole) (sym e ∙ t) z)
 
 pub only : (a : Bool) → a ≡ (a && true)
 only true = refl

@@ -1,5 +1,5 @@
 -- The rules of the record at a place of a block, in terms of the block's bytes and the scan's arrays. Assumes nothing.
-use mathlib.Core.Path.{_≡_, refl, sym, ap, ap₂, _∙_, subst}
+use mathlib.Core.Path.{_≡_, refl, sym, ap, _∙_, subst}
 use mathlib.Core.Bool.{Bool, true, false, cond, Bool·beq}
 use mathlib.Core.Option.{Option}
 use mathlib.Core.List.{List, [], _∷_, _++_, map}
@@ -7,80 +7,29 @@ use mathlib.Core.Logic.{inl, inr}
 use Prim.Native.Nat.{ℕ, zero, suc, _+_, _*_, _/_, _%_, _≤_, _<_}
 use native.Mathlib.Omega.{arith}
 use lib.Dec.{eqb, ltb}
-use lib.ListN.{length, getD, take, drop, length-append}
-use lib.Seq.{length-take-le, take-nil, getD-take, drop-drop, getD-drop}
+use lib.ListN.{length, getD, take}
+use lib.Seq.{length-take-le, getD-take}
 use borrow.Author.Tests.{ltb-true}
-use native.Mathlib.Nat.{zero-add, suc-add, add-zero}
 use Rattle.theory.specs.Machine.{All}
 use Rattle.theory.specs.Scope.{mayRead}
 use Rattle.theory.specs.Sets.{Vars, allIn}
 use Rattle.theory.proofs.Sets.{and-l, and-r, clash}
-use Rattle.ops.specs.Kinds.{Does, computes, Row, at, rowOf, isKnown, known, bodyLength, outputCount}
-use Rattle.ops.specs.Ops.{kindOf, rowAt, bytesAt, outsBy, insBy, restBy, viewBy}
-use Rattle.ops.specs.Table.{operandCount, wideBits, roleOf}
+use Rattle.ops.specs.Kinds.{Does, computes, Row, rowOf, isKnown, known, bodyLength}
+use Rattle.ops.specs.Ops.{kindOf, insBy, viewBy}
+use Rattle.ops.specs.Table.{wideBits, roleOf}
 use Rattle.ops.proofs.Declares.{declares-one}
 use Rattle.ops.proofs.Fits.{Wide}
 use Rattle.ops.proofs.RoleRows.{row-of}
 use Rattle.block.specs.Records.{widthOf}
-use Rattle.block.specs.Rules.{keptIn, allBelow, operandsOf, haveWidths}
+use Rattle.block.specs.Rules.{keptIn, allBelow, haveWidths}
 use Rattle.block.specs.Scan.{recordAt, wideAs, typesMatch, mayReadAll, marked}
+use Rattle.block.proofs.Views.{kind-byte}
 use Rattle.ops.specs.declared.kinds.Role.{Role}
 use Rattle.ops.specs.declared.kinds.Role.the-variants.{Unknown, Declares, SetsLabel, Jumps, Exits, Constant, Computes, Branches, Loads, Stores}
 
--- the bytes of a record are those of the block
-module _ (b : List ℕ) (p : ℕ) (h : p + suc (bodyLength (getD b p 0)) ≤ length b) where
-  pub field : (i : ℕ) → i < suc (bodyLength (getD b p 0)) → at (recordAt b p) i ≡ at b (p + i)
-  field i l = getD-take (suc (bodyLength (getD b p 0))) (drop p b) i 0 l ∙ getD-drop p b i 0
-
-  pub kind-at : kindOf (recordAt b p) ≡ getD b p 0
-  kind-at = field 0 (omega arith) ∙ ap (at b) (add-zero p)
-
-  pub fields : (i n : ℕ) → i + n ≤ suc (bodyLength (getD b p 0)) → bytesAt (recordAt b p) i n ≡ bytesAt b (p + i) n
-  fields i zero l = refl
-  fields i (suc n) l =
-      let e : p + suc i ≡ suc (p + i) = omega arith in
-      ap₂ (λ (x : ℕ) (xs : List ℕ). x ∷ xs) (field i (omega arith)) (fields (suc i) n (omega arith) ∙ ap (λ (q : ℕ). bytesAt b q n) e)
-
-  row-at : rowAt (recordAt b p) ≡ rowOf (getD b p 0)
-  row-at = ap rowOf kind-at
-
-  -- the body: outputs, inputs, and the bytes after them
-  pub outs-at : outsBy (rowAt (recordAt b p)) (recordAt b p) ≡ bytesAt b (p + 1) (outputCount (getD b p 0))
-  outs-at = ap (λ (row : Row). outsBy row (recordAt b p)) row-at ∙ fields 1 (outputCount (getD b p 0)) (omega arith)
-
-  pub ins-at : insBy (rowAt (recordAt b p)) (recordAt b p) ≡ bytesAt b (p + 1 + outputCount (getD b p 0)) (length ((rowOf (getD b p 0)) .ins))
-  ins-at =
-      let e : p + (1 + outputCount (getD b p 0)) ≡ p + 1 + outputCount (getD b p 0) = omega arith in
-      ap (λ (row : Row). insBy row (recordAt b p)) row-at ∙ fields (1 + outputCount (getD b p 0)) (length ((rowOf (getD b p 0)) .ins)) (omega arith)
-      ∙ ap (λ (q : ℕ). bytesAt b q (length ((rowOf (getD b p 0)) .ins))) e
-
-  bytes-append : (q n m : ℕ) → bytesAt b q n ++ bytesAt b (q + n) m ≡ bytesAt b q (n + m)
-  bytes-append q zero m = rw (add-zero q, zero-add m)
-  bytes-append q (suc n) m =
-      let e : q + suc n ≡ suc q + n = omega arith in
-      rw (e, suc-add n m) (ap (λ (xs : List ℕ). at b q ∷ xs) (bytes-append (suc q) n m))
-
-  pub operands-at : operandsOf (recordAt b p) ≡ bytesAt b (p + 1) (operandCount (getD b p 0))
-  operands-at =
-      ap₂ (λ (xs ys : List ℕ). xs ++ ys) outs-at ins-at ∙ bytes-append (p + 1) (outputCount (getD b p 0)) (length ((rowOf (getD b p 0)) .ins))
-      ∙ ap (bytesAt b (p + 1)) (sym (length-append ((rowOf (getD b p 0)) .outs) ((rowOf (getD b p 0)) .ins)))
-
-  pub rest-at : restBy (rowAt (recordAt b p)) (recordAt b p) ≡ take ((rowOf (getD b p 0)) .rest) (drop (p + 1 + operandCount (getD b p 0)) b)
-  rest-at =
-      let o = length ((rowOf (getD b p 0)) .outs) in
-      let i = length ((rowOf (getD b p 0)) .ins) in
-      let c = length-append ((rowOf (getD b p 0)) .outs) ((rowOf (getD b p 0)) .ins) in
-      let n : suc (bodyLength (getD b p 0)) ≡ (1 + (o + i)) + (rowOf (getD b p 0)) .rest = omega arith in
-      let q : p + (1 + (o + i)) ≡ p + 1 + operandCount (getD b p 0) = omega arith in
-      ap (λ (row : Row). restBy row (recordAt b p)) row-at
-      ∙ ap (λ (m : ℕ). drop (1 + (o + i)) (take m (drop p b))) n
-      ∙ drop-take (1 + (o + i)) ((rowOf (getD b p 0)) .rest) (drop p b)
-      ∙ ap (take ((rowOf (getD b p 0)) .rest)) (drop-drop (1 + (o + i)) p b ∙ ap (λ (m : ℕ). drop m b) q)
-    where
-      drop-take : (n m : ℕ) (xs : List ℕ) → drop n (take (n + m) xs) ≡ take m (drop n xs)
-      drop-take zero m xs = rw (zero-add m)
-      drop-take (suc n) m [] = rw (suc-add n m, take-nil m)
-      drop-take (suc n) m (x ∷ xs) = rw (suc-add n m) (drop-take n m xs)
+-- its kind is the byte at the place
+pub kind-at : (b : List ℕ) (p : ℕ) → p + suc (bodyLength (getD b p 0)) ≤ length b → kindOf (recordAt b p) ≡ getD b p 0
+kind-at b p h = kind-byte (record { its-kind = refl; whole = h })
 
 -- an op reads its inputs
 pub mayRead-row : (kept w : Vars) (k : ℕ) (r : List ℕ) → known k ≡ true → (k ≡ 1 → ⊥) → mayRead kept w (viewBy (rowOf k) ((rowOf k) .does) r) ≡ allIn kept (insBy (rowOf k) r) w

@@ -3,7 +3,7 @@ use mathlib.Core.Path.{_≡_, ap, ap₂, _∙_}
 use mathlib.Core.Bool.{Bool, true, false, _&&_}
 use mathlib.Core.List.{List}
 use mathlib.Core.Logic.{⊎-elim}
-use Prim.Native.Nat.{ℕ, _+_, _≤_, _<_}
+use Prim.Native.Nat.{ℕ, _+_, _<_}
 use native.Mathlib.Omega.{arith}
 use lib.ListN.{take, drop}
 use lib.Seq.{getD-take, getD-drop}
@@ -14,40 +14,11 @@ use Rattle.memory.proofs.Numbers.{low-same}
 use Rattle.ops.specs.Kinds.{Does, Row, at, condOk, labelOk, narrowOk, rowOf}
 use Rattle.ops.specs.Ops.{restOk}
 use Rattle.ops.specs.Table.{roleOf, opWidth}
-use Rattle.ops.proofs.RoleRows.{Computing, RowFor, row-of}
-use Rattle.ops.specs.declared.kinds.Role.{Role}
+use Rattle.ops.proofs.RoleRows.{Computing, row-of}
 use Rattle.ops.specs.declared.kinds.Role.the-variants.{Unknown, Declares, SetsLabel, Jumps, Exits, Constant, Computes, Branches, Loads, Stores}
 
 abbrev pub restAt : List ℕ → ℕ → ℕ → Bool
 restAt b p k = restOk ((rowOf k) .does) (take ((rowOf k) .rest) (drop p b))
-
--- no fewer bytes than this follow the operands
-abbrev pub restFrom : Role → ℕ
-restFrom Unknown = 0
-restFrom Declares = 2
-restFrom SetsLabel = 1
-restFrom Jumps = 1
-restFrom Exits = 0
-restFrom Constant = 8
-restFrom Computes = 0
-restFrom Branches = 2
-restFrom Loads = 1
-restFrom Stores = 1
-
-least : (r : Role) (k : ℕ) (row : Row) → RowFor r k row → restFrom r ≤ row .rest
-least Unknown k row e = rw e (omega arith)
-least Declares k row e = rw e (omega arith)
-least SetsLabel k row e = rw e (omega arith)
-least Jumps k row e = rw e (omega arith)
-least Exits k row e = rw e (omega arith)
-least Constant k row e = rw e (omega arith)
-least Computes k row c = omega arith
-least Branches k row e = rw e (omega arith)
-least Loads k row e = rw e (omega arith)
-least Stores k row e = rw e (omega arith)
-
-pub rest-from : {r : Role} (k : ℕ) → roleOf k ≡ r → restFrom r ≤ (rowOf k) .rest
-rest-from {r} k e = least r k (rowOf k) (row-of r k e)
 
 module _ (b : List ℕ) (p k : ℕ) where
   abbrev asked : Row → Bool

@@ -12,20 +12,17 @@ use native.Mathlib.Numerals.{add-one}
 use Rattle.theory.specs.Scope.{wrote}
 use Rattle.theory.specs.Sets.{empty}
 use Rattle.theory.proofs.Sets.{and-l}
-use Rattle.memory.specs.Access.{within}
-use Rattle.ops.specs.Kinds.{at, known, bodyLength}
+use Rattle.ops.specs.Kinds.{known, bodyLength}
 use Rattle.ops.specs.Ops.{kindOf, viewOf}
 use Rattle.block.specs.Checks.{asks, firstBroken, opRules, rulesOf, endRules, answer, checkOf}
 use Rattle.block.specs.Records.{Cut, cons, cutOf, isDeclaration, classOf, typeOf}
-use Rattle.block.specs.Rules.{Seen, start, allGlobal, rule3, rule4, rule5, rule6, nextLabels, nextTargets, rule7, rule8, rule9, rule10, allSet}
+use Rattle.block.specs.Rules.{Seen, allGlobal, rule3, rule4, rule5, rule6, nextLabels, nextTargets, rule7, rule8, rule9, rule10, allSet}
 use Rattle.block.specs.Rules.{rule7end, passed, next}
 use Rattle.block.specs.Scan.{Stands, recordsAt, ScannedBy, refuses-op, accepts-ops, OpAt, Marks, Begins, RecordAt}
 use Rattle.block.proofs.Accepts.{allMet, none-broken, numbered-rules}
-use Rattle.block.proofs.Cut.{whole}
 use Rattle.block.proofs.Fields.{kind-at}
 use Rattle.block.proofs.MarkSets.{marked-none, numbered-none}
 use Rattle.block.proofs.Steps.{cut-record, record-length, at-unknown, at-short, at-record, cut-end, at-end}
-use Rattle.block.proofs.Views.{inside}
 use Rattle.block.specs.Scan.{recordAt, checkAt, marked, numbered, seenOf, labelledBy, declaredSeen, Declaring, recordRule, placesFrom, labelsFrom}
 use Rattle.block.specs.declared.Verdict.the-variants.{Accepted, Refused}
 
@@ -44,7 +41,12 @@ at-place s b p h = go (known (getD b p 0)) refl (ltb (length b) (p + suc (bodyLe
     go true e true f = at-short b p h s e (ltb-true (length b) (p + suc (bodyLength k)) f)
     go true e false f = at-record b p h s e (ltb-false (length b) (p + suc (bodyLength k)) f)
 
-rule-whole : (s : Seen) (b : List ℕ) (p : ℕ) → recordRule s b p ≡ 0 → (known (getD b p 0) ≡ true) × (p + suc (bodyLength (getD b p 0)) ≤ length b)
+-- a record of a known kind stands at a place, whole
+pub record WholeAt (b : List ℕ) (p : ℕ) : Type 0 where
+  pub is-known : known (getD b p 0) ≡ true
+  pub within : p + suc (bodyLength (getD b p 0)) ≤ length b
+
+rule-whole : (s : Seen) (b : List ℕ) (p : ℕ) → recordRule s b p ≡ 0 → WholeAt b p
 unfolding recordRule
 rule-whole s b p = go (known (getD b p 0)) refl (ltb (length b) (p + suc (bodyLength (getD b p 0)))) refl
   where
@@ -52,10 +54,10 @@ rule-whole s b p = go (known (getD b p 0)) refl (ltb (length b) (p + suc (bodyLe
     k = getD b p 0
 
     go : (t : Bool) → known k ≡ t → (u : Bool) → ltb (length b) (p + suc (bodyLength k)) ≡ u
-        → cond t (cond u 1 (firstBroken (rulesOf s (recordAt b p)))) 2 ≡ 0 → (known k ≡ true) × (p + suc (bodyLength k) ≤ length b)
+        → cond t (cond u 1 (firstBroken (rulesOf s (recordAt b p)))) 2 ≡ 0 → WholeAt b p
     go false e u f q = absurd (omega arith)
     go true e true f q = absurd (omega arith)
-    go true e false f q = (e, ltb-false (length b) (p + suc (bodyLength k)) f)
+    go true e false f q = record { is-known = e; within = ltb-false (length b) (p + suc (bodyLength k)) f }
 
 -- what a record that breaks no rule after ops is: an op, and not one too many
 sound-rule : (s : Seen) (b : List ℕ) (p : ℕ) → recordRule s b p ≡ 0 → allMet (rulesOf s (recordAt b p)) ≡ true
@@ -84,7 +86,7 @@ pub op-here : (s : Seen) (b : List ℕ) (p : ℕ) → recordRule s b p ≡ 0 →
 op-here s b p z d = go (isDeclaration (recordAt b p)) refl (sound-rule s b p z)
   where
     w : p + suc (bodyLength (getD b p 0)) ≤ length b
-    w = (rule-whole s b p z) .1
+    w = rule-whole s b p z .within
 
     go : (t : Bool) → isDeclaration (recordAt b p) ≡ t → allMet (cond t (asks 3 (rule3 s (recordAt b p)) ∷ []) (opRules s (recordAt b p))) ≡ true → (getD b p 0 ≡ 1 → ⊥) × (s .ops < 256)
     go true e m =
@@ -93,37 +95,40 @@ op-here s b p z d = go (isDeclaration (recordAt b p)) refl (sound-rule s b p z)
     go false e m = (λ k. eqb-false (kindOf (recordAt b p)) 0x01 e (kind-at b p w ∙ k), few-rule s (recordAt b p) (and-l (rule9 s (recordAt b p)) _ m))
 
 -- the answers, test by test
-module _ {b classes types : List ℕ} {p n ops : ℕ} (o : RecordAt b classes types p n ops) (written labels : List ℕ) where
-  pub rule-2 : {k : Bool} → k ≡ known (getD b p 0) → k ≡ false → 2 ≡ recordRule (seenOf classes types written labels [] n ops 0) b p
+module _ (s : Seen) (b : List ℕ) (p : ℕ) where
+  pub rule-2 : {k : Bool} → k ≡ known (getD b p 0) → k ≡ false → 2 ≡ recordRule s b p
   unfolding recordRule
   rule-2 e t = rw (sym e ∙ t)
 
-  module _ {k : Bool} {m : ℕ} (e : k ≡ known (getD b p 0)) (t : k ≡ true) (l : m ≡ bodyLength (getD b p 0)) where
-    pub rule-1 : length b - p ≤ m → 1 ≡ recordRule (seenOf classes types written labels [] n ops 0) b p
-    unfolding recordRule
-    rule-1 h = rw (sym e ∙ t, lt-ltb (length b) (p + suc (bodyLength (getD b p 0))) (omega (arith, o .inside)))
+  pub rule-1 : {k : Bool} {m : ℕ} → k ≡ known (getD b p 0) → k ≡ true → m ≡ bodyLength (getD b p 0) → length b - p ≤ m → 1 ≡ recordRule s b p
+  unfolding recordRule
+  rule-1 e t l h = rw (sym e ∙ t, lt-ltb (length b) (p + suc (bodyLength (getD b p 0))) (omega arith))
 
-    module _ (h : m < length b - p) where
-      w : p + suc (bodyLength (getD b p 0)) ≤ length b
-      w = omega (arith, o .inside, l, h)
+  pub rule-3 : WholeAt b p → getD b p 0 ≡ 1 → (s .ops ≡ 0 → ⊥) → 3 ≡ recordRule s b p
+  unfolding recordRule firstBroken rule3
+  rule-3 w d l =
+      let long = le-ltb (length b) (p + suc (bodyLength (getD b p 0))) (w .within) in
+      rw (w .is-known, long, eq-eqb (kindOf (recordAt b p)) 0x01 (kind-at b p (w .within) ∙ d), ne-eqb (s .ops) 0 l)
 
-      rule-3s : getD b p 0 ≡ 1 → rule3 (seenOf classes types written labels [] n ops 0) (recordAt b p) ≡ false
-      unfolding rule3
-      rule-3s d = rw (ne-eqb ops 0 (o .late d))
+  pub rule-op : {classes types : List ℕ} {n r : ℕ} → OpAt b classes types p n → r ≡ firstBroken (opRules s (recordAt b p)) → r ≡ recordRule s b p
+  unfolding recordRule
+  rule-op o q =
+      let long = le-ltb (length b) (p + suc (bodyLength (getD b p 0))) (o .within) in
+      q ∙ rw (o .is-known, long, ne-eqb (kindOf (recordAt b p)) 0x01 (λ z. o .is-op (sym (kind-at b p (o .within)) ∙ z)))
 
-      pub rule-3 : getD b p 0 ≡ 1 → 3 ≡ recordRule (seenOf classes types written labels [] n ops 0) b p
-      unfolding recordRule firstBroken
-      rule-3 d = rw (sym e ∙ t, le-ltb (length b) (p + suc (bodyLength (getD b p 0))) w, eq-eqb (kindOf (recordAt b p)) 0x01 (kind-at b p w ∙ d), rule-3s d)
+module _ {b classes types : List ℕ} {p n ops : ℕ} (o : RecordAt b classes types p n ops) where
+  pub whole-by : {k : Bool} {m : ℕ} → k ≡ known (getD b p 0) → k ≡ true → m ≡ bodyLength (getD b p 0) → m < length b - p → WholeAt b p
+  whole-by e t l h = record { is-known = sym e ∙ t; within = omega (arith, o .inside) }
 
-      module _ (d : getD b p 0 ≡ 1 → ⊥) where
-        pub op-at : OpAt b classes types p n
-        op-at = record { within = w; is-known = sym e ∙ t; is-op = d; few-classes = omega (arith, o .few, o .long-classes); few-types = omega (arith, o .few, o .long-types) }
-
-        pub rule-op : {r : ℕ} → r ≡ firstBroken (opRules (seenOf classes types written labels [] n ops 0) (recordAt b p))
-            → r ≡ recordRule (seenOf classes types written labels [] n ops 0) b p
-        unfolding recordRule
-        rule-op q =
-            q ∙ rw (sym e ∙ t, le-ltb (length b) (p + suc (bodyLength (getD b p 0))) w, ne-eqb (kindOf (recordAt b p)) 0x01 (λ z. d (sym (kind-at b p w) ∙ z)))
+  pub op-at : WholeAt b p → (getD b p 0 ≡ 1 → ⊥) → OpAt b classes types p n
+  op-at w d =
+      record {
+        within = w .within;
+        is-known = w .is-known;
+        is-op = d;
+        few-classes = omega (arith, o .few, o .long-classes);
+        few-types = omega (arith, o .few, o .long-types);
+      }
 
 -- the labels jumped to and the last kind have no part in it
 pub same-rule : (b classes types written labels targets : List ℕ) (p n ops last : ℕ)
@@ -153,21 +158,26 @@ module _ {b : List ℕ} {start : ℕ} {places₀ classes types written labels ta
       ne-answer : (m : ℕ) → (m ≡ 0 → ⊥) → answer m p (checkAt (next seenHere (recordAt b p)) b (p + suc (bodyLength (getD b p 0)))) ≡ Refused m p
       ne-answer m q = rw (ne-eqb m 0 q)
 
-  module _ {rule : ℕ} (h : p < length b) (e : rule ≡ recordRule seenHere b p) (z : rule ≡ 0) (l : ops < 256) (o : getD b p 0 ≡ 1 → ⊥) where
-    zero-rule : recordRule seenHere b p ≡ 0
-    zero-rule = sym e ∙ z
+  -- the record there breaks no rule
+  pub record Sound : Type 0 where
+    pub here : p < length b
+    pub sound : recordRule seenHere b p ≡ 0
 
-    whole-here : (known (getD b p 0) ≡ true) × (p + suc (bodyLength (getD b p 0)) ≤ length b)
-    whole-here = rule-whole seenHere b p zero-rule
+  module _ (k : Sound) where
+    op : (getD b p 0 ≡ 1 → ⊥) × (ops < 256)
+    op = op-here seenHere b p (k .sound) (λ d q. s .first-op q (k .here) d)
+
+    whole-here : WholeAt b p
+    whole-here = rule-whole seenHere b p (k .sound)
 
     cut-here : cutOf (drop p b) ≡ cons (recordAt b p) (cutOf (drop (p + suc (bodyLength (getD b p 0))) b))
-    cut-here = cut-record b p h (whole-here .0) (whole-here .1)
+    cut-here = cut-record b p (k .here) (whole-here .is-known) (whole-here .within)
 
     long-here : length (recordAt b p) ≡ suc (bodyLength (getD b p 0))
-    long-here = record-length b p h (whole-here .1)
+    long-here = record-length b p (k .here) (whole-here .within)
 
     kind-here : isDeclaration (recordAt b p) ≡ false
-    kind-here = ne-eqb (kindOf (recordAt b p)) 0x01 (λ q. o (sym (kind-at b p (whole-here .1)) ∙ q))
+    kind-here = ne-eqb (kindOf (recordAt b p)) 0x01 (λ q. op .0 (sym (kind-at b p (whole-here .within)) ∙ q))
 
     seen-next : next seenHere (recordAt b p) ≡ passed seenHere (recordAt b p)
     unfolding next
@@ -177,28 +187,28 @@ module _ {b : List ℕ} {start : ℕ} {places₀ classes types written labels ta
         (ls : (numbered labels′ ≡ nextLabels (numbered labels) (viewOf (recordAt b p))) × (labels′ ≡ labelledBy (viewOf (recordAt b p)) ops labels))
         (ts : marked targets′ ≡ nextTargets (marked targets) (viewOf (recordAt b p))) where
       seen-is : passed seenHere (recordAt b p) ≡ seenOf classes types written′ labels′ targets′ n (ops + 1) (getD b p 0)
-      seen-is = rw (w, ls .0, ts, kind-at b p (whole-here .1), add-one ops)
+      seen-is = rw (w, ls .0, ts, kind-at b p (whole-here .within), add-one ops)
 
       pub scanning-next : Scanning b start places₀ classes types written′ labels′ targets′ (set places ops (p % 65536)) n (p + (1 + bodyLength (getD b p 0))) (ops + 1) (getD b p 0)
       unfolding placesFrom labelsFrom
       scanning-next =
           let q : p + (1 + bodyLength (getD b p 0)) ≡ p + suc (bodyLength (getD b p 0)) = omega arith in
-          let k : p + length (recordAt b p) ≡ p + suc (bodyLength (getD b p 0)) = omega (arith, long-here) in
+          let long : p + length (recordAt b p) ≡ p + suc (bodyLength (getD b p 0)) = omega (arith, long-here) in
           rw q
           (record {
             goes-on =
                 ap (λ (t : Seen). checkAt t b (p + suc (bodyLength (getD b p 0)))) (sym (seen-next ∙ seen-is))
-                ∙ sym (ap (λ (m : ℕ). answer m p (checkAt (next seenHere (recordAt b p)) b (p + suc (bodyLength (getD b p 0))))) zero-rule)
-                ∙ sym (at-place seenHere b p h) ∙ s .goes-on;
+                ∙ sym (ap (λ (m : ℕ). answer m p (checkAt (next seenHere (recordAt b p)) b (p + suc (bodyLength (getD b p 0))))) (k .sound))
+                ∙ sym (at-place seenHere b p (k .here)) ∙ s .goes-on;
             count = s .count ∙ ap (λ (c : Cut). ops + length (c .records)) cut-here ∙ more ops (length (recordsAt b (p + suc (bodyLength (getD b p 0)))));
             places-are =
                 s .places-are ∙ ap (λ (c : Cut). placesFrom p ops places (c .records)) cut-here
-                ∙ ap₂ (λ (x y : ℕ). placesFrom x y (set places ops (p % 65536)) (recordsAt b (p + suc (bodyLength (getD b p 0))))) k (sym (add-one ops));
+                ∙ ap₂ (λ (x y : ℕ). placesFrom x y (set places ops (p % 65536)) (recordsAt b (p + suc (bodyLength (getD b p 0))))) long (sym (add-one ops));
             labels-are =
                 s .labels-are ∙ ap (λ (c : Cut). labelsFrom ops labels (c .records)) cut-here
                 ∙ ap₂ (λ (x : ℕ) (y : List ℕ). labelsFrom x y (recordsAt b (p + suc (bodyLength (getD b p 0))))) (sym (add-one ops)) (sym (ls .1));
             first-op = λ x. absurd (omega arith);
-            few = omega arith;
+            few = omega (arith, op .1);
           })
         where
           more : (a m : ℕ) → a + suc m ≡ a + 1 + m
@@ -254,27 +264,23 @@ module _ {b : List ℕ} {start : ℕ} {places₀ classes types written labels ta
   pub refused-at : (rule ≡ 0 → ⊥) → ScannedBy b start places₀ places labels rule p ops
   refused-at z = scanning-refused s h e′ z
 
-  module _ (z : rule ≡ 0) where
-    op : (getD b p 0 ≡ 1 → ⊥) × (ops < 256)
-    op = op-here (seenOf classes types written labels targets n ops last) b p (sym e′ ∙ z) (λ k q. s .first-op q h k)
+  pub sound-at : rule ≡ 0 → Sound s
+  sound-at z = record { here = h; sound = sym e′ ∙ z }
 
-    wholly : (known (getD b p 0) ≡ true) × (p + suc (bodyLength (getD b p 0)) ≤ length b)
-    wholly = rule-whole (seenOf classes types written labels targets n ops last) b p (sym e′ ∙ z)
+module _ {b : List ℕ} {start : ℕ} {places₀ classes types written labels targets places : List ℕ} {n p ops last : ℕ}
+    {s : Scanning b start places₀ classes types written labels targets places n p ops last} (k : Sound s) where
+  pub few-ops-here : ops < 256
+  few-ops-here = op s k .1
 
-    pub few-ops-here : ops < 256
-    few-ops-here = op .1
+  pub whole-op : p + suc (bodyLength (getD b p 0)) ≤ length b
+  whole-op = whole-here s k .within
 
-    pub whole-op : p + suc (bodyLength (getD b p 0)) ≤ length b
-    whole-op = wholly .1
+  pub stands-at : Stands b p (getD b p 0)
+  stands-at = record { its-kind = refl; whole = whole-op }
 
-    pub marks-asked : Stands b p (getD b p 0) × (ops < 1024)
-    marks-asked = (record { its-kind = refl; whole = wholly .1 }, omega (arith, op .1))
-
-    pub again-at : {m : ℕ} → m ≡ bodyLength (getD b p 0) → (written′ labels′ targets′ : List ℕ) → Marks (recordAt b p) ops written written′ labels labels′ targets targets′
-        → Scanning b start places₀ classes types written′ labels′ targets′ (set places ops (p % 65536)) n (p + (1 + m)) (ops + 1) (getD b p 0)
-    again-at q written′ labels′ targets′ k =
-        rw q
-        (scanning-next s h e′ z (op .1) (op .0) written′ labels′ targets′ (k .writes-so) (k .labels-so, k .numbers-so) (k .targets-so))
+  pub again-at : {m : ℕ} → m ≡ bodyLength (getD b p 0) → (written′ labels′ targets′ : List ℕ) → Marks (recordAt b p) ops written written′ labels labels′ targets targets′
+      → Scanning b start places₀ classes types written′ labels′ targets′ (set places ops (p % 65536)) n (p + (1 + m)) (ops + 1) (getD b p 0)
+  again-at q written′ labels′ targets′ m = rw q (scanning-next s k written′ labels′ targets′ (m .writes-so) (m .labels-so, m .numbers-so) (m .targets-so))
 
 pub record-asked : {b : List ℕ} {start : ℕ} {places₀ classes types written labels targets places : List ℕ} {n p ops last : ℕ}
     → Begins b classes types start n → Scanning b start places₀ classes types written labels targets places n p ops last → p < length b → RecordAt b classes types p n ops

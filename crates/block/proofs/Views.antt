@@ -40,36 +40,42 @@ storeView x a f = access [] (x ∷ a ∷ []) (λ m vs. let p = at vs 1 in afterS
 abbrev pub pureView : ℕ → ℕ → List ℕ → List ℕ → View ℕ (List ℕ) Fault
 pureView k d ins rest = calc (d ∷ []) ins (evalOf k rest)
 
--- no body of a role is shorter than this
+-- no op of a role names fewer variables than this, and no fewer bytes than this follow them
+abbrev least : Role → ℕ × ℕ
+least Unknown = (0, 0)
+least Declares = (0, 2)
+least SetsLabel = (0, 1)
+least Jumps = (0, 1)
+least Exits = (1, 0)
+least Constant = (1, 8)
+least Computes = (1, 0)
+least Branches = (2, 2)
+least Loads = (2, 1)
+least Stores = (2, 1)
+
+abbrev pub restFrom : Role → ℕ
+restFrom r = least r .1
+
 abbrev pub bodyFrom : Role → ℕ
-bodyFrom Unknown = 0
-bodyFrom Declares = 2
-bodyFrom SetsLabel = 1
-bodyFrom Jumps = 1
-bodyFrom Exits = 1
-bodyFrom Constant = 9
-bodyFrom Computes = 1
-bodyFrom Branches = 4
-bodyFrom Loads = 3
-bodyFrom Stores = 3
+bodyFrom r = least r .0 + least r .1
 
-abbrev size : Row → ℕ
-size row = length (row .outs) + length (row .ins) + row .rest
+sized : (r : Role) (k : ℕ) (row : Row) → RowFor r k row → (least r .0 ≤ length (row .outs) + length (row .ins)) × (least r .1 ≤ row .rest)
+sized Unknown k row e = rw e (omega arith, omega arith)
+sized Declares k row e = rw e (omega arith, omega arith)
+sized SetsLabel k row e = rw e (omega arith, omega arith)
+sized Jumps k row e = rw e (omega arith, omega arith)
+sized Exits k row e = rw e (omega arith, omega arith)
+sized Constant k row e = rw e (omega arith, omega arith)
+sized Computes k row c = (omega (arith, ap length (c .one-out)), omega arith)
+sized Branches k row e = rw e (omega arith, omega arith)
+sized Loads k row e = rw e (omega arith, omega arith)
+sized Stores k row e = rw e (omega arith, omega arith)
 
-sized : (r : Role) (k : ℕ) (row : Row) → RowFor r k row → bodyFrom r ≤ size row
-sized Unknown k row e = rw (ap size e) (omega arith)
-sized Declares k row e = rw (ap size e) (omega arith)
-sized SetsLabel k row e = rw (ap size e) (omega arith)
-sized Jumps k row e = rw (ap size e) (omega arith)
-sized Exits k row e = rw (ap size e) (omega arith)
-sized Constant k row e = rw (ap size e) (omega arith)
-sized Computes k row c = let e : length (row .outs) ≡ 1 = ap length (c .one-out) in omega arith
-sized Branches k row e = rw (ap size e) (omega arith)
-sized Loads k row e = rw (ap size e) (omega arith)
-sized Stores k row e = rw (ap size e) (omega arith)
+pub rest-from : {r : Role} (k : ℕ) → roleOf k ≡ r → restFrom r ≤ (rowOf k) .rest
+rest-from {r} k e = sized r k (rowOf k) (row-of r k e) .1
 
 pub body-from : (r : Role) (k : ℕ) → roleOf k ≡ r → bodyFrom r ≤ bodyLength k
-body-from r k e = sized r k (rowOf k) (row-of r k e)
+body-from r k e = let s = sized r k (rowOf k) (row-of r k e) in omega arith
 
 -- lists
 drop-take : (j n : ℕ) (l : List ℕ) → drop j (take (j + n) l) ≡ take n (drop j l)

@@ -17,7 +17,9 @@ returns-2 c = rw (le-leb _ 2 (c .before .if1 .left), lt-leb _ 1 (c .if2 .taken))
 
 returns-3 : tie.Need-returns-3
 unfolding declarationOk
-returns-3 c = last-false (leb (c .before .before .before .args .class) 2 && leb (c .before .before .before .args .ty) 1 && (not (eqb (c .before .before .before .args .class) 0) || eqb (c .before .before .before .args .globals) (c .before .before .before .args .n))) (ltb (c .before .before .before .args .n) 64) (le-ltb _ 64 (c .if3 .taken))
+returns-3 c =
+    let a = c .before .before .before .args in
+    last-false (leb (a .class) 2 && leb (a .ty) 1 && (not (eqb (a .class) 0) || eqb (a .globals) (a .n))) (ltb (a .n) 64) (le-ltb _ 64 (c .if3 .taken))
 
 returns-4 : tie.Need-returns-4
 unfolding declarationOk
@@ -26,7 +28,10 @@ returns-4 c =
 
 returns-5 : tie.Need-returns-5
 unfolding declarationOk
-returns-5 c = rw (le-leb _ 2 (c .before .before .before .if1 .left), le-leb _ 1 (c .before .before .if2 .left), lt-ltb _ 64 (c .before .if3 .left), eq-eqb _ 0 (c .if4 .left)) (only (eqb (c .before .before .before .before .args .globals) (c .before .before .before .before .args .n)))
+returns-5 c =
+    let a = c .before .before .before .before .args in
+    rw (le-leb _ 2 (c .before .before .before .if1 .left), le-leb _ 1 (c .before .before .if2 .left), lt-ltb _ 64 (c .before .if3 .left), eq-eqb _ 0 (c .if4 .left))
+    (only (eqb (a .globals) (a .n)))
 
 pub declaration-ok-spec : {M : Type 1} → statement M
 declaration-ok-spec = tie.close (tie.spec returns returns-2 returns-3 returns-4 returns-5)

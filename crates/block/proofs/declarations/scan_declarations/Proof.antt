@@ -5,9 +5,8 @@ use native.Mathlib.Omega.{arith}
 use lib.ListN.{length}
 use borrow.Author.Tests.{not-true, not-false}
 use borrow.Author.Needs.{needs}
-use Rattle.ops.specs.Kinds.{at}
 use Rattle.block.specs.Scan.{Declaring}
-use Rattle.block.proofs.Declaring.{declaring-few, declaring-start, short-by, refused-by, again-global, again-other, ended-by, stopped-by}
+use Rattle.block.proofs.Declaring.{declaring-few, declaring-start, short-by, ended-by, stopped-by, Here, refused-by, again-global, again-other}
 use Rattle.block.proofs.declarations.scan_declarations.Statement.{statement}
 use Rattle.block.proofs.declarations.scan_declarations.Tie as tie
 
@@ -19,6 +18,13 @@ abbrev μ-loop : tie.MeasureT-loop
 
 loop-holds : tie.Need-loop-holds Inv-loop μ-loop
 loop-holds c = (omega arith, declaring-start _ _ _ (c .before .pre .0) (c .before .pre .1))
+
+-- the test that leaves a whole declaration, and what is then known
+abbrev turn : tie.Else2 Inv-loop μ-loop → tie.In-loop Inv-loop μ-loop
+turn c = c .before .before .before
+
+here : (c : tie.Else2 Inv-loop μ-loop) → Here (turn c .before .loop .inv .1)
+here c = record { inside = turn c .loop-test .taken; declares-here = c .before .if1 .left; whole = c .if2 .left }
 
 shared-slice-read-if1 : tie.Need-shared-slice-read-if1 Inv-loop μ-loop
 shared-slice-read-if1 c = search needs
@@ -45,7 +51,7 @@ declaration-ok-requires : tie.Need-declaration-ok-requires Inv-loop μ-loop
 declaration-ok-requires c κs = search needs
 
 returns-2 : tie.Need-returns-2 Inv-loop μ-loop
-returns-2 c = refused-by (c .before .before .before .before .before .before .before .before .loop .inv .1) (c .before .before .before .before .before .before .before .loop-test .taken) (c .before .before .before .before .before .if1 .left) (c .before .before .before .before .if2 .left) (c .before .declaration-ok .ensures) (not-true _ (c .if3 .taken))
+returns-2 c = refused-by (here (c .before .before .before .before)) (c .before .declaration-ok .ensures) (not-true _ (c .if3 .taken))
 
 element-write-classes : tie.Need-element-write-classes Inv-loop μ-loop
 element-write-classes c = search needs
@@ -54,7 +60,9 @@ element-write-types : tie.Need-element-write-types Inv-loop μ-loop
 element-write-types c = search needs
 
 add-globals : tie.Need-add-globals Inv-loop μ-loop
-add-globals c = omega (arith, declaring-few (c .before .before .before .before .before .before .before .before .before .loop .inv .1), (c .before .before .before .before .before .before .before .before .before .loop .inv .1) .few)
+add-globals c =
+    let d = turn (c .before .before .before .before .before) .before .loop .inv .1 in
+    omega (arith, declaring-few d, d .few)
 
 add-n : tie.Need-add-n Inv-loop μ-loop
 add-n c = search needs
@@ -66,13 +74,11 @@ loop-less : tie.Need-loop-less Inv-loop μ-loop
 loop-less c = search needs
 
 loop-again : tie.Need-loop-again Inv-loop μ-loop
-loop-again c = (
-  omega arith,
-  ⊎-elim
-      (λ w. again-global (c .before .before .before .before .before .before .before .before .before .loop .inv .1) (c .before .before .before .before .before .before .before .before .loop-test .taken) (c .before .before .before .before .before .before .if1 .left) (c .before .before .before .before .before .if2 .left) (c .before .before .declaration-ok .ensures) (not-false _ (c .before .if3 .left)) (w .0 .taken) (w .1))
-      (λ w. again-other (c .before .before .before .before .before .before .before .before .before .loop .inv .1) (c .before .before .before .before .before .before .before .before .loop-test .taken) (c .before .before .before .before .before .before .if1 .left) (c .before .before .before .before .before .if2 .left) (c .before .before .declaration-ok .ensures) (not-false _ (c .before .if3 .left)) (w .0 .left) (w .1))
-      (c .if4 .came),
-)
+loop-again c =
+    let h = here (c .before .before .before .before .before) in
+    let ok = c .before .before .declaration-ok .ensures in
+    let t = not-false (c .before .before .declaration-ok .result) (c .before .if3 .left) in
+    (omega arith, ⊎-elim (λ w. again-global h ok t (w .0 .taken) (w .1)) (λ w. again-other h ok t (w .0 .left) (w .1)) (c .if4 .came))
 
 returns-3 : tie.Need-returns-3 Inv-loop μ-loop
 returns-3 c = ended-by (c .before .loop .inv .1) (c .loop-test .left)

@@ -34,7 +34,9 @@ put-number-requires c κs = tt
 
 returns : tie.Need-returns
 returns c =
-    rw (label-view (c .before .before .before .before .before .before .before .pre .0) (sym (c .before .before .before .before .before .role-of .ensures) ∙ c .before .before .before .enum-told .given .1)) (numbered-upd (c .put-number .ensures) (omega arith), c .put-number .ensures .becomes)
+    let r = c .before .before .before .before .before in
+    rw (label-view (r .before .before .pre .0) (sym (r .role-of .ensures) ∙ c .before .before .before .enum-told .given .1))
+    (numbered-upd (c .put-number .ensures) (omega arith), c .put-number .ensures .becomes)
 
 returns-2 : tie.Need-returns-2
 returns-2 c =

@@ -34,7 +34,9 @@ readable-requires c κs = search needs
 
 returns : tie.Need-returns Inv-loop μ-loop
 returns c =
-    readable-stops (c .before .before .before .before .before .before .loop .inv .1) (c .before .before .before .get .ensures) (c .before .before .get2 .ensures) (c .before .before .before .before .before .loop-test .taken) (sym (c .before .readable .ensures) ∙ not-true _ (c .if1 .taken))
+    let g = c .before .before in
+    let t = g .before .before .before in
+    readable-stops (t .before .loop .inv .1) (g .before .get .ensures) (g .get2 .ensures) (t .loop-test .taken) (sym (c .before .readable .ensures) ∙ not-true _ (c .if1 .taken))
 
 add-i : tie.Need-add-i Inv-loop μ-loop
 add-i c = search needs
@@ -44,7 +46,10 @@ loop-less c = search needs
 
 loop-again : tie.Need-loop-again Inv-loop μ-loop
 loop-again c =
-    (search needs, readable-next (c .before .before .before .before .before .before .loop .inv .1) (c .before .before .before .get .ensures) (c .before .before .get2 .ensures) (c .before .before .before .before .before .loop-test .taken) (sym (c .before .readable .ensures) ∙ not-false _ (c .if1 .left)))
+    let g = c .before .before in
+    let t = g .before .before .before in
+    let r = sym (c .before .readable .ensures) ∙ not-false (c .before .readable .result) (c .if1 .left) in
+    (search needs, readable-next (t .before .loop .inv .1) (g .before .get .ensures) (g .get2 .ensures) (t .loop-test .taken) r)
 
 returns-2 : tie.Need-returns-2 Inv-loop μ-loop
 returns-2 c = readable-ends (c .before .loop .inv .1) (c .loop-test .left)
