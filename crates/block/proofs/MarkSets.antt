@@ -6,7 +6,7 @@ use mathlib.Core.Logic.{_⊎_, inl, inr}
 use Prim.Native.Nat.{ℕ, zero, suc, _-_, _≤_, _<_}
 use native.Mathlib.Omega.{arith}
 use lib.Dec.{eqb}
-use lib.ListN.{getD, set, replicate}
+use lib.ListN.{length, getD, set, replicate}
 use lib.Seq.{getD-set-same, getD-set-other}
 use borrow.Author.Tests.{eqb-true, eqb-false, ne-eqb}
 use Rattle.theory.specs.Machine.{upd}
@@ -14,6 +14,9 @@ use Rattle.theory.specs.Sets.{empty, plus}
 use Rattle.theory.proofs.Sets.{tell}
 use Rattle.block.specs.Rules.{allSet}
 use Rattle.block.specs.Scan.{marked, numbered, SetAt}
+
+pub set-here : (xs : List ℕ) (i x : ℕ) → i < length xs → SetAt xs i x (set xs i x)
+set-here xs i x h = record { inside = h; becomes = refl }
 
 -- a place that is set to 1 joins the set
 module _ {xs ys : List ℕ} {d x : ℕ} (s : SetAt xs d x ys) where
@@ -46,7 +49,7 @@ numbered-upd {xs} {ys} {d} {x} s h = fun-ext (λ v. ap (λ (m : ℕ). not (eqb m
     go false y = refl
 
 -- nothing is marked among zeros
-zeros : (n v : ℕ) → getD {A = ℕ} (replicate n 0) v 0 ≡ 0
+pub zeros : (n v : ℕ) → getD {A = ℕ} (replicate n 0) v 0 ≡ 0
 zeros zero v = refl
 zeros (suc n) zero = refl
 zeros (suc n) (suc v) = zeros n v

@@ -16,8 +16,7 @@ use Rattle.block.specs.Meaning.{Meets, EachMeets}
 use Rattle.block.specs.Records.{recordsOf, concat, isDeclaration, declarations, opsFrom, classOf, typeOf, classesOf}
 use Rattle.block.proofs.Meaning.{refused-means}
 use Rattle.block.proofs.Parts.{parts}
-use Rattle.runner.specs.Runs.{fits, entry, Ran, answerOf, ranOf, runOps, runRefused, runChecked, runOf}
-use Rattle.runner.specs.Steps.{ranAs}
+use Rattle.runner.specs.Runs.{fits, entry, Ran, ranAs, answerOf, ranOf, runOps, runRefused, runChecked, runOf}
 use Rattle.optimiser.specs.Passes.{passOps, resultOf, passRefused, written, passChecked, passOf}
 use Rattle.optimiser.proofs.Result.{parts-size, kept-parts, result-of}
 use Rattle.ngulo.specs.Numbers.{runNumber, reportOf, RunAnswer}

@@ -6,12 +6,11 @@ use Prim.Native.Nat.{ℕ, suc, _+_, _-_, _≤_}
 use native.Mathlib.Omega.{arith}
 use lib.ListN.{length, length-append}
 use Rattle.theory.specs.Prune.{dead}
-use Rattle.theory.specs.Sets.{Vars, without, plus, both}
+use Rattle.theory.specs.Sets.{Vars, without, plus}
 use Rattle.ops.specs.Kinds.{at, rowOf}
 use Rattle.ops.specs.Ops.{bytesAt, viewOf}
 use Rattle.ops.specs.Table.{operandCount, roleOf}
 use Rattle.ops.proofs.RoleRows.{row-of}
-use Rattle.block.specs.Rules.{globalsIn, keptIn}
 use Rattle.block.specs.Scan.{recordAt, Stands}
 use Rattle.block.proofs.Views.{unknown-view, declare-view, label-view, jump-view, leave-view, branch-view, load-view, store-view, constant-view}
 use Rattle.block.proofs.Views.{pure-view}
@@ -19,7 +18,7 @@ use Rattle.optimiser.specs.Live.{liveBefore}
 use Rattle.ops.specs.declared.kinds.Role.{Role}
 use Rattle.ops.specs.declared.kinds.Role.the-variants.{Unknown, Declares, SetsLabel, Jumps, Exits, Constant, Computes, Branches, Loads, Stores}
 
-two-bytes : (b : List ℕ) (p : ℕ) → bytesAt b (p + 1) 2 ≡ at b (p + 1) ∷ at b (p + 2) ∷ []
+pub two-bytes : (b : List ℕ) (p : ℕ) → bytesAt b (p + 1) 2 ≡ at b (p + 1) ∷ at b (p + 2) ∷ []
 two-bytes b p = let e : suc (p + 1) ≡ p + 2 = omega arith in ap (λ (n : ℕ). at b (p + 1) ∷ at b n ∷ []) e
 
 module _ {b : List ℕ} {p k : ℕ} (s : Stands b p k) where
@@ -41,33 +40,6 @@ module _ {b : List ℕ} {p k : ℕ} (s : Stands b p k) where
     before-computes {n} e h q =
         let c : n - 1 ≡ length ((rowOf k) .ins) = omega (arith, operands-are e) in
         rw (pure-view s e) (q ∙ ap (λ (i : ℕ). plus (without l (at b (p + 1) ∷ [])) (bytesAt b (p + 2) i)) c)
-
-    pub before-constant : roleOf k ≡ Constant → m ≡ plus (without l (bytesAt b (p + 1) 1)) [] → m ≡ liveBefore classes (recordAt b p) l
-    before-constant e q = rw (constant-view s e) q
-
-    pub before-load : roleOf k ≡ Loads → m ≡ plus (both (globalsIn classes) (without l (bytesAt b (p + 1) 1))) (bytesAt b (p + 2) 1) → m ≡ liveBefore classes (recordAt b p) l
-    before-load e q = rw (load-view s e) q
-
-    pub before-store : roleOf k ≡ Stores → m ≡ plus (both (globalsIn classes) (without l [])) (bytesAt b (p + 1) 2) → m ≡ liveBefore classes (recordAt b p) l
-    before-store e q = rw (store-view s e) (q ∙ ap (plus (both (globalsIn classes) (without l []))) (two-bytes b p))
-
-    pub before-branch : roleOf k ≡ Branches → m ≡ plus (keptIn classes) (bytesAt b (p + 1) 2) → m ≡ liveBefore classes (recordAt b p) l
-    before-branch e q = rw (branch-view s e) (q ∙ ap (plus (keptIn classes)) (two-bytes b p))
-
-    pub before-label : roleOf k ≡ SetsLabel → m ≡ keptIn classes → m ≡ liveBefore classes (recordAt b p) l
-    before-label e q = rw (label-view s e) q
-
-    pub before-jump : roleOf k ≡ Jumps → m ≡ keptIn classes → m ≡ liveBefore classes (recordAt b p) l
-    before-jump e q = rw (jump-view s e) q
-
-    pub before-exit : roleOf k ≡ Exits → m ≡ plus (globalsIn classes) (at b (p + 1) ∷ []) → m ≡ liveBefore classes (recordAt b p) l
-    before-exit e q = rw (leave-view s e) q
-
-    pub before-unknown : roleOf k ≡ Unknown → m ≡ plus (globalsIn classes) (0 ∷ []) → m ≡ liveBefore classes (recordAt b p) l
-    before-unknown e q = rw (unknown-view s e) q
-
-    pub before-declaration : roleOf k ≡ Declares → m ≡ plus (globalsIn classes) (0 ∷ []) → m ≡ liveBefore classes (recordAt b p) l
-    before-declaration e q = rw (declare-view s e) q
 
   and-true : (t : Bool) → t ≡ (t && true)
   and-true true = refl

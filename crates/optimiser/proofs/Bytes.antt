@@ -23,7 +23,6 @@ use Rattle.block.proofs.Fields.{kind-at}
 use Rattle.block.proofs.Places.{standing}
 use Rattle.optimiser.specs.Choose.{pickOp, chosenFrom, keptFrom, OpsHere, bytesFrom, Foldable, Emittable, Chosen, EmitsAt}
 use Rattle.optimiser.proofs.Stores.{sets-append}
-use Rattle.ops.specs.declared.kinds.Role.{Role}
 use Rattle.ops.specs.declared.kinds.Role.the-variants.{Computes}
 
 -- the i-th op of a block, at its place
@@ -48,8 +47,9 @@ this-op {b} {places} {os} {ops} {i} o h =
     }
 
 module _ {b places : List ℕ} {os : List (List ℕ)} {i : ℕ} (t : ThisOp b places os i) (folded values keep : List ℕ) where
-  bytes-here : bytesFrom i folded values keep os
-      ≡ concat (cond (eqb (getD keep i 0) 1) (pickOp (getD folded i 0) (getD values i 0) (getD os i []) ∷ keptFrom (suc i) keep (chosenFrom (suc i) folded values (drop (i + 1) os))) (keptFrom (suc i) keep (chosenFrom (suc i) folded values (drop (i + 1) os))))
+  bytes-here :
+      let rest = keptFrom (suc i) keep (chosenFrom (suc i) folded values (drop (i + 1) os)) in
+      bytesFrom i folded values keep os ≡ concat (cond (eqb (getD keep i 0) 1) (pickOp (getD folded i 0) (getD values i 0) (getD os i []) ∷ rest) rest)
   unfolding keptFrom chosenFrom
   bytes-here = ap (λ (rs : List (List ℕ)). concat (keptFrom i keep (chosenFrom i folded values rs))) (t .rest)
 

@@ -21,7 +21,6 @@ use Rattle.ops.proofs.Sizes.{body-short}
 use Rattle.block.specs.Scan.{recordAt}
 use Rattle.block.proofs.Views.{body-from, byte, row-at, inside}
 use Rattle.optimiser.specs.Choose.{pickOp, Foldable, Emittable}
-use Rattle.ops.specs.declared.kinds.Role.{Role}
 use Rattle.ops.specs.declared.kinds.Role.the-variants.{Computes}
 
 -- the movi's kind, from the width of the output

@@ -7,7 +7,6 @@ use Prim.Native.Nat.{ℕ, zero, suc, _+_, _-_, _≤_, _<_}
 use native.Mathlib.Omega.{arith}
 use lib.Dec.{eqb, leb}
 use lib.ListN.{length, getD, replicate}
-use borrow.Author.Tests.{eq-eqb, ne-eqb}
 use native.Mathlib.Nat.{sub-zero, add-zero}
 use Rattle.theory.specs.Fold.{nothing, put, inputs, learned, ruleAt, consO, allKnown, bindO, tried, baseView, baseRule}
 use Rattle.theory.specs.Machine.{View, calc, label, jump, leave, upd, reads}

@@ -25,8 +25,8 @@ use Rattle.block.proofs.Lenient.{lenient, admits}
 use Rattle.block.proofs.Parts.{Parts, joined}
 use Rattle.optimiser.specs.Passes.{passOps, resultOf, passRefused, written, passChecked, passOf}
 use Rattle.block.specs.Rules.{start, globalsIn, keptIn, declared}
-use Rattle.block.proofs.Checker.{checker, inScope, accepts-ops, ops-accepts, declaredIn, seen-declared, few-declared, few-ops}
-use Rattle.block.proofs.Cut.{whole, AllWhole, cut-concat, split-records, AllDeclared, declared-all, headOp, ops-head, split-again, all-append}
+use Rattle.block.proofs.Checker.{checker, declaredIn, few-declared, few-ops}
+use Rattle.block.proofs.Cut.{whole, AllWhole, AllDeclared}
 use Rattle.block.specs.declared.Verdict.the-variants.{Accepted}
 
 pub globals-kept : (classes : List ℕ) (v : ℕ) → globalsIn classes v ≡ true → keptIn classes v ≡ true

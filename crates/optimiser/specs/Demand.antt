@@ -3,7 +3,7 @@ use Prim.Native.Nat.{ℕ, _≤_}
 use mathlib.Core.Path.{_≡_}
 use mathlib.Core.Bool.{Bool, true, false}
 use mathlib.Core.List.{List, _++_}
-use lib.ListN.{length, take, drop}
+use lib.ListN.{length, drop}
 use Rattle.theory.specs.Prune.{AllUsed}
 use Rattle.theory.specs.Fold.{ReplacesNone, nothing}
 use Rattle.ops.specs.Ops.{tcg, folding}
@@ -14,9 +14,8 @@ use Rattle.block.specs.Checks.{checkOf}
 use Rattle.runner.specs.declared.Ending.{Ending}
 use Rattle.runner.specs.declared.Ending.the-variants.{Refused, Exit, Fault, NoResult}
 use Rattle.runner.specs.Runs.{Ran, runOf, fits}
-use Rattle.optimiser.specs.declared.Written.{Written}
 use Rattle.optimiser.specs.declared.Written.the-variants.{Length}
-use Rattle.optimiser.specs.Passes.{Passed, passOf, resultOf, written}
+use Rattle.optimiser.specs.Passes.{passOf, resultOf}
 
 -- "A block is accepted if the check gives it no refusal."
 abbrev pub Accepted : List ℕ → Type 0

@@ -4,7 +4,7 @@ use mathlib.Core.Bool.{cond}
 use mathlib.Core.List.{List}
 use Prim.Native.Nat.{ℕ, _≤_}
 use lib.Dec.{ltb}
-use lib.ListN.{length, getD, take}
+use lib.ListN.{length, getD}
 use Rattle.theory.specs.Sets.{Vars}
 use Rattle.theory.specs.Prune.{dead, before, prune}
 use Rattle.ops.specs.Ops.{viewOf, tcg}

@@ -10,7 +10,7 @@ use Rattle.ops.specs.Ops.{tcg, folding}
 use Rattle.block.specs.Checks.{checkOf}
 use Rattle.block.specs.Records.{recordsOf, declarations, opsFrom, classesOf}
 use Rattle.block.specs.Rules.{globalsIn, keptIn}
-use Rattle.runner.specs.Runs.{runOf}
+use Rattle.runner.specs.Runs.{ranAs, runOf}
 use Rattle.optimiser.specs.Demand.{Fit, Room, unstatedEnd, SameEnd}
 use Rattle.optimiser.specs.Passes.{resultOf, passOf}
 use Rattle.block.specs.declared.Verdict.{Verdict}
@@ -30,7 +30,7 @@ pub record Optimised (block out : List ℕ) (answer : Written) (out′ : List �
 
 -- a call of the run that was lent globals and memory ended so and left globals′ and memory′
 pub record Run (block globals memory : List ℕ) (ending : Ending) (globals′ memory′ : List ℕ) : Type 0 where
-  pub left : record { answer = ending; globals = globals′; memory = memory′ } ≡ runOf block globals memory
+  pub left : ranAs ending globals′ memory′ ≡ runOf block globals memory
 
 -- the answer is the result's length, the result is the first bytes, and "bytes of the buffer after it stay as they were"
 pub record Wrote (size : ℕ) (result out : List ℕ) (answer : Written) (out′ : List ℕ) : Type 0 where

@@ -1,6 +1,6 @@
 // Fold: the values known in a basic block, and the constants that take ops' places.
 ghost use mathlib.Core.Path.{_≡_};
-ghost use mathlib.Core.Option.{none, some};
+ghost use mathlib.Core.Option.{some};
 ghost use Prim.Native.Nat.{_+_, _≤_, _<_};
 ghost use lib.ListN.{length, getD};
 ghost use Rattle.theory.specs.Machine.{upd};

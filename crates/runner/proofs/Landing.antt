@@ -2,33 +2,24 @@
 use mathlib.Core.Path.{_≡_, refl, sym, ap, _∙_, subst, subst₂}
 use mathlib.Core.Bool.{Bool, true, false, cond, not, false≢true}
 use mathlib.Core.List.{List, [], _∷_}
-use mathlib.Core.Logic.{_⊎_, inl, inr}
 use Prim.Native.Nat.{ℕ, zero, suc, _+_, _<_}
 use native.Mathlib.Omega.{arith}
 use lib.Dec.{eqb}
 use lib.ListN.{length, getD, drop, set, replicate, length-set}
-use lib.Seq.{getD-set-same, getD-set-other}
-use borrow.Author.Tests.{leb-true, eqb-true, eqb-false, not-true, eq-eqb, ne-eqb}
+use borrow.Author.Tests.{leb-true, eqb-true, not-true, eq-eqb, ne-eqb}
 use native.Mathlib.Nat.{zero-add, add-zero}
 use Rattle.theory.specs.Checker.{checks}
-use Rattle.theory.specs.Machine.{View, calc, access, label, jump, branch, leave, isLabel, seek}
+use Rattle.theory.specs.Machine.{View, calc, access, label, jump, branch, leave, isLabel, seek, upd}
 use Rattle.theory.specs.Sets.{Vars, empty}
 use Rattle.theory.proofs.Ends.{isJump}
-use Rattle.theory.proofs.Sets.{and-l, and-r, clash, tell}
+use Rattle.theory.proofs.Sets.{and-l, and-r, clash}
 use Rattle.ops.specs.Kinds.{Does, unknown, declares, sets, jumpsTo, leaves, branches, loads, stores, computes, Row, at}
 use Rattle.ops.specs.Ops.{rowAt, restBy, Fault, viewBy, viewOf, tcg, restOk}
 use Rattle.block.specs.Rules.{Seen, rule6, labelFree, nextLabels, rule7, passed}
 use Rattle.block.specs.Scan.{numbered, labelledBy, labelsFrom}
 use Rattle.block.proofs.Checker.{opOk, checker}
+use Rattle.block.proofs.MarkSets.{set-here, at-place, numbered-upd, numbered-none}
 use Rattle.runner.proofs.Ends.{jump-low, more-targets, other-labels, end-set, op-parts, landed-labels}
-
--- a label's number is set at its place
-number-at : (L : List ℕ) (m n v : ℕ) → m < length L → getD (set L m n) v 0 ≡ cond (eqb m v) n (getD L v 0)
-number-at L m n v h = go (tell (eqb m v))
-  where
-    go : (eqb m v ≡ true) ⊎ (eqb m v ≡ false) → getD (set L m n) v 0 ≡ cond (eqb m v) n (getD L v 0)
-    go (inl e) = rw e (subst (λ (x : ℕ). getD (set L m n) x 0 ≡ n) (eqb-true m v e) (getD-set-same L m n 0 h))
-    go (inr e) = rw e (getD-set-other L m v n 0 (λ q. eqb-false m v e (sym q)))
 
 -- the numbers say which labels are set
 abbrev Says : List ℕ → Seen → Type 0
@@ -38,11 +29,9 @@ says-view : (L : List ℕ) (labels : Vars) (w : View ℕ (List ℕ) Fault) (i : 
     → (length (labelledBy w i L) ≡ 256) × ((v : ℕ) → numbered (labelledBy w i L) v ≡ nextLabels labels w v)
 says-view L labels (calc outs ins f) i n h b = (n, h)
 says-view L labels (access outs ins f) i n h b = (n, h)
-says-view L labels (label m) i n h b = (length-set L m (i + 1) ∙ n, λ v. ap (λ (x : ℕ). not (eqb x 0)) (number-at L m (i + 1) v (omega (arith, b m (eq-eqb m m refl)))) ∙ go (eqb m v) v)
-  where
-    go : (t : Bool) (v : ℕ) → not (eqb (cond t (i + 1) (getD L v 0)) 0) ≡ cond t true (labels v)
-    go true v = rw (ne-eqb (i + 1) 0 (λ q. omega arith))
-    go false v = h v
+says-view L labels (label m) i n h b =
+    let e : numbered (set L m (i + 1)) ≡ upd (numbered L) m true = numbered-upd (set-here L m (i + 1) (omega (arith, b m (eq-eqb m m refl)))) (omega arith) in
+    (length-set L m (i + 1) ∙ n, λ v. ap (λ (f : Vars). f v) e ∙ ap (cond (eqb m v) true) (h v))
 says-view L labels (jump m) i n h b = (n, h)
 says-view L labels (branch ins f m) i n h b = (n, h)
 says-view L labels (leave x) i n h b = (n, h)
@@ -71,7 +60,7 @@ keeps-number : (L : List ℕ) (labels : Vars) (w : View ℕ (List ℕ) Fault) (i
 keeps-number L labels (calc outs ins f) i l b h t = refl
 keeps-number L labels (access outs ins f) i l b h t = refl
 keeps-number L labels (label m) i l b h t =
-    number-at L m (i + 1) l (b m (eq-eqb m m refl)) ∙ rw (ne-eqb m l (λ e. clash (labels l) t (subst (λ (x : ℕ). labels x ≡ false) e (not-true (labels m) h))))
+    at-place (set-here L m (i + 1) (b m (eq-eqb m m refl))) l ∙ rw (ne-eqb m l (λ e. clash (labels l) t (subst (λ (x : ℕ). labels x ≡ false) e (not-true (labels m) h))))
 keeps-number L labels (jump m) i l b h t = refl
 keeps-number L labels (branch ins f m) i l b h t = refl
 keeps-number L labels (leave x) i l b h t = refl
@@ -107,7 +96,7 @@ pub record Lands (os : List (List ℕ)) (l number i : ℕ) : Type 0 where
 label-view : (w : View ℕ (List ℕ) Fault) (l i : ℕ) (L : List ℕ) → isLabel l w ≡ true → l < length L → getD (labelledBy w i L) l 0 ≡ i + 1
 label-view (calc outs ins f) l i L e h = absurd (false≢true e)
 label-view (access outs ins f) l i L e h = absurd (false≢true e)
-label-view (label m) l i L e h = number-at L m (i + 1) l (omega (arith, eqb-true m l e)) ∙ rw e
+label-view (label m) l i L e h = at-place (set-here L m (i + 1) (omega (arith, eqb-true m l e))) l ∙ rw e
 label-view (jump m) l i L e h = absurd (false≢true e)
 label-view (branch ins f m) l i L e h = absurd (false≢true e)
 label-view (leave x) l i L e h = absurd (false≢true e)
@@ -188,7 +177,7 @@ jump-lands s os i l o rest c e d j =
       seen-so = s;
       numbers = replicate 256 0;
       checked = c;
-      says = (refl, λ v. ap (λ (x : ℕ). not (eqb x 0)) (zeros 256 v) ∙ sym (ap (λ (f : Vars). f v) e));
+      says = (refl, λ v. ap (λ (f : Vars). f v) (numbered-none 256 refl ∙ sym e));
       same = refl;
     } in
     let r₁ : Reached (labelsFrom 0 (replicate 256 0) os) (o ∷ rest) i =
@@ -200,8 +189,3 @@ jump-lands s os i l o rest c e d j =
     let r₂ = reach-next (labelsFrom 0 (replicate 256 0) os) o rest i r₁ in
     subst (λ (n : List ℕ). Lands rest l (getD n l 0) (suc i)) (sym (r₂ .same))
     (lands rest (passed t o) (r₂ .numbers) (suc i) l (r₂ .checked) (r₂ .says) (jump-low t o l j (p .0)) (q .0) (q .1))
-  where
-    zeros : (n v : ℕ) → getD {A = ℕ} (replicate n 0) v 0 ≡ 0
-    zeros zero v = refl
-    zeros (suc n) zero = refl
-    zeros (suc n) (suc v) = zeros n v

@@ -15,7 +15,7 @@ use lib.Arith.{lt-of-le-ne}
 use Rattle.theory.proofs.Sets.{tell}
 use Rattle.ops.specs.Kinds.{narrowOk}
 use Rattle.block.specs.Records.{widthOf}
-use Rattle.block.proofs.MarkSets.{at-place}
+use Rattle.block.proofs.MarkSets.{set-here, at-place, zeros}
 use Rattle.runner.specs.Runs.{globalsFit, valuesFrom}
 use Rattle.runner.specs.Evaluates.{envOf}
 use Rattle.runner.specs.Steps.{lentOk}
@@ -26,16 +26,11 @@ use lib.Seq.{ext-getD}
 pub record CopiedIn (globals values : List ℕ) (i : ℕ) : Type 0 where
   pub each : (v : ℕ) → getD values v 0 ≡ cond (ltb v i) (getD globals v 0) 0
 
-zeros : (n v : ℕ) → getD {A = ℕ} (replicate n 0) v 0 ≡ 0
-zeros zero v = refl
-zeros (suc n) zero = refl
-zeros (suc n) (suc v) = zeros n v
-
 pub in-start : (globals : List ℕ) {values : List ℕ} → values ≡ replicate 256 0 → CopiedIn globals values 0
 in-start globals e = record { each = λ v. ap (λ (l : List ℕ). getD l v 0) e ∙ zeros 256 v ∙ rw (le-ltb v 0 (omega arith)) }
 
 pub in-next : {globals values : List ℕ} {i : ℕ} → CopiedIn globals values i → i < length values → CopiedIn globals (set values i (getD globals i 0)) (i + 1)
-in-next {globals} {values} {i} c h = record { each = λ v. at-place {xs = values} {ys = set values i (getD globals i 0)} {d = i} {x = getD globals i 0} (record { inside = h; becomes = refl }) v ∙ go v (tell (eqb i v)) (tell (ltb v i)) }
+in-next {globals} {values} {i} c h = record { each = λ v. at-place (set-here values i (getD globals i 0) h) v ∙ go v (tell (eqb i v)) (tell (ltb v i)) }
   where
     go : (v : ℕ) → (eqb i v ≡ true) ⊎ (eqb i v ≡ false) → (ltb v i ≡ true) ⊎ (ltb v i ≡ false)
         → cond (eqb i v) (getD globals i 0) (getD values v 0) ≡ cond (ltb v (i + 1)) (getD globals v 0) 0
@@ -61,7 +56,7 @@ pub out-start : (values globals : List ℕ) → CopiedOut values globals 0
 out-start values globals = record { each = λ v h. absurd (omega arith) }
 
 pub out-next : {values globals : List ℕ} {i : ℕ} → CopiedOut values globals i → i < length globals → CopiedOut values (set globals i (getD values i 0)) (i + 1)
-out-next {values} {globals} {i} c h = record { each = λ v l. at-place {xs = globals} {ys = set globals i (getD values i 0)} {d = i} {x = getD values i 0} (record { inside = h; becomes = refl }) v ∙ go v l (tell (eqb i v)) }
+out-next {values} {globals} {i} c h = record { each = λ v l. at-place (set-here globals i (getD values i 0) h) v ∙ go v l (tell (eqb i v)) }
   where
     go : (v : ℕ) → v < i + 1 → (eqb i v ≡ true) ⊎ (eqb i v ≡ false) → cond (eqb i v) (getD values i 0) (getD globals v 0) ≡ getD values v 0
     go v l (inl e) = rw e (ap (λ (n : ℕ). getD values n 0) (eqb-true i v e))

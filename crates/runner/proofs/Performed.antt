@@ -5,7 +5,6 @@ use mathlib.Core.Option.{Option, none, some}
 use mathlib.Core.List.{List, [], _∷_}
 use Prim.Native.Nat.{ℕ, _+_, _%_, _^_, _<_}
 use native.Mathlib.Omega.{arith}
-use lib.Dec.{leb}
 use lib.ListN.{getD}
 use native.Mathlib.Nat.{mod-eq-of-lt}
 use Rattle.theory.specs.Machine.{View, label, jump, leave, exit, fault, falls, jumps, stops, upd, reads, afterCalc, afterAccess, effect}
@@ -18,16 +17,14 @@ use Rattle.ops.specs.Ops.{Fault, faultOf, afterLoad, afterStore, viewOf}
 use Rattle.ops.specs.Table.{roleOf}
 use Rattle.block.specs.Scan.{recordAt, Stands, SetAt}
 use Rattle.block.proofs.MarkSets.{at-place}
-use Rattle.block.proofs.Views.{unknown-view, declare-view, label-view, jump-view, leave-view, branch-view, load-view, store-view, constant-view}
-use Rattle.block.proofs.Views.{pure-view}
+use Rattle.block.proofs.Views.{unknown-view, declare-view, label-view, jump-view, leave-view, pure-view}
 use Rattle.runner.specs.Evaluates.{Computed, inputsAt, statesAt, valuesOf, envOf}
 use Rattle.runner.specs.Steps.{stateOf, effectOf, afterState, Performs, PerformsAlone, branchOp, loadOp, storeOp, constantOp}
 use Rattle.memory.specs.declared.Loaded.{Loaded}
 use Rattle.memory.specs.declared.Loaded.the-variants.{Value, Fault as LoadFault}
 use Rattle.word.specs.declared.Stated.{Stated}
 use Rattle.word.specs.declared.Stated.the-variants.{Value as StatedValue, NoResult as StatedNone}
-use Rattle.ops.specs.declared.kinds.Role.{Role}
-use Rattle.ops.specs.declared.kinds.Role.the-variants.{Unknown, Declares, SetsLabel, Jumps, Exits, Constant, Computes, Branches, Loads, Stores}
+use Rattle.ops.specs.declared.kinds.Role.the-variants.{Unknown, Declares, SetsLabel, Jumps, Exits}
 use Rattle.runner.specs.declared.step.Outcome.{Outcome}
 use Rattle.runner.specs.declared.step.Outcome.the-variants.{Falls, JumpsTo, Stops}
 use Rattle.runner.specs.declared.step.Stop.the-variants.{Leaves, Faults, Unstated}
@@ -159,24 +156,7 @@ module _ {b : List ℕ} {p k : ℕ} (c : Computed b p k) (values : List ℕ) (r 
             (acts m ∙ ap (λ (o : Stated). afterCalc 0 (at b (p + 1) ∷ []) (stateOf values m) (valuesOf o)) t);
       }
 
--- the step, by the role of the kind
-module _ {b : List ℕ} {p k : ℕ} (s : Stands b p k) {values memory values′ memory′ : List ℕ} {o : Outcome} where
-  by-view : {v : View ℕ (List ℕ) Fault} → v ≡ viewOf (recordAt b p) → Performs v values memory values′ memory′ o → Performs (viewOf (recordAt b p)) values memory values′ memory′ o
-  by-view e = subst (λ (v : View ℕ (List ℕ) Fault). Performs v values memory values′ memory′ o) e
-
-  pub step-loads : roleOf k ≡ Loads → {wide : Bool} → wide ≡ leb 0x80 k → Performs (loadOp b p wide) values memory values′ memory′ o → Performs (viewOf (recordAt b p)) values memory values′ memory′ o
-  step-loads e q = by-view (ap (loadOp b p) q ∙ sym (load-view s e))
-
-  pub step-stores : roleOf k ≡ Stores → Performs (storeOp b p) values memory values′ memory′ o → Performs (viewOf (recordAt b p)) values memory values′ memory′ o
-  step-stores e = by-view (sym (store-view s e))
-
-  pub step-branches : roleOf k ≡ Branches → {wide : Bool} → wide ≡ leb 0x80 k → Performs (branchOp b p wide) values memory values′ memory′ o → Performs (viewOf (recordAt b p)) values memory values′ memory′ o
-  step-branches e q = by-view (ap (branchOp b p) q ∙ sym (branch-view s e))
-
-  pub step-constant : roleOf k ≡ Constant → Performs (constantOp b p) values memory values′ memory′ o → Performs (viewOf (recordAt b p)) values memory values′ memory′ o
-  step-constant e = by-view (sym (constant-view s e))
-
--- and the ops that change nothing
+-- the ops that change nothing
 module _ {b : List ℕ} {p k : ℕ} (s : Stands b p k) (values memory : List ℕ) where
   alone : (v : View ℕ (List ℕ) Fault) (o : Outcome) → viewOf (recordAt b p) ≡ v → effect 0 v (stateOf values memory) ≡ effectOf o (stateOf values memory)
       → Performs (viewOf (recordAt b p)) values memory values memory o

@@ -14,9 +14,9 @@ use Rattle.ops.specs.Ops.{tcg}
 use Rattle.block.specs.Records.{recordsOf, declarations, opsFrom, widthOf, classesOf, globalCount}
 use Rattle.block.specs.Scan.{Approved, Scanned, rejected, approved}
 use Rattle.block.proofs.Scanned.{refuse-by}
-use Rattle.runner.specs.Runs.{globalsFit, fits, valuesFrom, Ran, answerOf, ranOf, runOps, runRefused, runChecked, runOf}
+use Rattle.runner.specs.Runs.{globalsFit, fits, valuesFrom, ranAs, answerOf, ranOf, runOps, runRefused, runChecked, runOf}
 use Rattle.runner.specs.Evaluates.{envOf}
-use Rattle.runner.specs.Steps.{stateOf, Ready, Executed, ranAs, lentOk}
+use Rattle.runner.specs.Steps.{stateOf, Ready, Executed, lentOk}
 use Rattle.runner.specs.declared.Ending.{Ending}
 use Rattle.runner.specs.declared.Ending.the-variants.{Refused}
 
@@ -85,5 +85,5 @@ module _ {b places₀ classes types places labels : List ℕ} {rule place start 
           let q : eqb (length lent) globals ≡ true = and-l (eqb (length lent) globals) _ (and-l (eqb (length lent) globals && globalsFit (map widthOf (take n types)) lent) (leb (length memory) 65536) (sym e ∙ f)) in
           omega (arith, eqb-true (length lent) globals q, few-lent)
 
-      pub accepted-ran : t ≡ true → {x : Ran} → x ≡ runOps (opsFrom (recordsOf b)) lent memory → x ≡ runOf b lent memory
-      accepted-ran f q = q ∙ sym (choice ∙ rw f)
+      pub accepted-ran : t ≡ true → runOps (opsFrom (recordsOf b)) lent memory ≡ runOf b lent memory
+      accepted-ran f = sym (choice ∙ rw f)

@@ -12,12 +12,12 @@ use borrow.Author.Tests.{eq-eqb}
 use native.Mathlib.Nat.{zero-add, sub-zero, add-zero, mod-eq-of-lt}
 use native.Mathlib.Numerals.{add-one}
 use Rattle.theory.specs.Checker.{checks}
-use Rattle.theory.specs.Machine.{Touch, faults, gives, View, calc, access, label, jump, branch, leave, End, exit, fault, unstated, fell, Effect, falls}
+use Rattle.theory.specs.Machine.{Touch, faults, gives, View, calc, access, label, jump, branch, leave, fell, Effect, falls}
 use Rattle.theory.specs.Machine.{jumps, stops, reads, afterCalc, afterAccess, effect, St, Result, cost, seek, moved, counted, after, run, runs}
 use Rattle.theory.specs.Sets.{empty}
 use Rattle.theory.proofs.Ends.{isJump}
 use Rattle.ops.specs.Kinds.{bodyLength}
-use Rattle.ops.specs.Ops.{Fault, faultOf, viewOf, tcg}
+use Rattle.ops.specs.Ops.{Fault, viewOf, tcg}
 use Rattle.ops.proofs.Sizes.{body-short}
 use Rattle.block.specs.Records.{recordsOf, declarations, opsFrom}
 use Rattle.block.specs.Scan.{recordAt, Stands, placesFrom, recordsAt}
@@ -245,54 +245,60 @@ module _ {b values₀ memory₀ values memory : List ℕ} {op place count : ℕ}
               landing .here ∙ drop-drop (landing .on) (suc op) (opsOf b) ∙ ap (λ (i : ℕ). drop i (opsOf b)) e
 
 -- the same, as the loop finds it
-module _ {b values₀ memory₀ values memory places labels : List ℕ} {op place count start ops : ℕ} (r : Ready b places labels start ops) (u : Running b values₀ memory₀ values memory op place count) where
-  pub ends-past : ops ≤ op → Executed b values₀ memory₀ values memory (NoResult ops count)
-  ends-past h = fell-past u (count-of r) h
+pub ends-past : {b values₀ memory₀ values memory places labels : List ℕ} {op place count start ops : ℕ} → Ready b places labels start ops
+    → Running b values₀ memory₀ values memory op place count → ops ≤ op → Executed b values₀ memory₀ values memory (NoResult ops count)
+ends-past r u h = fell-past u (count-of r) h
 
-  module _ (h : op < ops) where
-    due : op < length (opsOf b)
-    due = omega (arith, count-of r)
+-- a turn of the loop: the run stands at one of the ops
+pub record Turn (b values₀ memory₀ values memory places labels : List ℕ) (op place count start ops : ℕ) : Type 0 where
+  pub ready : Ready b places labels start ops
+  pub running : Running b values₀ memory₀ values memory op place count
+  pub more-ops : op < ops
 
-    pub inside-now : place < length b
-    inside-now = place-inside u due
+module _ {b values₀ memory₀ values memory places labels : List ℕ} {op place count start ops : ℕ} (t : Turn b values₀ memory₀ values memory places labels op place count start ops) where
+  due : op < length (opsOf b)
+  due = omega (arith, count-of (t .ready), t .more-ops)
 
-    pub stands-now : Stands b place (getD b place 0)
-    stands-now = stands-at u due (getD b place 0) refl
+  pub inside-now : place < length b
+  inside-now = place-inside (t .running) due
 
-    pub body-now : {n : ℕ} → n ≡ bodyLength (getD b place 0) → place + (1 + n) ≤ length b
-    body-now e = omega (arith, stands-now .whole)
+  pub stands-now : Stands b place (getD b place 0)
+  stands-now = stands-at (t .running) due (getD b place 0) refl
 
-    pub few-now : count < 256
-    few-now = omega (arith, u .early, due, few r)
+  pub body-now : {n : ℕ} → n ≡ bodyLength (getD b place 0) → place + (1 + n) ≤ length b
+  body-now e = omega (arith, stands-now .whole)
 
-    module _ {values′ memory′ : List ℕ} {o : Outcome} (p : Performs (viewOf (recordAt b place)) values memory values′ memory′ o) where
-      so : {x : Outcome} → o ≡ x → Performs (viewOf (recordAt b place)) values memory values′ memory′ x
-      so e = subst (Performs (viewOf (recordAt b place)) values memory values′ memory′) e p
+  pub few-now : count < 256
+  few-now = omega (arith, t .running .early, due, few (t .ready))
 
-      pub stops-now : {e : Stop} → o ≡ Stops e → {ending : Ending} → ending ≡ answerOf (endOf e) op (count + cost (endOf e)) → Executed b values₀ memory₀ values′ memory′ ending
-      stops-now e a = run-stops u due p e a
+  module _ {values′ memory′ : List ℕ} {o : Outcome} (p : Performs (viewOf (recordAt b place)) values memory values′ memory′ o) where
+    so : {x : Outcome} → o ≡ x → Performs (viewOf (recordAt b place)) values memory values′ memory′ x
+    so e = subst (Performs (viewOf (recordAt b place)) values memory values′ memory′) e p
 
-      pub falls-on : o ≡ Falls → {n op′ place′ : ℕ} → n ≡ bodyLength (getD b place 0) → op′ ≡ op + 1 → place′ ≡ place + (1 + n)
-          → (op < op′) × Running b values₀ memory₀ values′ memory′ op′ place′ (count + 1)
-      falls-on e {n} {op′} {place′} l q t =
-          (omega (arith, q), subst₂ (λ (x y : ℕ). Running b values₀ memory₀ values′ memory′ x y (count + 1)) (sym q) (sym t) (run-falls u due (so e) l))
+    pub stops-now : {e : Stop} → o ≡ Stops e → {ending : Ending} → ending ≡ answerOf (endOf e) op (count + cost (endOf e)) → Executed b values₀ memory₀ values′ memory′ ending
+    stops-now e a = run-stops (t .running) due p e a
 
-      -- the label's number, as it is read
-      module _ {l i m : ℕ} (e : o ≡ JumpsTo l) (ei : i ≡ l) (em : m ≡ getD labels i 0) where
-        number : m ≡ getD labels l 0
-        number = em ∙ ap (λ (x : ℕ). getD labels x 0) ei
+    pub falls-on : o ≡ Falls → {n op′ place′ : ℕ} → n ≡ bodyLength (getD b place 0) → op′ ≡ op + 1 → place′ ≡ place + (1 + n)
+        → (op < op′) × Running b values₀ memory₀ values′ memory′ op′ place′ (count + 1)
+    falls-on e {n} {op′} {place′} l q w =
+        (omega (arith, q), subst₂ (λ (x y : ℕ). Running b values₀ memory₀ values′ memory′ x y (count + 1)) (sym q) (sym w) (run-falls (t .running) due (so e) l))
 
-        pub number-now : 1 ≤ m
-        number-now = omega (arith, number, has-number u due r (so e))
+    -- the label's number, as it is read
+    module _ {l i m : ℕ} (e : o ≡ JumpsTo l) (ei : i ≡ l) (em : m ≡ getD labels i 0) where
+      number : m ≡ getD labels l 0
+      number = em ∙ ap (λ (x : ℕ). getD labels x 0) ei
 
-        pub target-now : m - 1 < 256
-        target-now = omega (arith, number, lands-inside u due r (so e), few r)
+      pub number-now : 1 ≤ m
+      number-now = omega (arith, number, has-number (t .running) due (t .ready) (so e))
 
-        pub jumps-on : {op′ q place′ : ℕ} → q ≡ getD places (m - 1) 0 → op′ ≡ m - 1 → place′ ≡ q → (op < op′) × Running b values₀ memory₀ values′ memory′ op′ place′ (count + 1)
-        jumps-on {op′} {q} {place′} eq eo ep =
-            let n : op′ ≡ getD labels l 0 - 1 = eo ∙ ap (λ (x : ℕ). x - 1) number in
-            let t : place′ ≡ getD places (getD labels l 0 - 1) 0 = ep ∙ eq ∙ ap (λ (x : ℕ). getD places (x - 1) 0) number in
-            (omega (arith, n, lands-on u due r (so e)), subst₂ (λ (x y : ℕ). Running b values₀ memory₀ values′ memory′ x y (count + 1)) (sym n) (sym t) (run-jumps u due r (so e)))
+      pub target-now : m - 1 < 256
+      target-now = omega (arith, number, lands-inside (t .running) due (t .ready) (so e), few (t .ready))
+
+      pub jumps-on : {op′ q place′ : ℕ} → q ≡ getD places (m - 1) 0 → op′ ≡ m - 1 → place′ ≡ q → (op < op′) × Running b values₀ memory₀ values′ memory′ op′ place′ (count + 1)
+      jumps-on {op′} {q} {place′} eq eo ep =
+          let n : op′ ≡ getD labels l 0 - 1 = eo ∙ ap (λ (x : ℕ). x - 1) number in
+          let w : place′ ≡ getD places (getD labels l 0 - 1) 0 = ep ∙ eq ∙ ap (λ (x : ℕ). getD places (x - 1) 0) number in
+          (omega (arith, n, lands-on (t .running) due (t .ready) (so e)), subst₂ (λ (x y : ℕ). Running b values₀ memory₀ values′ memory′ x y (count + 1)) (sym n) (sym w) (run-jumps (t .running) due (t .ready) (so e)))
 
 -- the answer of the op that ends the run
 pub ended-so : (op count : ℕ) {s t : Stop} → s ≡ t → answerOf (endOf t) op (count + cost (endOf t)) ≡ answerOf (endOf s) op (count + cost (endOf s))

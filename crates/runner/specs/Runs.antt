@@ -1,10 +1,10 @@
 -- The run: its answer, and the globals and memory that it leaves. Assumes nothing.
 use Prim.Native.Nat.{ℕ, zero, suc, _-_}
-use mathlib.Core.Bool.{Bool, true, false, cond, _&&_}
+use mathlib.Core.Bool.{Bool, true, cond, _&&_}
 use mathlib.Core.List.{List, [], _∷_}
 use lib.Dec.{eqb, leb}
 use lib.ListN.{length, getD}
-use Rattle.theory.specs.Machine.{State, St, Prog, End, exit, fault, unstated, fell, spent, Result, runs}
+use Rattle.theory.specs.Machine.{St, End, exit, fault, unstated, fell, spent, Result, runs}
 use Rattle.ops.specs.Kinds.{narrowOk}
 use Rattle.ops.specs.Ops.{tcg}
 use Rattle.block.specs.declared.Verdict.{Verdict}
@@ -37,6 +37,10 @@ pub record Ran : Type 0 where
   pub answer : Ending
   pub globals : List ℕ
   pub memory : List ℕ
+
+-- the run that ended with this answer and left these globals and memory
+abbrev pub ranAs : Ending → List ℕ → List ℕ → Ran
+ranAs answer globals memory = record { answer = answer; globals = globals; memory = memory }
 
 -- "It ends in one of three ways: exit with a value; fault with load or store, address and flags; or no stated result, with the op's
 -- position counted from 0 among the ops." No run of an accepted block falls past its last op or uses up its steps (proofs/Ends)

@@ -5,7 +5,7 @@ use mathlib.Core.Option.{some}
 use mathlib.Core.List.{List, [], _∷_, map}
 use Prim.Native.Nat.{ℕ, _+_, _-_}
 use lib.Dec.{eqb, leb}
-use lib.ListN.{length, getD, take}
+use lib.ListN.{length, take}
 use Rattle.theory.specs.Machine.{View, calc, access, branch, End, exit, fault, unstated, Effect, falls, jumps, stops, effect, St, runs}
 use Rattle.word.specs.Condition.{condW}
 use Rattle.memory.specs.Access.{loadAt, storeAt}
@@ -13,13 +13,11 @@ use Rattle.memory.specs.Answer.{accessWidth}
 use Rattle.memory.specs.Bytes.{lowFirst}
 use Rattle.ops.specs.Kinds.{at}
 use Rattle.ops.specs.Ops.{atWidths, Fault, faultOf, afterLoad, afterStore, tcg}
-use Rattle.ops.specs.Table.{roleOf}
 use Rattle.block.specs.Records.{recordsOf, opsFrom, widthOf}
-use Rattle.block.specs.Scan.{Stands, Approved}
+use Rattle.block.specs.Scan.{Approved}
 use Rattle.runner.specs.Evaluates.{envOf}
-use Rattle.runner.specs.Runs.{globalsFit, Ran, answerOf}
+use Rattle.runner.specs.Runs.{globalsFit, answerOf}
 use Rattle.runner.specs.declared.Ending.{Ending}
-use Rattle.ops.specs.declared.kinds.Role.the-variants.{Computes}
 use Rattle.runner.specs.declared.step.Outcome.{Outcome}
 use Rattle.runner.specs.declared.step.Outcome.the-variants.{Falls, JumpsTo, Stops}
 use Rattle.runner.specs.declared.step.Stop.{Stop}
@@ -72,10 +70,6 @@ pub record Executed (block values memory values′ memory′ : List ℕ) (ending
       let r = runs tcg ops (stateOf values memory) in
       ending ≡ answerOf (r .end) (length ops - length (r .left)) (r .count)
   pub state-is : stateOf values′ memory′ ≡ (runs tcg (opsFrom (recordsOf block)) (stateOf values memory)) .state
-
--- what a run answers and leaves
-abbrev pub ranAs : Ending → List ℕ → List ℕ → Ran
-ranAs answer globals memory = record { answer = answer; globals = globals; memory = memory }
 
 -- rule 11, where n variables have these types and so many of them are globals
 abbrev pub lentOk : List ℕ → ℕ → ℕ → List ℕ → List ℕ → Bool

@@ -1,7 +1,7 @@
 // One op run: what it does to the values and the memory, and how the run goes on.
 ghost use mathlib.Core.Path.{_≡_};
 ghost use Prim.Native.Nat.{_+_, _≤_, _<_, _%_, _^_};
-ghost use lib.ListN.{length, getD};
+ghost use lib.ListN.{length};
 ghost use Rattle.word.specs.Condition.{condW};
 ghost use Rattle.memory.specs.Answer.{accessWidth};
 ghost use Rattle.ops.specs.Ops.{viewOf};

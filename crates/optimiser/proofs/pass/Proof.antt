@@ -14,11 +14,15 @@ scan-requires c κs = search needs
 
 returns : tie.Need-returns
 returns c =
-    pass-refuses (c .before .before .before .before .before .before .before .before .before .before .args .block .now) (c .before .before .before .before .before .before .before .before .before .before .args .out .now) (refuse-by (c .before .scan .ensures) (c .if1 .taken))
+    let args = c .before .before .before .before .before .before .before .before .before .before .args in
+    pass-refuses (args .block .now) (args .out .now) (refuse-by (c .before .scan .ensures) (c .if1 .taken))
 
 write-result-requires : tie.Need-write-result-requires
 write-result-requires c κs =
-    (ready-by (c .before .before .before .before .before .scan .ensures) (c .before .before .before .before .if1 .left) refl, c .before .before .before .before .before .before .before .before .before .before .before .table .ensures)
+    let table = c .before .before .before .before .before .before .before .before .before .before .before .table .ensures in
+    let scan = c .before .before .before .before .before .scan .ensures in
+    let left1 = c .before .before .before .before .if1 .left in
+    (ready-by scan left1 refl, table)
 
 same-length : tie.Need-same-length
 same-length c = search needs

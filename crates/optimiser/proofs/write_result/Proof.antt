@@ -21,23 +21,32 @@ slice-aggregate-prune c = search needs
 
 prune-requires : tie.Need-prune-requires
 prune-requires c κs =
-    (its-variables (c .before .before .before .before .before .before .before .before .before .pre .0), its-choice (c .before .before .before .before .before .before .before .before .before .pre .0) (c .before .before .before .before .fold .ensures), refl, c .before .before .before .before .before .before .before .before .before .pre .1)
+    let pre = c .before .before .before .before .before .before .before .before .before .pre in
+    let fold = c .before .before .before .before .fold .ensures in
+    (its-variables (pre .0), its-choice (pre .0) fold, refl, pre .1)
 
 mul-start : tie.Need-mul-start
 mul-start c = omega (arith, c .before .before .before .before .before .before .before .before .before .before .before .pre .0 .few)
 
 kept-size-requires : tie.Need-kept-size-requires
 kept-size-requires c κs =
-    (its-choice (c .before .before .before .before .before .before .before .before .before .before .before .before .before .pre .0) (c .before .before .before .before .before .before .before .before .fold .ensures), c .before .before .before .before .before .before .before .before .before .before .before .before .before .pre .1)
+    let pre = c .before .before .before .before .before .before .before .before .before .before .before .before .before .pre in
+    let fold = c .before .before .before .before .before .before .before .before .fold .ensures in
+    (its-choice (pre .0) fold, pre .1)
 
 add-size : tie.Need-add-size
 add-size c =
-    let r = c .before .before .before .before .before .before .before .before .before .before .before .before .before .before .pre .0 in
-    omega (arith, result-small r, result-size r (c .before .before .before .before .before .before .before .before .before .fold .ensures) (c .before .before .before .before .prune .ensures) (c .kept-size .ensures))
+    let pre = c .before .before .before .before .before .before .before .before .before .before .before .before .before .before .pre in
+    let fold = c .before .before .before .before .before .before .before .before .before .fold .ensures in
+    let prune = c .before .before .before .before .prune .ensures in
+    omega (arith, result-small (pre .0), result-size (pre .0) fold prune (c .kept-size .ensures))
 
 returns : tie.Need-returns
 returns c =
-    pass-short (c .before .before .before .before .before .before .before .before .before .before .before .before .before .before .before .pre .0) (c .before .before .before .before .before .before .before .before .before .before .fold .ensures) (c .before .before .before .before .before .prune .ensures) (c .before .kept-size .ensures) (c .if1 .taken)
+    let pre = c .before .before .before .before .before .before .before .before .before .before .before .before .before .before .before .pre in
+    let fold = c .before .before .before .before .before .before .before .before .before .before .fold .ensures in
+    let prune = c .before .before .before .before .before .prune .ensures in
+    pass-short (pre .0) fold prune (c .before .kept-size .ensures) (c .if1 .taken)
 
 copy-requires : tie.Need-copy-requires
 copy-requires c κs =
@@ -45,22 +54,28 @@ copy-requires c κs =
 
 emit-ops-requires : tie.Need-emit-ops-requires
 emit-ops-requires c κs =
-    let r = c .before .before .before .before .before .before .before .before .before .before .before .before .before .before .before .before .before .before .before .before .before .before .before .pre .0 in
-    let f = c .before .before .before .before .before .before .before .before .before .before .before .before .before .before .before .before .before .before .fold .ensures in
-    let k = c .before .before .before .before .before .before .before .before .before .before .before .before .before .prune .ensures in
-    let s = c .before .before .before .before .before .before .before .before .before .kept-size .ensures in
-    (its-choice r f, ops-fit r f k s (c .before .before .before .before .before .before .before .before .before .before .before .before .before .before .before .before .before .before .before .before .before .before .before .args .out .now) (c .before .before .before .before .before .before .before .before .if1 .left) (c .before .before .before .before .before .before .copy .ensures), c .before .before .before .before .before .before .before .before .before .before .before .before .before .before .before .before .before .before .before .before .before .before .before .pre .1)
+    let args = c .before .before .before .before .before .before .before .before .before .before .before .before .before .before .before .before .before .before .before .before .before .before .before .args in
+    let pre = c .before .before .before .before .before .before .before .before .before .before .before .before .before .before .before .before .before .before .before .before .before .before .before .pre in
+    let fold = c .before .before .before .before .before .before .before .before .before .before .before .before .before .before .before .before .before .before .fold .ensures in
+    let prune = c .before .before .before .before .before .before .before .before .before .before .before .before .before .prune .ensures in
+    let size = c .before .before .before .before .before .before .before .before .before .kept-size .ensures in
+    let left = c .before .before .before .before .before .before .before .before .if1 .left in
+    let copy = c .before .before .before .before .before .before .copy .ensures in
+    (its-choice (pre .0) fold, ops-fit (pre .0) fold prune size (args .out .now) left copy, pre .1)
 
 same-length : tie.Need-same-length
 same-length c = search needs
 
 returns-2 : tie.Need-returns-2
 returns-2 c =
-    let r = c .before .before .before .before .before .before .before .before .before .before .before .before .before .before .before .before .before .before .before .before .before .before .before .before .before .before .pre .0 in
-    let f = c .before .before .before .before .before .before .before .before .before .before .before .before .before .before .before .before .before .before .before .before .before .fold .ensures in
-    let k = c .before .before .before .before .before .before .before .before .before .before .before .before .before .before .before .before .prune .ensures in
-    let s = c .before .before .before .before .before .before .before .before .before .before .before .before .kept-size .ensures in
-    pass-stores r f k s (c .before .before .before .before .before .before .before .before .before .before .before .before .before .before .before .before .before .before .before .before .before .before .before .before .before .before .args .out .now) (c .before .before .before .before .before .before .before .before .before .before .before .if1 .left) (c .before .before .before .before .before .before .before .before .before .copy .ensures) (c .before .before .emit-ops .ensures .1)
+    let args = c .before .before .before .before .before .before .before .before .before .before .before .before .before .before .before .before .before .before .before .before .before .before .before .before .before .before .args in
+    let pre = c .before .before .before .before .before .before .before .before .before .before .before .before .before .before .before .before .before .before .before .before .before .before .before .before .before .before .pre in
+    let fold = c .before .before .before .before .before .before .before .before .before .before .before .before .before .before .before .before .before .before .before .before .before .fold .ensures in
+    let prune = c .before .before .before .before .before .before .before .before .before .before .before .before .before .before .before .before .prune .ensures in
+    let size = c .before .before .before .before .before .before .before .before .before .before .before .before .kept-size .ensures in
+    let left = c .before .before .before .before .before .before .before .before .before .before .before .if1 .left in
+    let copy = c .before .before .before .before .before .before .before .before .before .copy .ensures in
+    pass-stores (pre .0) fold prune size (args .out .now) left copy (c .before .before .emit-ops .ensures .1)
 
 pub write-result-spec : {M : Type 1} → statement M
 write-result-spec =

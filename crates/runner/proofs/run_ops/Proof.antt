@@ -26,7 +26,10 @@ same-length-2 c = search needs
 
 returns : tie.Need-returns
 returns c =
-    ops-ran (c .before .before .before .before .before .before .before .before .before .before .before .before .before .before .before .before .before .args .globals .now) _ (c .before .before .before .before .before .before .before .before .before .before .before .copy-in .ensures) (c .before .before .before .before .before .before .before .execute .ensures) (c .before .before .copy-out .ensures)
+    let args = c .before .before .before .before .before .before .before .before .before .before .before .before .before .before .before .before .before .args in
+    let copy-in = c .before .before .before .before .before .before .before .before .before .before .before .copy-in .ensures in
+    let execute = c .before .before .before .before .before .before .before .execute .ensures in
+    ops-ran (args .globals .now) _ copy-in execute (c .before .before .copy-out .ensures)
 
 pub run-ops-spec : {M : Type 1} → statement M
 run-ops-spec =

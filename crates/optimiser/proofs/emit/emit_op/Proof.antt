@@ -30,7 +30,10 @@ same-length c = c .before .before .put-movi .kept .0
 
 returns : tie.Need-returns
 returns c =
-    (movi-next (c .before .before .before .before .before .before .before .before .before .before .pre .0) (c .before .before .before .before .before .before .if1 .taken), movi-stored (c .before .before .before .before .before .before .before .before .before .before .pre .0) (c .before .before .before .before .before .before .if1 .taken) (c .before .before .before .before .movi-kind .ensures) (c .before .before .put-movi .ensures))
+    let pre = c .before .before .before .before .before .before .before .before .before .before .pre in
+    let taken1 = c .before .before .before .before .before .before .if1 .taken in
+    let movi-kind = c .before .before .before .before .movi-kind .ensures in
+    (movi-next (pre .0) taken1, movi-stored (pre .0) taken1 movi-kind (c .before .before .put-movi .ensures))
 
 body-length-requires : tie.Need-body-length-requires
 body-length-requires c κs = search needs
@@ -44,14 +47,20 @@ copy-requires c κs =
 
 add-result-2 : tie.Need-add-result-2
 add-result-2 c =
-    omega (arith, plain-room (c .before .before .before .before .before .before .before .before .before .pre .0) (c .before .before .before .before .before .if1 .left) (c .before .before .before .before .body-length .ensures) .1)
+    let pre = c .before .before .before .before .before .before .before .before .before .pre in
+    let left1 = c .before .before .before .before .before .if1 .left in
+    let body-length = c .before .before .before .before .body-length .ensures in
+    omega (arith, plain-room (pre .0) left1 body-length .1)
 
 same-length-2 : tie.Need-same-length-2
 same-length-2 c = c .before .before .copy .kept .1 .1 .1 .0
 
 returns-2 : tie.Need-returns-2
 returns-2 c =
-    (plain-next (c .before .before .before .before .before .before .before .before .before .pre .0) (c .before .before .before .before .before .if1 .left) (c .before .before .before .before .body-length .ensures), plain-stored (c .before .before .before .before .before .before .before .before .before .pre .0) (c .before .before .before .before .before .if1 .left) (c .before .before .before .before .body-length .ensures) (c .before .before .copy .ensures))
+    let pre = c .before .before .before .before .before .before .before .before .before .pre in
+    let left1 = c .before .before .before .before .before .if1 .left in
+    let body-length = c .before .before .before .before .body-length .ensures in
+    (plain-next (pre .0) left1 body-length, plain-stored (pre .0) left1 body-length (c .before .before .copy .ensures))
 
 pub emit-op-spec : {M : Type 1} → statement M
 emit-op-spec =

@@ -17,7 +17,8 @@ loop-holds c = (omega arith, storing-start)
 
 emit-at-requires : tie.Need-emit-at-requires Inv-loop μ-loop
 emit-at-requires c κs =
-    (omega (arith, c .before .before .before .before .before .pre .0 .here .few, c .before .loop-test .taken), λ k. emittable-op (c .before .before .before .before .before .pre .0) (c .before .before .loop .inv .1) (c .before .loop-test .taken) k (c .before .before .before .before .before .pre .1), c .before .before .before .before .before .pre .2)
+    let pre = c .before .before .before .before .before .pre in
+    (omega (arith, pre .0 .here .few, c .before .loop-test .taken), λ k. emittable-op (pre .0) (c .before .before .loop .inv .1) (c .before .loop-test .taken) k (pre .1), pre .2)
 
 add-op : tie.Need-add-op Inv-loop μ-loop
 add-op c =
@@ -28,7 +29,10 @@ loop-less c = omega (arith, c .before .before .before .before .loop-test .taken)
 
 loop-again : tie.Need-loop-again Inv-loop μ-loop
 loop-again c =
-    (omega (arith, c .before .before .before .before .loop-test .taken), storing-step (c .before .before .before .before .before .before .before .before .pre .0) (c .before .before .before .before .before .loop .inv .1) (c .before .before .before .before .loop-test .taken) (c .before .before .emit-at .ensures))
+    let pre = c .before .before .before .before .before .before .before .before .pre in
+    let inv = c .before .before .before .before .before .loop .inv in
+    let more = c .before .before .before .before .loop-test .taken in
+    (omega (arith, more), storing-step (pre .0) (inv .1) more (c .before .before .emit-at .ensures))
 
 same-length : tie.Need-same-length Inv-loop μ-loop
 same-length c = c .before .loop .inv .1 .same-long

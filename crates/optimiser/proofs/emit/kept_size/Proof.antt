@@ -31,7 +31,8 @@ loop-less c = omega (arith, c .before .loop-test .taken)
 
 loop-again : tie.Need-loop-again Inv-loop μ-loop
 loop-again c =
-    (omega (arith, c .before .loop-test .taken), omega (arith, c .before .before .loop .inv .1, c .size-at .ensures .0), sizing-step (c .before .before .before .before .pre .0) (c .before .before .loop .inv .2) (c .before .loop-test .taken) (c .size-at .ensures .1))
+    let pre = c .before .before .before .before .pre in
+    (omega (arith, c .before .loop-test .taken), omega (arith, c .before .before .loop .inv .1, c .size-at .ensures .0), sizing-step (pre .0) (c .before .before .loop .inv .2) (c .before .loop-test .taken) (c .size-at .ensures .1))
 
 returns : tie.Need-returns Inv-loop μ-loop
 returns c = sizing-ends (c .before .before .before .pre .0) (c .before .loop .inv .2) (omega (arith, c .loop-test .left))

@@ -26,7 +26,9 @@ same-length : tie.Need-same-length
 same-length c = c .before .before .put-low .kept .0 ∙ simp length-set
 
 returns : tie.Need-returns
-returns c = movi-sets (c .before .before .before .before .before .args .out .now) (c .before .before .before .before .before .args .to) (c .before .before .before .before .before .args .kind) (c .before .before .before .before .before .args .d) (c .before .before .before .before .before .args .value) (c .before .before .put-low .ensures)
+returns c =
+    let args = c .before .before .before .before .before .args in
+    movi-sets (args .out .now) (args .to) (args .kind) (args .d) (args .value) (c .before .before .put-low .ensures)
 
 pub put-movi-spec : {M : Type 1} → statement M
 put-movi-spec =

@@ -39,7 +39,9 @@ loop-less c = omega (arith, c .before .before .before .loop-test .taken)
 
 loop-again : tie.Need-loop-again Inv-loop μ-loop
 loop-again c =
-    (omega (arith, c .before .before .before .loop-test .taken), known-step (c .before .before .before .before .loop .inv .1) (c .before .before .before .loop-test .taken) (sym (c .before .is-known .ensures) ∙ not-false (c .before .is-known .result) (c .if1 .left)))
+    let inv = c .before .before .before .before .loop .inv in
+    let more = c .before .before .before .loop-test .taken in
+    (omega (arith, more), known-step (inv .1) more (sym (c .before .is-known .ensures) ∙ not-false (c .before .is-known .result) (c .if1 .left)))
 
 returns-2 : tie.Need-returns-2 Inv-loop μ-loop
 returns-2 c = known-ends (c .before .loop .inv .1) (omega (arith, c .loop-test .left))

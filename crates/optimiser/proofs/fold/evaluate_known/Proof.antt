@@ -23,11 +23,16 @@ evaluate-requires c κs = c .before .before .before .before .pre
 
 returns : tie.Need-returns
 returns c =
-    states-known (c .before .before .before .before .before .pre .0) (c .before .before .before .before .before .args .known .now) (c .before .before .before .before .before .args .values .now) (c .before .before .before .operand-count .ensures) (c .before .before .all-known .ensures) (c .before .if1 .taken) (c .evaluate .ensures)
+    let pre = c .before .before .before .before .before .pre in
+    let args = c .before .before .before .before .before .args in
+    let operand-count = c .before .before .before .operand-count .ensures in
+    states-known (pre .0) (args .known .now) (args .values .now) operand-count (c .before .before .all-known .ensures) (c .before .if1 .taken) (c .evaluate .ensures)
 
 returns-2 : tie.Need-returns-2
 returns-2 c =
-    unknown-states (c .before .before .before .before .pre .0) (c .before .before .before .before .args .known .now) (c .before .before .before .before .args .values .now) (c .before .before .operand-count .ensures) (c .before .all-known .ensures) (c .if1 .left)
+    let pre = c .before .before .before .before .pre in
+    let args = c .before .before .before .before .args in
+    unknown-states (pre .0) (args .known .now) (args .values .now) (c .before .before .operand-count .ensures) (c .before .all-known .ensures) (c .if1 .left)
 
 pub evaluate-known-spec : {M : Type 1} → statement M
 evaluate-known-spec =

@@ -30,18 +30,27 @@ cast-fold-at c =
 
 fold-at-requires : tie.Need-fold-at-requires Inv-loop μ-loop
 fold-at-requires c κs =
-    ((this-op (c .before .before .before .before .before .before .before .before .before .before .pre .0) (c .before .before .before .before .before .loop-test .taken)) .stands, omega (arith, c .before .before .before .before .before .before .before .before .before .before .pre .0 .few, c .before .before .before .before .before .loop-test .taken, c .before .before .before .before .before .before .loop .inv .1 .long-folded), omega (arith, c .before .before .before .before .before .before .before .before .before .before .pre .0 .few, c .before .before .before .before .before .loop-test .taken, c .before .before .before .before .before .before .loop .inv .1 .long-consts), c .before .before .before .before .before .before .before .before .before .before .pre .3)
+    let pre = c .before .before .before .before .before .before .before .before .before .before .pre in
+    let inv = c .before .before .before .before .before .before .loop .inv in
+    let more = c .before .before .before .before .before .loop-test .taken in
+    ((this-op (pre .0) more) .stands, omega (arith, pre .0 .few, more, inv .1 .long-folded), omega (arith, pre .0 .few, more, inv .1 .long-consts), pre .3)
 
 add-i : tie.Need-add-i Inv-loop μ-loop
 add-i c =
-    omega (arith, c .before .before .before .before .before .before .before .before .before .before .before .before .before .before .before .pre .0 .few, c .before .before .before .before .before .before .before .before .before .before .loop-test .taken)
+    let pre = c .before .before .before .before .before .before .before .before .before .before .before .before .before .before .before .pre in
+    let more = c .before .before .before .before .before .before .before .before .before .before .loop-test .taken in
+    omega (arith, pre .0 .few, more)
 
 loop-less : tie.Need-loop-less Inv-loop μ-loop
 loop-less c = omega (arith, c .before .before .before .before .before .before .before .before .before .before .loop-test .taken)
 
 loop-again : tie.Need-loop-again Inv-loop μ-loop
 loop-again c =
-    (omega (arith, c .before .before .before .before .before .before .before .before .before .before .loop-test .taken), folding-step (c .before .before .before .before .before .before .before .before .before .before .before .before .before .before .before .pre .0) (c .before .before .before .before .before .before .before .before .before .before .before .loop .inv .1) (c .before .before .before .before .before .before .before .before .before .before .loop-test .taken) (c .before .before .before .before .fold-at .ensures))
+    let pre = c .before .before .before .before .before .before .before .before .before .before .before .before .before .before .before .pre in
+    let inv = c .before .before .before .before .before .before .before .before .before .before .before .loop .inv in
+    let more = c .before .before .before .before .before .before .before .before .before .before .loop-test .taken in
+    let fold-at = c .before .before .before .before .fold-at .ensures in
+    (omega (arith, more), folding-step (pre .0) (inv .1) more fold-at)
 
 same-length : tie.Need-same-length Inv-loop μ-loop
 same-length c = c .before .loop .inv .1 .long-folded ∙ sym (c .before .before .before .before .before .pre .1)

@@ -38,14 +38,17 @@ same-length-2 c = search needs
 
 returns : tie.Need-returns
 returns c =
-    value-at (c .before .before .before .fold-op .ensures) (c .before .before .before .before .before .before .before .before .before .before .pre .1) (c .before .before .before .before .before .before .before .before .before .before .pre .2) (c .before .stated .given .1)
+    let pre = c .before .before .before .before .before .before .before .before .before .before .pre in
+    let fold-op = c .before .before .before .fold-op .ensures in
+    value-at fold-op (pre .1) (pre .2) (c .before .stated .given .1)
 
 same-length-3 : tie.Need-same-length-3
 same-length-3 c = search needs
 
 returns-2 : tie.Need-returns-2
 returns-2 c =
-    none-at (c .before .before .fold-op .ensures) (c .before .before .before .before .before .before .before .before .before .pre .1) (c .before .before .before .before .before .before .before .before .before .pre .2) (c .enum-told .given .1)
+    let pre = c .before .before .before .before .before .before .before .before .before .pre in
+    none-at (c .before .before .fold-op .ensures) (pre .1) (pre .2) (c .enum-told .given .1)
 
 pub fold-at-spec : {M : Type 1} → statement M
 fold-at-spec =

@@ -37,11 +37,21 @@ put-requires c κs = tt
 
 returns : tie.Need-returns
 returns c =
-    folds-value (c .before .before .before .before .before .before .before .before .before .before .before .pre .0) (omega (arith, c .before .before .before .before .before .before .before .before .before .before .before .fits .kind)) (c .before .before .before .before .before .before .before .before .before .before .before .args .known .now) (c .before .before .before .before .before .before .before .before .before .before .before .args .values .now) (c .before .before .before .before .before .before .before .evaluate-known .ensures) (c .before .before .before .before .before .stated .given .1) (c .learn .ensures)
+    let pre = c .before .before .before .before .before .before .before .before .before .before .before .pre in
+    let fits = c .before .before .before .before .before .before .before .before .before .before .before .fits in
+    let args = c .before .before .before .before .before .before .before .before .before .before .before .args in
+    let evaluate-known = c .before .before .before .before .before .before .before .evaluate-known .ensures in
+    let stated = c .before .before .before .before .before .stated .given .1 in
+    folds-value (pre .0) (omega (arith, fits .kind)) (args .known .now) (args .values .now) evaluate-known stated (c .learn .ensures)
 
 returns-2 : tie.Need-returns-2
 returns-2 c =
-    folds-none (c .before .before .before .before .before .before .before .before .before .pre .0) (omega (arith, c .before .before .before .before .before .before .before .before .before .fits .kind)) (c .before .before .before .before .before .before .before .before .before .args .known .now) (c .before .before .before .before .before .before .before .before .before .args .values .now) (c .before .before .before .before .before .evaluate-known .ensures) (c .before .before .before .enum-told .given .1) (c .put .ensures)
+    let pre = c .before .before .before .before .before .before .before .before .before .pre in
+    let fits = c .before .before .before .before .before .before .before .before .before .fits in
+    let args = c .before .before .before .before .before .before .before .before .before .args in
+    let evaluate-known = c .before .before .before .before .before .evaluate-known .ensures in
+    let told = c .before .before .before .enum-told .given .1 in
+    folds-none (pre .0) (omega (arith, fits .kind)) (args .known .now) (args .values .now) evaluate-known told (c .put .ensures)
 
 pub fold-computing-spec : {M : Type 1} → statement M
 fold-computing-spec =

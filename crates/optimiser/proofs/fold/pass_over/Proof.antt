@@ -54,19 +54,36 @@ clear-requires c κs = tt
 
 returns : tie.Need-returns
 returns c =
-    over-constant (c .before .before .before .before .before .before .before .before .before .pre .0) (c .before .before .before .before .before .before .before .before .before .args .known .now) (c .before .before .before .before .before .before .before .before .before .args .values .now) (sym (c .before .before .before .before .before .before .before .role-of .ensures) ∙ c .before .before .before .before .before .enum-told .given .1) (c .before .low-first .ensures .0) (c .learn .ensures)
+    let pre = c .before .before .before .before .before .before .before .before .before .pre in
+    let args = c .before .before .before .before .before .before .before .before .before .args in
+    let role-of = c .before .before .before .before .before .before .before .role-of .ensures in
+    let told = c .before .before .before .before .before .enum-told .given .1 in
+    over-constant (pre .0) (args .known .now) (args .values .now) (sym role-of ∙ told) (c .before .low-first .ensures .0) (c .learn .ensures)
 
 returns-2 : tie.Need-returns-2
 returns-2 c =
-    over-load (c .before .before .before .before .before .before .before .pre .0) (c .before .before .before .before .before .before .before .args .known .now) (c .before .before .before .before .before .before .before .args .values .now) (sym (c .before .before .before .before .before .role-of .ensures) ∙ c .before .before .before .enum-told2 .given .1) (c .put .ensures)
+    let pre = c .before .before .before .before .before .before .before .pre in
+    let args = c .before .before .before .before .before .before .before .args in
+    let role-of = c .before .before .before .before .before .role-of .ensures in
+    let told = c .before .before .before .enum-told2 .given .1 in
+    over-load (pre .0) (args .known .now) (args .values .now) (sym role-of ∙ told) (c .put .ensures)
 
 returns-3 : tie.Need-returns-3
 returns-3 c =
-    over-store (c .before .before .before .before .pre .0) (c .before .before .before .before .args .known .now) (c .before .before .before .before .args .values .now) (sym (c .before .before .role-of .ensures) ∙ c .enum-told3 .given .1)
+    let pre = c .before .before .before .before .pre in
+    let args = c .before .before .before .before .args in
+    over-store (pre .0) (args .known .now) (args .values .now) (sym (c .before .before .role-of .ensures) ∙ c .enum-told3 .given .1)
 
 returns-4 : tie.Need-returns-4
 returns-4 c =
-    over-end (c .before .before .before .before .before .pre .0) (c .before .before .before .before .before .args .known .now) (c .before .before .before .before .before .args .values .now) (c .before .before .before .before .before .pre .1) (λ e. miss (0 ∷ 1 ∷ 2 ∷ 3 ∷ 4 ∷ 6 ∷ 7 ∷ []) 5 tt (rw (c .before .before .before .role-of .ensures ∙ e) at (c .before .before .match .keys4))) (λ e. miss (0 ∷ 1 ∷ 2 ∷ 3 ∷ 4 ∷ 6 ∷ 7 ∷ []) 8 tt (rw (c .before .before .before .role-of .ensures ∙ e) at (c .before .before .match .keys4))) (λ e. miss (0 ∷ 1 ∷ 2 ∷ 3 ∷ 4 ∷ 6 ∷ 7 ∷ []) 9 tt (rw (c .before .before .before .role-of .ensures ∙ e) at (c .before .before .match .keys4))) (c .clear .ensures)
+    let pre = c .before .before .before .before .before .pre in
+    let args = c .before .before .before .before .before .args in
+    let role-of = c .before .before .before .role-of .ensures in
+    over-end (pre .0) (args .known .now) (args .values .now) (pre .1)
+    (λ e. miss (0 ∷ 1 ∷ 2 ∷ 3 ∷ 4 ∷ 6 ∷ 7 ∷ []) 5 tt (rw (role-of ∙ e) at (c .before .before .match .keys4)))
+    (λ e. miss (0 ∷ 1 ∷ 2 ∷ 3 ∷ 4 ∷ 6 ∷ 7 ∷ []) 8 tt (rw (role-of ∙ e) at (c .before .before .match .keys4)))
+    (λ e. miss (0 ∷ 1 ∷ 2 ∷ 3 ∷ 4 ∷ 6 ∷ 7 ∷ []) 9 tt (rw (role-of ∙ e) at (c .before .before .match .keys4)))
+    (c .clear .ensures)
 
 pub pass-over-spec : {M : Type 1} → statement M
 pass-over-spec =

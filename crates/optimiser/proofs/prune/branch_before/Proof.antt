@@ -16,7 +16,9 @@ mark-inputs-requires : tie.Need-mark-inputs-requires
 mark-inputs-requires c κs = omega (arith, c .before .before .before .before .pre .1)
 
 returns : tie.Need-returns
-returns c = then-inputs (bytesAt (c .before .before .before .before .before .args .block .now) (c .before .before .before .before .before .args .at + 1) 2) (c .mark-inputs .ensures) (c .before .before .live-at-end .ensures)
+returns c =
+    let args = c .before .before .before .before .before .args in
+    then-inputs (bytesAt (args .block .now) (args .at + 1) 2) (c .mark-inputs .ensures) (c .before .before .live-at-end .ensures)
 
 pub branch-before-spec : {M : Type 1} → statement M
 branch-before-spec =

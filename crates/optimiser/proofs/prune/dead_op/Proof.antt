@@ -42,15 +42,25 @@ is-dead-requires-2 c κs = tt
 
 returns : tie.Need-returns
 returns c =
-    dead-computes (c .before .before .before .before .before .before .pre .0) (marked (c .before .before .before .before .before .before .args .live .now)) (sym (c .before .before .before .before .role-of .ensures) ∙ c .before .before .enum-told .given .1) (c .is-dead .ensures)
+    let pre = c .before .before .before .before .before .before .pre in
+    let args = c .before .before .before .before .before .before .args in
+    let role-of = c .before .before .before .before .role-of .ensures in
+    dead-computes (pre .0) (marked (args .live .now)) (sym role-of ∙ c .before .before .enum-told .given .1) (c .is-dead .ensures)
 
 returns-2 : tie.Need-returns-2
 returns-2 c =
-    dead-constant (c .before .before .before .before .before .before .pre .0) (marked (c .before .before .before .before .before .before .args .live .now)) (sym (c .before .before .before .before .role-of .ensures) ∙ c .before .before .enum-told2 .given .1) (c .is-dead2 .ensures)
+    let pre = c .before .before .before .before .before .before .pre in
+    let args = c .before .before .before .before .before .before .args in
+    let role-of = c .before .before .before .before .role-of .ensures in
+    dead-constant (pre .0) (marked (args .live .now)) (sym role-of ∙ c .before .before .enum-told2 .given .1) (c .is-dead2 .ensures)
 
 returns-3 : tie.Need-returns-3
 returns-3 c =
-    not-dead (c .before .before .before .pre .0) (marked (c .before .before .before .args .live .now)) (λ e. miss (0 ∷ 1 ∷ 2 ∷ 3 ∷ 4 ∷ 7 ∷ 8 ∷ 9 ∷ []) 6 tt (rw (c .before .role-of .ensures ∙ e) at (c .match .keys3))) (λ e. miss (0 ∷ 1 ∷ 2 ∷ 3 ∷ 4 ∷ 7 ∷ 8 ∷ 9 ∷ []) 5 tt (rw (c .before .role-of .ensures ∙ e) at (c .match .keys3)))
+    let pre = c .before .before .before .pre in
+    let args = c .before .before .before .args in
+    not-dead (pre .0) (marked (args .live .now))
+    (λ e. miss (0 ∷ 1 ∷ 2 ∷ 3 ∷ 4 ∷ 7 ∷ 8 ∷ 9 ∷ []) 6 tt (rw (c .before .role-of .ensures ∙ e) at (c .match .keys3)))
+    (λ e. miss (0 ∷ 1 ∷ 2 ∷ 3 ∷ 4 ∷ 7 ∷ 8 ∷ 9 ∷ []) 5 tt (rw (c .before .role-of .ensures ∙ e) at (c .match .keys3)))
 
 pub dead-op-spec : {M : Type 1} → statement M
 dead-op-spec =

@@ -14,7 +14,8 @@ put-requires c κs = tt
 
 returns : tie.Need-returns
 returns c =
-    exits-set (c .before .before .before .before .args .x) (take (c .before .before .before .before .args .n) (c .before .before .before .before .args .classes .now)) (marked-plus (c .put .ensures)) (c .before .before .live-at-end .ensures)
+    let args = c .before .before .before .before .args in
+    exits-set (args .x) (take (args .n) (args .classes .now)) (marked-plus (c .put .ensures)) (c .before .before .live-at-end .ensures)
 
 pub exit-before-spec : {M : Type 1} → statement M
 exit-before-spec = tie.close (tie.spec live-at-end-requires put-requires returns)

@@ -12,7 +12,9 @@ mark-classes-requires : tie.Need-mark-classes-requires
 mark-classes-requires c κs = c .before .before .before .pre
 
 returns : tie.Need-returns
-returns c = ends-set (belowIn (take (c .before .before .before .before .args .n) (c .before .before .before .before .args .classes .now)) (c .before .before .before .before .args .limit)) (c .before .before .clear .ensures) (c .mark-classes .ensures)
+returns c =
+    let args = c .before .before .before .before .args in
+    ends-set (belowIn (take (args .n) (args .classes .now)) (args .limit)) (c .before .before .clear .ensures) (c .mark-classes .ensures)
 
 pub live-at-end-spec : {M : Type 1} → statement M
 live-at-end-spec = tie.close (tie.spec clear-requires mark-classes-requires returns)

@@ -4,9 +4,8 @@ use native.Mathlib.Omega.{arith}
 use lib.ListN.{take}
 use borrow.Author.Needs.{needs}
 use Rattle.block.specs.Scan.{marked}
-use Rattle.block.proofs.Views.{inside}
-use Rattle.optimiser.proofs.Before.{an-output, inputs-inside, before-computes, before-constant, before-load, before-store, before-branch, before-label}
-use Rattle.optimiser.proofs.Before.{before-jump, before-exit, before-unknown, before-declaration}
+use Rattle.block.proofs.Views.{inside, unknown-view, declare-view, label-view, jump-view, leave-view, branch-view, load-view, store-view, constant-view}
+use Rattle.optimiser.proofs.Before.{an-output, inputs-inside, before-computes, two-bytes}
 use Rattle.optimiser.proofs.prune.live_before.Statement.{statement}
 use Rattle.optimiser.proofs.prune.live_before.Tie as tie
 
@@ -94,43 +93,49 @@ exit-before-requires-3 c κs = c .before .before .before .before .before .pre .0
 
 returns : tie.Need-returns
 returns c =
-    before-computes (c .before .before .before .before .before .before .before .pre .1) (take (c .before .before .before .before .before .before .before .args .n) (c .before .before .before .before .before .before .before .args .classes .now)) (marked (c .before .before .before .before .before .before .before .args .live .now)) (sym (c .before .before .before .before .before .role-of .ensures) ∙ c .before .before .before .enum-told .given .1) (c .before .before .operand-count .ensures) (c .pure-before .ensures)
+    let start = c .before .before .before .before .before .before .before in
+    let role = sym (c .before .before .before .before .before .role-of .ensures) ∙ c .before .before .before .enum-told .given .1 in
+    before-computes (start .pre .1) (take (start .args .n) (start .args .classes .now)) (marked (start .args .live .now)) role (c .before .before .operand-count .ensures) (c .pure-before .ensures)
 
 returns-2 : tie.Need-returns-2
 returns-2 c =
-    before-constant (c .before .before .before .before .before .before .pre .1) (take (c .before .before .before .before .before .before .args .n) (c .before .before .before .before .before .before .args .classes .now)) (marked (c .before .before .before .before .before .before .args .live .now)) (sym (c .before .before .before .before .role-of .ensures) ∙ c .before .before .enum-told2 .given .1) (c .pure-before2 .ensures)
+    rw (constant-view (c .before .before .before .before .before .before .pre .1) (sym (c .before .before .before .before .role-of .ensures) ∙ c .before .before .enum-told2 .given .1)) (c .pure-before2 .ensures)
 
 returns-3 : tie.Need-returns-3
 returns-3 c =
-    before-load (c .before .before .before .before .before .before .pre .1) (take (c .before .before .before .before .before .before .args .n) (c .before .before .before .before .before .before .args .classes .now)) (marked (c .before .before .before .before .before .before .args .live .now)) (sym (c .before .before .before .before .role-of .ensures) ∙ c .before .before .enum-told3 .given .1) (c .load-before .ensures)
+    rw (load-view (c .before .before .before .before .before .before .pre .1) (sym (c .before .before .before .before .role-of .ensures) ∙ c .before .before .enum-told3 .given .1)) (c .load-before .ensures)
 
 returns-4 : tie.Need-returns-4
 returns-4 c =
-    before-store (c .before .before .before .before .before .before .pre .1) (take (c .before .before .before .before .before .before .args .n) (c .before .before .before .before .before .before .args .classes .now)) (marked (c .before .before .before .before .before .before .args .live .now)) (sym (c .before .before .before .before .role-of .ensures) ∙ c .before .before .enum-told4 .given .1) (c .store-before .ensures)
+    let start = c .before .before .before .before .before .before in
+    let role = sym (c .before .before .before .before .role-of .ensures) ∙ c .before .before .enum-told4 .given .1 in
+    rw (store-view (start .pre .1) role, ← two-bytes (start .args .block .now) (start .args .at)) (c .store-before .ensures)
 
 returns-5 : tie.Need-returns-5
 returns-5 c =
-    before-branch (c .before .before .before .before .before .before .pre .1) (take (c .before .before .before .before .before .before .args .n) (c .before .before .before .before .before .before .args .classes .now)) (marked (c .before .before .before .before .before .before .args .live .now)) (sym (c .before .before .before .before .role-of .ensures) ∙ c .before .before .enum-told5 .given .1) (c .branch-before .ensures)
+    let start = c .before .before .before .before .before .before in
+    let role = sym (c .before .before .before .before .role-of .ensures) ∙ c .before .before .enum-told5 .given .1 in
+    rw (branch-view (start .pre .1) role, ← two-bytes (start .args .block .now) (start .args .at)) (c .branch-before .ensures)
 
 returns-6 : tie.Need-returns-6
 returns-6 c =
-    before-label (c .before .before .before .before .before .before .pre .1) (take (c .before .before .before .before .before .before .args .n) (c .before .before .before .before .before .before .args .classes .now)) (marked (c .before .before .before .before .before .before .args .live .now)) (sym (c .before .before .before .before .role-of .ensures) ∙ c .before .before .enum-told6 .given .1) (c .live-at-end .ensures)
+    rw (label-view (c .before .before .before .before .before .before .pre .1) (sym (c .before .before .before .before .role-of .ensures) ∙ c .before .before .enum-told6 .given .1)) (c .live-at-end .ensures)
 
 returns-7 : tie.Need-returns-7
 returns-7 c =
-    before-jump (c .before .before .before .before .before .before .pre .1) (take (c .before .before .before .before .before .before .args .n) (c .before .before .before .before .before .before .args .classes .now)) (marked (c .before .before .before .before .before .before .args .live .now)) (sym (c .before .before .before .before .role-of .ensures) ∙ c .before .before .enum-told7 .given .1) (c .live-at-end2 .ensures)
+    rw (jump-view (c .before .before .before .before .before .before .pre .1) (sym (c .before .before .before .before .role-of .ensures) ∙ c .before .before .enum-told7 .given .1)) (c .live-at-end2 .ensures)
 
 returns-8 : tie.Need-returns-8
 returns-8 c =
-    before-exit (c .before .before .before .before .before .before .before .pre .1) (take (c .before .before .before .before .before .before .before .args .n) (c .before .before .before .before .before .before .before .args .classes .now)) (marked (c .before .before .before .before .before .before .before .args .live .now)) (sym (c .before .before .before .before .before .role-of .ensures) ∙ c .before .before .before .enum-told8 .given .1) (c .exit-before .ensures)
+    rw (leave-view (c .before .before .before .before .before .before .before .pre .1) (sym (c .before .before .before .before .before .role-of .ensures) ∙ c .before .before .before .enum-told8 .given .1)) (c .exit-before .ensures)
 
 returns-9 : tie.Need-returns-9
 returns-9 c =
-    before-unknown (c .before .before .before .before .before .before .pre .1) (take (c .before .before .before .before .before .before .args .n) (c .before .before .before .before .before .before .args .classes .now)) (marked (c .before .before .before .before .before .before .args .live .now)) (sym (c .before .before .before .before .role-of .ensures) ∙ c .before .before .enum-told9 .given .1) (c .exit-before2 .ensures)
+    rw (unknown-view (c .before .before .before .before .before .before .pre .1) (sym (c .before .before .before .before .role-of .ensures) ∙ c .before .before .enum-told9 .given .1)) (c .exit-before2 .ensures)
 
 returns-10 : tie.Need-returns-10
 returns-10 c =
-    before-declaration (c .before .before .before .before .before .before .pre .1) (take (c .before .before .before .before .before .before .args .n) (c .before .before .before .before .before .before .args .classes .now)) (marked (c .before .before .before .before .before .before .args .live .now)) (sym (c .before .before .before .before .role-of .ensures) ∙ c .before .before .enum-told10 .given .1) (c .exit-before3 .ensures)
+    rw (declare-view (c .before .before .before .before .before .before .pre .1) (sym (c .before .before .before .before .role-of .ensures) ∙ c .before .before .enum-told10 .given .1)) (c .exit-before3 .ensures)
 
 pub live-before-spec : {M : Type 1} → statement M
 live-before-spec =

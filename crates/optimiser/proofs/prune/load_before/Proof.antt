@@ -28,7 +28,9 @@ mark-inputs-requires c κs = omega (arith, c .before .before .before .before .be
 
 returns : tie.Need-returns
 returns c =
-    then-inputs (bytesAt (c .before .before .before .before .before .before .before .before .args .block .now) (c .before .before .before .before .before .before .before .before .args .at + 2) 1) (c .mark-inputs .ensures) (then-globals (take (c .before .before .before .before .before .before .before .before .args .n) (c .before .before .before .before .before .before .before .before .args .classes .now)) (c .before .before .mark-classes .ensures) (marked-without (c .before .before .before .before .put .ensures)))
+    let args = c .before .before .before .before .before .before .before .before .args in
+    let put = c .before .before .before .before .put .ensures in
+    then-inputs (bytesAt (args .block .now) (args .at + 2) 1) (c .mark-inputs .ensures) (then-globals (take (args .n) (args .classes .now)) (c .before .before .mark-classes .ensures) (marked-without put))
 
 pub load-before-spec : {M : Type 1} → statement M
 load-before-spec =

@@ -29,7 +29,10 @@ loop-less c = omega (arith, c .before .before .before .loop-test .taken)
 
 loop-again : tie.Need-loop-again Inv-loop μ-loop
 loop-again c =
-    (omega (arith, c .before .before .before .loop-test .taken), classed-step (c .before .before .before .before .before .pre .1) (omega (arith, c .before .before .before .before .before .pre .0 .few, c .before .before .before .before .before .pre .0 .long, c .before .before .before .loop-test .taken)) (c .before .before .before .before .loop .inv .1) (c .mark-class .ensures))
+    let pre = c .before .before .before .before .before .pre in
+    let inv = c .before .before .before .before .loop .inv in
+    let more = c .before .before .before .loop-test .taken in
+    (omega (arith, more), classed-step (pre .1) (omega (arith, pre .0 .few, pre .0 .long, more)) (inv .1) (c .mark-class .ensures))
 
 returns : tie.Need-returns Inv-loop μ-loop
 returns c = classed-end {n = c .before .before .args .n} (c .before .loop .inv .1) (omega (arith, c .before .loop .inv .0, c .loop-test .left))

@@ -35,7 +35,9 @@ element-copy-out-prune-op c = omega (arith, c .before .before .before .before .b
 
 cast-prune-op : tie.Need-cast-prune-op Inv-loop μ-loop
 cast-prune-op c =
-    omega (arith, place-inside (foldable-op {i = c .before .before .loop .i - 1} (c .before .before .before .before .before .before .before .pre .1) (omega (arith, c .before .before .loop .inv .0, c .before .loop-test .taken))), c .before .before .before .before .before .before .before .good .1 .0)
+    let pre = c .before .before .before .before .before .before .before .pre in
+    let good = c .before .before .before .before .before .before .before .good in
+    omega (arith, place-inside (foldable-op {i = c .before .before .loop .i - 1} (pre .1) (omega (arith, c .before .before .loop .inv .0, c .before .loop-test .taken))), good .1 .0)
 
 element-copy-out-prune-op-2 : tie.Need-element-copy-out-prune-op-2 Inv-loop μ-loop
 element-copy-out-prune-op-2 c =
@@ -43,18 +45,27 @@ element-copy-out-prune-op-2 c =
 
 prune-op-requires : tie.Need-prune-op-requires Inv-loop μ-loop
 prune-op-requires c κs =
-    (c .before .before .before .before .before .before .before .before .before .pre .0, foldable-op (c .before .before .before .before .before .before .before .before .before .pre .1) (omega (arith, c .before .before .before .before .loop .inv .0, c .before .before .before .loop-test .taken)), c .before .before .before .before .before .before .before .before .before .pre .3)
+    let pre = c .before .before .before .before .before .before .before .before .before .pre in
+    let inv = c .before .before .before .before .loop .inv in
+    let more = c .before .before .before .loop-test .taken in
+    (pre .0, foldable-op (pre .1) (omega (arith, inv .0, more)), pre .3)
 
 slice-write-keep : tie.Need-slice-write-keep Inv-loop μ-loop
 slice-write-keep c =
-    omega (arith, c .before .before .before .before .before .before .before .before .before .before .pre .1 .here .few, c .before .before .before .before .before .loop .inv .1 .long, c .before .before .before .before .before .loop .inv .0, c .before .before .before .before .loop-test .taken)
+    let pre = c .before .before .before .before .before .before .before .before .before .before .pre in
+    let inv = c .before .before .before .before .before .loop .inv in
+    let more = c .before .before .before .before .loop-test .taken in
+    omega (arith, pre .1 .here .few, inv .1 .long, inv .0, more)
 
 loop-less : tie.Need-loop-less Inv-loop μ-loop
 loop-less c = omega (arith, c .before .before .before .before .loop-test .taken)
 
 loop-again : tie.Need-loop-again Inv-loop μ-loop
 loop-again c =
-    (omega (arith, c .before .before .before .before .before .loop .inv .0), pruning-back (c .before .before .before .before .before .before .before .before .before .before .pre .1) (c .before .before .before .before .before .loop .inv .1) (c .before .before .before .before .loop-test .taken) (c .before .before .before .before .before .loop .inv .0) (c .prune-op .ensures))
+    let pre = c .before .before .before .before .before .before .before .before .before .before .pre in
+    let inv = c .before .before .before .before .before .loop .inv in
+    let more = c .before .before .before .before .loop-test .taken in
+    (omega (arith, inv .0), pruning-back (pre .1) (inv .1) more (inv .0) (c .prune-op .ensures))
 
 same-length : tie.Need-same-length Inv-loop μ-loop
 same-length c = c .before .loop .inv .1 .long ∙ sym (c .before .before .before .before .before .before .pre .2)

@@ -23,14 +23,20 @@ add-put c = search needs
 
 shared-slice-read-put : tie.Need-shared-slice-read-put
 shared-slice-read-put c =
-    inside (c .before .before .before .before .before .before .before .before .pre .1 .stands) (c .before .before .before .before .before .before .before .before .pre .1 .folds-only (c .before .before .if2 .taken)) 1 (omega arith)
+    let pre = c .before .before .before .before .before .before .before .before .pre in
+    inside (pre .1 .stands) (pre .1 .folds-only (c .before .before .if2 .taken)) 1 (omega arith)
 
 put-requires : tie.Need-put-requires
 put-requires c κs = tt
 
 returns-2 : tie.Need-returns-2
 returns-2 c =
-    prunes-constant (c .before .before .before .before .before .before .before .before .before .pre .1) (c .before .before .before .before .before .before .before .before .before .args .live .now) (c .before .before .before .before .before .dead-op .ensures) (c .before .before .before .before .if1 .left) (c .before .before .before .if2 .taken) (c .put .ensures)
+    let pre = c .before .before .before .before .before .before .before .before .before .pre in
+    let args = c .before .before .before .before .before .before .before .before .before .args in
+    let dead-op = c .before .before .before .before .before .dead-op .ensures in
+    let left1 = c .before .before .before .before .if1 .left in
+    let taken2 = c .before .before .before .if2 .taken in
+    prunes-constant (pre .1) (args .live .now) dead-op left1 taken2 (c .put .ensures)
 
 live-before-requires : tie.Need-live-before-requires
 live-before-requires c κs =
@@ -38,7 +44,11 @@ live-before-requires c κs =
 
 returns-3 : tie.Need-returns-3
 returns-3 c =
-    prunes-kept (c .before .before .before .before .before .before .before .before .pre .1) (c .before .before .before .before .before .before .before .before .args .live .now) (c .before .before .before .before .dead-op .ensures) (c .before .before .before .if1 .left) (c .before .before .if2 .left) (c .live-before .ensures)
+    let pre = c .before .before .before .before .before .before .before .before .pre in
+    let args = c .before .before .before .before .before .before .before .before .args in
+    let dead-op = c .before .before .before .before .dead-op .ensures in
+    let left1 = c .before .before .before .if1 .left in
+    prunes-kept (pre .1) (args .live .now) dead-op left1 (c .before .before .if2 .left) (c .live-before .ensures)
 
 pub prune-op-spec : {M : Type 1} → statement M
 prune-op-spec =

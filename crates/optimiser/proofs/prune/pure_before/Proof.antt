@@ -22,7 +22,9 @@ mark-inputs-requires : tie.Need-mark-inputs-requires
 mark-inputs-requires c κs = omega (arith, c .before .before .before .before .before .pre)
 
 returns : tie.Need-returns
-returns c = then-inputs (bytesAt (c .before .before .before .before .before .before .args .block .now) (c .before .before .before .before .before .before .args .at + 2) (c .before .before .before .before .before .before .args .inputs)) (c .mark-inputs .ensures) (marked-without (c .before .before .put .ensures))
+returns c =
+    let args = c .before .before .before .before .before .before .args in
+    then-inputs (bytesAt (args .block .now) (args .at + 2) (args .inputs)) (c .mark-inputs .ensures) (marked-without (c .before .before .put .ensures))
 
 pub pure-before-spec : {M : Type 1} → statement M
 pure-before-spec =

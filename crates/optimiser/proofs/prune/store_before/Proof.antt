@@ -19,7 +19,9 @@ mark-inputs-requires : tie.Need-mark-inputs-requires
 mark-inputs-requires c κs = omega (arith, c .before .before .before .before .pre .1)
 
 returns : tie.Need-returns
-returns c = then-inputs (bytesAt (c .before .before .before .before .before .args .block .now) (c .before .before .before .before .before .args .at + 1) 2) (c .mark-inputs .ensures) (then-globals {l = marked (c .before .before .before .before .before .args .live .now)} (take (c .before .before .before .before .before .args .n) (c .before .before .before .before .before .args .classes .now)) (c .before .before .mark-classes .ensures) refl)
+returns c =
+    let args = c .before .before .before .before .before .args in
+    then-inputs (bytesAt (args .block .now) (args .at + 1) 2) (c .mark-inputs .ensures) (then-globals {l = marked (args .live .now)} (take (args .n) (args .classes .now)) (c .before .before .mark-classes .ensures) refl)
 
 pub store-before-spec : {M : Type 1} → statement M
 store-before-spec =

@@ -47,7 +47,14 @@ eval-requires c κs = search needs
 
 returns : tie.Need-returns
 returns c =
-    evaluates (c .before .before .before .before .before .before .before .before .pre .0) (omega (arith, c .before .before .before .before .before .before .before .before .fits .kind)) (c .before .before .before .before .before .before .before .before .args .values .now) (c .before .before .operand-count .ensures) (c .before .byte-at .ensures) (c .before .before .before .before .before .before .input .ensures) (c .before .before .before .before .before .input2 .ensures) (c .before .before .before .before .input3 .ensures) (c .before .before .before .input4 .ensures) (c .eval .ensures)
+    let pre = c .before .before .before .before .before .before .before .before .pre in
+    let fits = c .before .before .before .before .before .before .before .before .fits in
+    let args = c .before .before .before .before .before .before .before .before .args in
+    let input = c .before .before .before .before .before .before .input .ensures in
+    let input2 = c .before .before .before .before .before .input2 .ensures in
+    let input3 = c .before .before .before .before .input3 .ensures in
+    let input4 = c .before .before .before .input4 .ensures in
+    evaluates (pre .0) (omega (arith, fits .kind)) (args .values .now) (c .before .before .operand-count .ensures) (c .before .byte-at .ensures) input input2 input3 input4 (c .eval .ensures)
 
 pub evaluate-spec : {M : Type 1} → statement M
 evaluate-spec =

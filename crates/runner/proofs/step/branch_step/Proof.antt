@@ -39,11 +39,17 @@ holds-requires c κs = search needs
 
 returns : tie.Need-returns
 returns c =
-    branch-jumps (c .before .before .before .before .before .before .before .before .before .args .block .now) (c .before .before .before .before .before .before .before .before .before .args .values .now) (c .before .before .before .before .before .before .before .before .before .args .at) (c .before .before .before .before .before .before .before .before .before .args .wide) (c .before .before .before .before .before .before .get .ensures) (c .before .before .before .before .get2 .ensures) (c .before .holds .ensures) (c .if1 .taken)
+    let args = c .before .before .before .before .before .before .before .before .before .args in
+    let get = c .before .before .before .before .before .before .get .ensures in
+    let get2 = c .before .before .before .before .get2 .ensures in
+    branch-jumps (args .block .now) (args .values .now) (args .at) (args .wide) get get2 (c .before .holds .ensures) (c .if1 .taken)
 
 returns-2 : tie.Need-returns-2
 returns-2 c =
-    branch-falls (c .before .before .before .before .before .before .before .before .before .args .block .now) (c .before .before .before .before .before .before .before .before .before .args .values .now) (c .before .before .before .before .before .before .before .before .before .args .at) (c .before .before .before .before .before .before .before .before .before .args .wide) (c .before .before .before .before .before .before .get .ensures) (c .before .before .before .before .get2 .ensures) (c .before .holds .ensures) (c .if1 .left)
+    let args = c .before .before .before .before .before .before .before .before .before .args in
+    let get = c .before .before .before .before .before .before .get .ensures in
+    let get2 = c .before .before .before .before .get2 .ensures in
+    branch-falls (args .block .now) (args .values .now) (args .at) (args .wide) get get2 (c .before .holds .ensures) (c .if1 .left)
 
 pub branch-step-spec : {M : Type 1} → statement M
 branch-step-spec =

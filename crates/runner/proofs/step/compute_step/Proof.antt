@@ -27,11 +27,17 @@ enum-told c = search needs
 
 returns : tie.Need-returns
 returns c =
-    compute-falls (c .before .before .before .before .before .before .before .before .before .pre .0) (c .before .before .before .before .before .before .before .before .before .args .values .now) (c .before .before .before .before .before .before .evaluate .result) (c .before .before .before .before .before .before .evaluate .ensures) (c .before .before .before .before .stated .given .1) (c .put .ensures)
+    let pre = c .before .before .before .before .before .before .before .before .before .pre in
+    let args = c .before .before .before .before .before .before .before .before .before .args in
+    let evaluated = c .before .before .before .before .before .before .evaluate in
+    let stated = c .before .before .before .before .stated .given .1 in
+    compute-falls (pre .0) (args .values .now) (evaluated .result) (evaluated .ensures) stated (c .put .ensures)
 
 returns-2 : tie.Need-returns-2
 returns-2 c =
-    compute-unstated (c .before .before .before .before .before .pre .0) (c .before .before .before .before .before .args .values .now) (c .before .before .evaluate .result) (c .before .before .evaluate .ensures) (c .enum-told .given .1)
+    let pre = c .before .before .before .before .before .pre in
+    let args = c .before .before .before .before .before .args in
+    compute-unstated (pre .0) (args .values .now) (c .before .before .evaluate .result) (c .before .before .evaluate .ensures) (c .enum-told .given .1)
 
 pub compute-step-spec : {M : Type 1} → statement M
 compute-step-spec =

@@ -21,7 +21,8 @@ put-requires c κs = search needs
 
 returns : tie.Need-returns
 returns c =
-    constant-falls (c .before .before .before .before .before .args .block .now) (c .before .before .before .before .before .args .values .now) _ (c .before .before .before .before .before .args .at) (c .before .low-first .ensures .0) (c .put .ensures)
+    let args = c .before .before .before .before .before .args in
+    constant-falls (args .block .now) (args .values .now) _ (args .at) (c .before .low-first .ensures .0) (c .put .ensures)
 
 pub constant-step-spec : {M : Type 1} → statement M
 constant-step-spec =

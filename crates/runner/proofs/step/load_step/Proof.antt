@@ -39,11 +39,17 @@ enum-told c = search needs
 
 returns : tie.Need-returns
 returns c =
-    load-falls (c .before .before .before .before .before .before .before .before .before .before .before .before .before .args .block .now) (c .before .before .before .before .before .before .before .before .before .before .before .before .before .args .values .now) (c .before .before .before .before .before .before .before .before .before .before .before .before .before .args .memory .now) (c .before .before .before .before .before .before .before .before .before .before .before .before .before .args .at) (c .before .before .before .before .before .before .before .before .before .before .before .before .before .args .wide) (c .before .before .before .before .before .before .before .before .get .ensures) (c .before .before .before .before .before .before .load .ensures) (c .before .before .before .before .loaded .given .1) (c .put .ensures)
+    let args = c .before .before .before .before .before .before .before .before .before .before .before .before .before .args in
+    let get = c .before .before .before .before .before .before .before .before .get .ensures in
+    let load = c .before .before .before .before .before .before .load .ensures in
+    let loaded = c .before .before .before .before .loaded .given .1 in
+    load-falls (args .block .now) (args .values .now) (args .memory .now) (args .at) (args .wide) get load loaded (c .put .ensures)
 
 returns-2 : tie.Need-returns-2
 returns-2 c =
-    loads-fault (c .before .before .before .before .before .before .before .before .before .args .block .now) (c .before .before .before .before .before .before .before .before .before .args .values .now) (c .before .before .before .before .before .before .before .before .before .args .memory .now) (c .before .before .before .before .before .before .before .before .before .args .at) (c .before .before .before .before .before .before .before .before .before .args .wide) (c .before .before .before .before .get .ensures) (c .before .before .load .ensures) (c .enum-told .given .1)
+    let args = c .before .before .before .before .before .before .before .before .before .args in
+    let get = c .before .before .before .before .get .ensures in
+    loads-fault (args .block .now) (args .values .now) (args .memory .now) (args .at) (args .wide) get (c .before .before .load .ensures) (c .enum-told .given .1)
 
 pub load-step-spec : {M : Type 1} → statement M
 load-step-spec =

@@ -2,8 +2,8 @@
 use mathlib.Core.Path.{sym, _∙_}
 use native.Mathlib.Omega.{arith}
 use borrow.Author.Needs.{needs}
-use Rattle.block.proofs.Views.{inside}
-use Rattle.runner.proofs.Performed.{step-loads, step-stores, step-branches, step-constant, step-label, step-jumps, step-exits, step-unknown, step-declares}
+use Rattle.block.proofs.Views.{inside, branch-view, load-view, store-view, constant-view}
+use Rattle.runner.proofs.Performed.{step-label, step-jumps, step-exits, step-unknown, step-declares}
 use Rattle.runner.proofs.step.step.Statement.{statement}
 use Rattle.runner.proofs.step.step.Tie as tie
 
@@ -15,7 +15,9 @@ enum-told c = search needs
 
 compute-step-requires : tie.Need-compute-step-requires
 compute-step-requires c κs =
-    (record { stands = c .before .before .before .before .before .before .pre .0; role-is = sym (c .before .before .before .role-of .ensures) ∙ c .before .enum-told .given .1 }, c .before .before .before .before .before .before .pre .1)
+    let pre = c .before .before .before .before .before .before .pre in
+    let role-of = c .before .before .before .role-of .ensures in
+    (record { stands = pre .0; role-is = sym role-of ∙ c .before .enum-told .given .1 }, pre .1)
 
 enum-told-2 : tie.Need-enum-told-2
 enum-told-2 c = search needs
@@ -94,25 +96,31 @@ returns c = c .compute-step .ensures .under (c .before .before .before .before .
 
 returns-2 : tie.Need-returns-2
 returns-2 c =
-    step-constant (c .before .before .before .before .before .before .before .pre .0) (sym (c .before .before .before .before .role-of .ensures) ∙ c .before .before .enum-told2 .given .1) (c .constant-step .ensures .under (c .before .before .before .before .before .before .before .args .memory .now))
+    let start = c .before .before .before .before .before .before .before in
+    let role = sym (c .before .before .before .before .role-of .ensures) ∙ c .before .before .enum-told2 .given .1 in
+    rw (constant-view (start .pre .0) role) (c .constant-step .ensures .under (start .args .memory .now))
 
 same-length : tie.Need-same-length
 same-length c = search needs
 
 returns-3 : tie.Need-returns-3
 returns-3 c =
-    step-loads (c .before .before .before .before .before .before .before .before .before .pre .0) (sym (c .before .before .before .before .before .before .role-of .ensures) ∙ c .before .before .before .before .enum-told3 .given .1) (c .before .before .before .is-wide .ensures) (c .load-step .ensures)
+    let role = sym (c .before .before .before .before .before .before .role-of .ensures) ∙ c .before .before .before .before .enum-told3 .given .1 in
+    rw (load-view (c .before .before .before .before .before .before .before .before .before .pre .0) role, ← c .before .before .before .is-wide .ensures) (c .load-step .ensures)
 
 same-length-2 : tie.Need-same-length-2
 same-length-2 c = search needs
 
 returns-4 : tie.Need-returns-4
 returns-4 c =
-    step-stores (c .before .before .before .before .before .before .before .before .before .before .pre .0) (sym (c .before .before .before .before .before .before .before .role-of .ensures) ∙ c .before .before .before .before .before .enum-told4 .given .1) (c .before .before .store-step .ensures)
+    let role = sym (c .before .before .before .before .before .before .before .role-of .ensures) ∙ c .before .before .before .before .before .enum-told4 .given .1 in
+    rw (store-view (c .before .before .before .before .before .before .before .before .before .before .pre .0) role) (c .before .before .store-step .ensures)
 
 returns-5 : tie.Need-returns-5
 returns-5 c =
-    step-branches (c .before .before .before .before .before .before .before .before .pre .0) (sym (c .before .before .before .before .before .role-of .ensures) ∙ c .before .before .before .enum-told5 .given .1) (c .before .before .is-wide2 .ensures) (c .branch-step .ensures .under (c .before .before .before .before .before .before .before .before .args .memory .now))
+    let start = c .before .before .before .before .before .before .before .before in
+    let role = sym (c .before .before .before .before .before .role-of .ensures) ∙ c .before .before .before .enum-told5 .given .1 in
+    rw (branch-view (start .pre .0) role, ← c .before .before .is-wide2 .ensures) (c .branch-step .ensures .under (start .args .memory .now))
 
 returns-6 : tie.Need-returns-6
 returns-6 c =
@@ -124,7 +132,10 @@ returns-7 c =
 
 returns-8 : tie.Need-returns-8
 returns-8 c =
-    step-exits (c .before .before .before .before .before .before .before .before .pre .0) _ _ (sym (c .before .before .before .before .before .role-of .ensures) ∙ c .before .before .before .enum-told8 .given .1) (c .get .ensures)
+    let pre = c .before .before .before .before .before .before .before .before .pre in
+    let role-of = c .before .before .before .before .before .role-of .ensures in
+    let told = c .before .before .before .enum-told8 .given .1 in
+    step-exits (pre .0) _ _ (sym role-of ∙ told) (c .get .ensures)
 
 returns-9 : tie.Need-returns-9
 returns-9 c =

@@ -36,14 +36,22 @@ same-length c = search needs
 
 returns : tie.Need-returns
 returns c =
-    store-falls (c .before .before .before .before .before .before .before .before .before .before .before .before .args .block .now) (c .before .before .before .before .before .before .before .before .before .before .before .before .args .values .now) (c .before .before .before .before .before .before .before .before .before .before .before .before .args .memory .now) (c .before .before .before .before .before .before .before .before .before .before .before .before .args .at) (c .before .before .before .before .before .before .before .before .get .ensures) (c .before .before .before .before .before .before .get2 .ensures) (c .before .before .before .store .ensures) (c .if1 .taken)
+    let args = c .before .before .before .before .before .before .before .before .before .before .before .before .args in
+    let get = c .before .before .before .before .before .before .before .before .get .ensures in
+    let get2 = c .before .before .before .before .before .before .get2 .ensures in
+    let store = c .before .before .before .store .ensures in
+    store-falls (args .block .now) (args .values .now) (args .memory .now) (args .at) get get2 store (c .if1 .taken)
 
 same-length-2 : tie.Need-same-length-2
 same-length-2 c = search needs
 
 returns-2 : tie.Need-returns-2
 returns-2 c =
-    stores-fault (c .before .before .before .before .before .before .before .before .before .before .before .before .args .block .now) (c .before .before .before .before .before .before .before .before .before .before .before .before .args .values .now) (c .before .before .before .before .before .before .before .before .before .before .before .before .args .memory .now) (c .before .before .before .before .before .before .before .before .before .before .before .before .args .at) (c .before .before .before .before .before .before .before .before .get .ensures) (c .before .before .before .before .before .before .get2 .ensures) (c .before .before .before .store .ensures) (c .if1 .left)
+    let args = c .before .before .before .before .before .before .before .before .before .before .before .before .args in
+    let get = c .before .before .before .before .before .before .before .before .get .ensures in
+    let get2 = c .before .before .before .before .before .before .get2 .ensures in
+    let store = c .before .before .before .store .ensures in
+    stores-fault (args .block .now) (args .values .now) (args .memory .now) (args .at) get get2 store (c .if1 .left)
 
 pub store-step-spec : {M : Type 1} → statement M
 store-step-spec =

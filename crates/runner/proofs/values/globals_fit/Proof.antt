@@ -31,7 +31,10 @@ fits-type-requires c κs = search needs
 
 returns : tie.Need-returns Inv-loop μ-loop
 returns c =
-    fit-stops (c .before .before .before .before .before .loop .inv .1) (c .before .before .before .before .loop-test .taken) (c .before .before .before .before .before .before .before .pre .0) (omega (arith, c .before .before .before .before .before .before .before .pre)) (c .before .fits-type .ensures) (not-true _ (c .if1 .taken))
+    let pre = c .before .before .before .before .before .before .before .pre in
+    let inv = c .before .before .before .before .before .loop .inv in
+    let more = c .before .before .before .before .loop-test .taken in
+    fit-stops (inv .1) more (pre .0) (omega (arith, pre)) (c .before .fits-type .ensures) (not-true _ (c .if1 .taken))
 
 add-i : tie.Need-add-i Inv-loop μ-loop
 add-i c = search needs
@@ -41,7 +44,10 @@ loop-less c = search needs
 
 loop-again : tie.Need-loop-again Inv-loop μ-loop
 loop-again c =
-    (omega arith, fit-next (c .before .before .before .before .before .loop .inv .1) (c .before .before .before .before .loop-test .taken) (c .before .before .before .before .before .before .before .pre .0) (omega (arith, c .before .before .before .before .before .before .before .pre)) (c .before .fits-type .ensures) (not-false _ (c .if1 .left)))
+    let pre = c .before .before .before .before .before .before .before .pre in
+    let inv = c .before .before .before .before .before .loop .inv in
+    let more = c .before .before .before .before .loop-test .taken in
+    (omega arith, fit-next (inv .1) more (pre .0) (omega (arith, pre)) (c .before .fits-type .ensures) (not-false _ (c .if1 .left)))
 
 returns-2 : tie.Need-returns-2 Inv-loop μ-loop
 returns-2 c = fit-end (c .before .loop .inv .1) (c .loop-test .left)
