@@ -1,12 +1,12 @@
 -- The check: the first broken rule, by number and place. Assumes nothing.
 use Prim.Native.Nat.{ℕ, suc, _+_}
-use mathlib.Core.Bool.{Bool, true, false, cond}
+use mathlib.Core.Bool.{Bool, cond}
 use mathlib.Core.List.{List, [], _∷_}
 use lib.Dec.{eqb}
 use lib.ListN.{length}
 use Rattle.block.specs.declared.Verdict.{Verdict}
 use Rattle.block.specs.declared.Verdict.the-variants.{Accepted, Refused}
-use Rattle.block.specs.Records.{Cut, cutOf, isDeclaration}
+use Rattle.block.specs.Records.{cutOf, isDeclaration}
 use Rattle.block.specs.Rules.{Seen, start, next, rule3, rule4, rule5, rule6, rule7, rule8, rule9, rule10, rule7end}
 
 -- a rule's number, and whether it is met

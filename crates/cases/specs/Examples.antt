@@ -1,15 +1,13 @@
 -- Case 12, and an example for each of document 01's mistakes. Proved in proofs/Examples.antt. Assumes nothing.
 use Prim.Native.Nat.{ℕ}
 use mathlib.Core.Path.{_≡_}
-use mathlib.Core.Bool.{Bool, true, false}
+use mathlib.Core.Bool.{false}
 use mathlib.Core.List.{List, [], _∷_, _++_}
 use lib.ListN.{length}
-use Rattle.runner.specs.declared.Ending.{Ending}
 use Rattle.runner.specs.declared.Ending.the-variants.{Exit, Fault, NoResult}
-use Rattle.runner.specs.Runs.{Ran, runOf}
-use Rattle.optimiser.specs.declared.Written.{Written}
+use Rattle.runner.specs.Runs.{runOf}
 use Rattle.optimiser.specs.declared.Written.the-variants.{Length}
-use Rattle.optimiser.specs.Passes.{Passed, passOf}
+use Rattle.optimiser.specs.Passes.{passOf}
 
 -- a 64-bit movi of a number below 256
 abbrev pub movi64 : ℕ → ℕ → List ℕ

@@ -8,7 +8,6 @@ use Rattle.ops.specs.Ops.{evalOf}
 use Rattle.block.specs.declared.Verdict.{Verdict}
 use Rattle.block.specs.declared.Verdict.the-variants.{Accepted, Refused}
 use Rattle.block.specs.Checks.{checkOf}
-use Rattle.runner.specs.declared.Ending.{Ending}
 use Rattle.runner.specs.declared.Ending.the-variants.{Exit}
 use Rattle.runner.specs.Runs.{Ran, runOf}
 

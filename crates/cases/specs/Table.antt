@@ -1,7 +1,7 @@
 -- The table of kinds against document 01's ranges of kinds. Proved in proofs/Table.antt. Assumes nothing.
 use Prim.Native.Nat.{ℕ, zero, suc, _+_}
 use mathlib.Core.Path.{_≡_}
-use mathlib.Core.Bool.{Bool, true, false, not, _&&_, _||_, Bool·beq}
+use mathlib.Core.Bool.{Bool, true, not, _&&_, _||_, Bool·beq}
 use lib.Dec.{eqb}
 use Rattle.ops.specs.Kinds.{rowOf, known, bodyLength, outputCount, pureKind, between}
 use Rattle.ops.specs.Ops.{foldableRow}

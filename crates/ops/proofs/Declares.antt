@@ -8,8 +8,6 @@ use borrow.Author.Tests.{eqb-true, eqb-false}
 use Rattle.word.proofs.Tests.{cond-told, cond-all}
 use Rattle.ops.specs.Kinds.{declares, Row, between, plain, wideRow, rowOf}
 use Rattle.ops.specs.Table.{roleBy}
-use Rattle.ops.specs.declared.kinds.Role.{Role}
-use Rattle.ops.specs.declared.kinds.Role.the-variants.{Declares}
 
 record One (k : ℕ) (row : Row) : Type 0 where
   by : roleBy row (row .does) ≡ 1 → k ≡ 1

@@ -1,6 +1,6 @@
 -- What the pure ops compute, by kind, once over the width: none where no result is stated. Assumes nothing.
 use Prim.Native.Nat.{ℕ, _/_, _%_, _^_}
-use mathlib.Core.Bool.{Bool, cond}
+use mathlib.Core.Bool.{cond}
 use mathlib.Core.Option.{Option, none, some}
 use lib.Dec.{eqb}
 use lib.Bits.{bitAnd, bitOr, bitXor}

@@ -6,7 +6,6 @@ use mathlib.Core.List.{List, [], _∷_}
 use lib.Dec.{eqb, leb, ltb}
 use lib.ListN.{length, getD}
 use Rattle.memory.specs.Bytes.{lowFirst}
-use Rattle.memory.specs.Access.{flagsOk}
 use Rattle.ops.specs.Eval.{convertOf, unaryOf, logicOf, divideOf, shiftOf, setcondOf, movcondOf}
 
 -- what a kind is for. computes: a pure op, with a test of the bytes that follow its operands, and what it makes of them and of its

@@ -4,7 +4,7 @@ use mathlib.Core.Bool.{Bool, true, false, cond, not, _&&_}
 use mathlib.Core.Option.{Option, none, some}
 use mathlib.Core.List.{List, [], _∷_}
 use lib.Dec.{eqb, leb}
-use lib.ListN.{length, getD, drop}
+use lib.ListN.{length, drop}
 use Rattle.theory.specs.Machine.{View, calc, access, label, jump, branch, leave, Touch, faults, gives, Lang, headOr}
 use Rattle.theory.specs.Fold.{Folding}
 use Rattle.word.specs.Condition.{condW}

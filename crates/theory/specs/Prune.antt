@@ -1,8 +1,7 @@
 -- Liveness and prune. Assumes nothing.
-use Prim.Native.Nat.{ℕ}
-use mathlib.Core.Bool.{Bool, true, false, cond}
+use mathlib.Core.Bool.{Bool, false, cond}
 use mathlib.Core.Path.{_≡_}
-use mathlib.Core.List.{List, [], _∷_}
+use mathlib.Core.List.{[], _∷_}
 use Rattle.theory.specs.Machine.{View, calc, access, label, jump, branch, leave, Lang, Prog}
 use Rattle.theory.specs.Sets.{Vars, has, without, plus, both, noneIn}
 

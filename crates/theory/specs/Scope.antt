@@ -1,7 +1,6 @@
 -- The rule of temporaries: none is read before a write in its basic block. Assumes nothing.
-use Prim.Native.Nat.{ℕ}
 use mathlib.Core.Bool.{Bool, true, _&&_}
-use mathlib.Core.List.{List, [], _∷_}
+use mathlib.Core.List.{[], _∷_}
 use Rattle.theory.specs.Machine.{View, calc, access, label, jump, branch, leave, Lang, Prog}
 use Rattle.theory.specs.Sets.{Vars, empty, plus, allIn}
 

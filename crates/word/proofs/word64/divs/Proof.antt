@@ -1,6 +1,5 @@
 -- A signed division, where it is stated. Assumes nothing.
 use mir.Syntax.{w64}
-use borrow.Author.Needs.{needs}
 use Rattle.word.proofs.Picks.{signed-none, signed-value}
 use Rattle.word.proofs.Signed.{divides, quotient}
 use Rattle.word.proofs.word64.divs.Statement.{statement}

@@ -1,6 +1,5 @@
 -- A signed remainder, where it is stated. Assumes nothing.
 use mir.Syntax.{w64}
-use borrow.Author.Needs.{needs}
 use Rattle.word.proofs.Picks.{signed-none, signed-value}
 use Rattle.word.proofs.Signed.{divides, remainder}
 use Rattle.word.proofs.word64.rems.Statement.{statement}
