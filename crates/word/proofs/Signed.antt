@@ -10,8 +10,10 @@ use lib.IntN.{ℤ, pos, negsuc, natAbs, negℤ}
 use lib.Signed.{mag, leZ, nonNeg, quotZ, remZ, shrZ, mag-rem}
 use borrow.Author.Tests.{le-ltb}
 use lib.Arith.{lt-of-le-ne}
-use Rattle.word.specs.Word.{signedW, bitsW, divsW, remsW, noQuotient}
-use Rattle.word.proofs.Picks.{not-by-zero, not-least}
+use Rattle.word.specs.declared.Stated.the-variants.{Value}
+use Rattle.word.specs.Word.{signedW, bitsW, divsW, remsW, noQuotient, bySigned}
+use Rattle.word.specs.Answer.{statedOf}
+use Rattle.word.proofs.Picks.{not-by-zero, not-least, signed-value}
 use mir.Syntax.{Width, w8, w16, w32, w64, w128}
 use mir.Val.{bits, hbits, Fits, SFits, toZ, ofZ, sel}
 use mir.Facts.{toZ-ofZ, ofZ-toZ, toZ-pos, sfits-toZ}
@@ -80,12 +82,27 @@ only w a b fa fb but e = by-sign (toZ w a) refl
         (let l = ap (λ (z : ℤ). suc (mag z)) (sym p) ∙ e in let g = sym (ofZ-toZ fa) ∙ ap (ofZ w) p in let h = half w in omega arith)
         (sym (ofZ-toZ fb) ∙ ap (ofZ w) q))
 
--- the words behind two readings: a divisor that is not zero, and the one quotient that does not fit left out
-pub divides : (w : Width) {a b : ℕ} {x y : ℤ} {r : Bool} → Fits w a → Fits w b → x ≡ toZ w a → y ≡ toZ w b → r ≡ noQuotient (bits w) a b → r ≡ false
-    → (0 < ofZ w y) × SFits w (quotZ (toZ w (ofZ w x)) (toZ w (ofZ w y)))
-divides w {a} {b} {x} {y} fa fb ex ey e f =
-    rw (ex, ey, ofZ-toZ fa, ofZ-toZ fb)
-    (pos-of-ne-zero (not-by-zero (bits w) a b e f), quot-fits w (toZ w a) (toZ w b) (sfits-toZ fa) (only w a b fa fb (λ p. not-least (bits w) a b e f (p ∙ ap (2 ^_) (sym (less-one w))))))
+-- two words read as signed, whose division states a result, and the test that says so
+pub record Divided (w : Width) (a b : ℕ) (x y : ℤ) : Type 0 where
+  pub fits-a : Fits w a
+  pub fits-b : Fits w b
+  pub read-a : x ≡ toZ w a
+  pub read-b : y ≡ toZ w b
+  pub test : Bool
+  pub tested : test ≡ noQuotient (bits w) a b
+  pub passed : test ≡ false
+
+pub reading : {w : Width} {a b : ℕ} {x y : ℤ} {t : Bool} → Fits w a → Fits w b → x ≡ toZ w a → y ≡ toZ w b → t ≡ noQuotient (bits w) a b → t ≡ false → Divided w a b x y
+reading {t = t} fa fb ea eb e f = record { fits-a = fa; fits-b = fb; read-a = ea; read-b = eb; test = t; tested = e; passed = f }
+
+-- the divisor is not zero, and the quotient fits
+pub divides : {w : Width} {a b : ℕ} {x y : ℤ} → Divided w a b x y → (0 < ofZ w y) × SFits w (quotZ (toZ w (ofZ w x)) (toZ w (ofZ w y)))
+divides {w} {a} {b} d =
+    rw (d .read-a, d .read-b, ofZ-toZ (d .fits-a), ofZ-toZ (d .fits-b))
+    (pos-of-ne-zero (not-by-zero (bits w) a b (d .tested) (d .passed)), quot-fits w (toZ w a) (toZ w b) (sfits-toZ (d .fits-a)) (only w a b (d .fits-a) (d .fits-b) apart))
+  where
+    apart : a ≡ 2 ^ hbits w → b ≡ 2 ^ bits w - 1 → ⊥
+    apart p = not-least (bits w) a b (d .tested) (d .passed) (p ∙ ap (2 ^_) (sym (less-one w)))
 
 -- the bits of a number that is not negative, and of one that is, as the code takes them
 module _ (w : Width) {z : ℤ} (f : SFits w z) where
@@ -121,17 +138,22 @@ module _ (w : Width) {a b : ℕ} {x y : ℤ} (fa : Fits w a) (fb : Fits w b) (ex
   pub compared : (f : ℤ → ℤ → Bool) → f (toZ w (ofZ w x)) (toZ w (ofZ w y)) ≡ f (toZ w a) (toZ w b)
   compared f = λ i. f (reads w fa ex i) (reads w fb ey i)
 
-  pub quotient : {r : ℕ} → SFits w (quotZ (toZ w (ofZ w x)) (toZ w (ofZ w y))) → r ≡ bitsW (bits w) (toZ w (ofZ w (quotZ (toZ w (ofZ w x)) (toZ w (ofZ w y))))) → r ≡ divsW (bits w) a b
+-- what the division states: the bits of the quotient, and of the remainder
+module _ {w : Width} {a b : ℕ} {x y : ℤ} (d : Divided w a b x y) {r : ℕ} where
+  pub quotient : r ≡ bitsW (bits w) (toZ w (ofZ w (quotZ (toZ w (ofZ w x)) (toZ w (ofZ w y))))) → Value r ≡ statedOf (bySigned (bits w) a b (divsW (bits w) a b))
   unfolding divsW
-  quotient f e = e ∙ ap (bitsW (bits w)) (toZ-ofZ f ∙ (λ i. quotZ ((reads w fa ex ∙ reads-signed w a) i) ((reads w fb ey ∙ reads-signed w b) i)))
+  quotient e =
+      signed-value (bits w) a b (d .tested) (d .passed)
+      (e ∙ ap (bitsW (bits w)) (toZ-ofZ (divides d .1) ∙ (λ i. quotZ ((reads w (d .fits-a) (d .read-a) ∙ reads-signed w a) i) ((reads w (d .fits-b) (d .read-b) ∙ reads-signed w b) i))))
 
-  pub remainder : {r : ℕ} → r ≡ bitsW (bits w) (toZ w (ofZ w (remZ (toZ w (ofZ w x)) (toZ w (ofZ w y))))) → r ≡ remsW (bits w) a b
+  pub remainder : r ≡ bitsW (bits w) (toZ w (ofZ w (remZ (toZ w (ofZ w x)) (toZ w (ofZ w y))))) → Value r ≡ statedOf (bySigned (bits w) a b (remsW (bits w) a b))
   unfolding remsW
   remainder e =
-      e ∙ ap (bitsW (bits w))
-      (ap (λ (z : ℤ). toZ w (ofZ w z)) (λ i. remZ (reads w fa ex i) (reads w fb ey i))
-      ∙ (toZ-ofZ (record { sfits = lt-of-le-of-lt (mag-rem (toZ w a) (toZ w b)) (sfits-toZ fa .sfits) })
-      ∙ (λ i. remZ (reads-signed w a i) (reads-signed w b i))))
+      signed-value (bits w) a b (d .tested) (d .passed)
+      (e ∙ ap (bitsW (bits w))
+      (ap (λ (z : ℤ). toZ w (ofZ w z)) (λ i. remZ (reads w (d .fits-a) (d .read-a) i) (reads w (d .fits-b) (d .read-b) i))
+      ∙ (toZ-ofZ (record { sfits = lt-of-le-of-lt (mag-rem (toZ w a) (toZ w b)) (sfits-toZ (d .fits-a) .sfits) })
+      ∙ (λ i. remZ (reads-signed w a i) (reads-signed w b i)))))
 
 -- an arithmetic shift, by the top bit
 pub shift-up : (w : Width) (a k : ℕ) → a < 2 ^ hbits w → a / 2 ^ k ≡ bitsW (bits w) (shrZ (toZ w a) (2 ^ k))

@@ -13,7 +13,8 @@ enum-known-ending c = search needs
 
 refused-requires : tie.Need-refused-requires
 refused-requires c κs =
-    run-place (c .before .before .before .before .before .before .before .before .before .before .before .before .before .args .block .now) (c .before .before .before .before .before .before .before .before .before .before .before .before .before .args .globals .now) (c .before .before .before .before .before .before .before .before .before .before .before .before .before .args .memory .now) (c .before .before .before .before .before .before .before .run .ensures) (c .before .ending .given .1)
+    let lent = c .before .before .before .before .before .before .before .before .before .before .before .before .before .args in
+    run-place (lent .block .now) (lent .globals .now) (lent .memory .now) (c .before .before .before .before .before .before .before .run .ensures) (c .before .ending .given .1)
 
 same-length : tie.Need-same-length
 same-length c = search needs

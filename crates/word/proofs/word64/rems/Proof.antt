@@ -1,9 +1,16 @@
 -- A signed remainder, where it is stated. Assumes nothing.
 use mir.Syntax.{w64}
-use Rattle.word.proofs.Picks.{signed-none, signed-value}
-use Rattle.word.proofs.Signed.{divides, remainder}
+use Rattle.word.proofs.Picks.{signed-none}
+use Rattle.word.proofs.Signed.{Divided, reading, divides, remainder}
 use Rattle.word.proofs.word64.rems.Statement.{statement}
 use Rattle.word.proofs.word64.rems.Tie as tie
+
+abbrev start : tie.After-to-signed2 → tie.Start
+start c = c .before .before .before .before
+
+divided : (c : tie.After-to-signed2) → Divided w64 (start c .args .a) (start c .args .b) (c .before .to-signed .result) (c .to-signed2 .result)
+divided c =
+    reading (start c .fits .a) (start c .fits .b) (c .before .to-signed .ensures) (c .to-signed2 .ensures) (c .before .before .before .no-quotient .ensures) (c .before .before .if1 .left)
 
 pub rems-spec : {M : Type 1} → statement M
 rems-spec =
@@ -13,6 +20,6 @@ rems-spec =
     (λ c. signed-none 64 _ _ (c .before .no-quotient .ensures) _ (c .if1 .taken))
     (λ c κs. tt)
     (λ c κs. tt)
-    (λ c. divides w64 (c .before .before .before .before .fits .a) (c .before .before .before .before .fits .b) (c .before .to-signed .ensures) (c .to-signed2 .ensures) (c .before .before .before .no-quotient .ensures) (c .before .before .if1 .left))
+    (λ c. divides (divided c))
     (λ c κs. tt)
-    (λ c. signed-value 64 _ _ (c .before .before .before .before .no-quotient .ensures) (c .before .before .before .if1 .left) (remainder w64 (c .before .before .before .before .before .fits .a) (c .before .before .before .before .before .fits .b) (c .before .before .to-signed .ensures) (c .before .to-signed2 .ensures) (c .to-bits .ensures))))
+    (λ c. remainder (divided (c .before)) (c .to-bits .ensures)))
