@@ -24,8 +24,8 @@ use Rattle.block.specs.Records.{widthOf}
 use Rattle.block.specs.Rules.{keptIn, allBelow, haveWidths}
 use Rattle.block.specs.Scan.{recordAt, wideAs, typesMatch, mayReadAll, marked}
 use Rattle.block.proofs.Views.{kind-byte}
-use Rattle.ops.specs.declared.kinds.Role.{Role}
-use Rattle.ops.specs.declared.kinds.Role.the-variants.{Unknown, Declares, SetsLabel, Jumps, Exits, Constant, Computes, Branches, Loads, Stores}
+use Rattle.ops.specs.declared.Role.{Role}
+use Rattle.ops.specs.declared.Role.the-variants.{Unknown, Declares, SetsLabel, Jumps, Exits, Constant, Computes, Branches, Loads, Stores}
 
 -- its kind is the byte at the place
 pub kind-at : (b : List ℕ) (p : ℕ) → p + suc (bodyLength (getD b p 0)) ≤ length b → kindOf (recordAt b p) ≡ getD b p 0

@@ -11,8 +11,8 @@ use Rattle.block.specs.Rules.{labelFree, nextLabels, nextTargets}
 use Rattle.block.specs.Scan.{recordAt, Stands, numbered, labelledBy}
 use Rattle.block.proofs.Views.{unknown-view, declare-view, label-view, jump-view, leave-view, branch-view, load-view, store-view, constant-view}
 use Rattle.block.proofs.Views.{pure-view}
-use Rattle.ops.specs.declared.kinds.Role.{Role}
-use Rattle.ops.specs.declared.kinds.Role.the-variants.{Unknown, Declares, SetsLabel, Jumps, Exits, Constant, Computes, Branches, Loads, Stores}
+use Rattle.ops.specs.declared.Role.{Role}
+use Rattle.ops.specs.declared.Role.the-variants.{Unknown, Declares, SetsLabel, Jumps, Exits, Constant, Computes, Branches, Loads, Stores}
 
 module _ {b : List ℕ} {p k : ℕ} (s : Stands b p k) where
   -- no label is set

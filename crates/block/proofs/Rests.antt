@@ -15,7 +15,7 @@ use Rattle.ops.specs.Kinds.{Does, Row, at, condOk, labelOk, narrowOk, rowOf}
 use Rattle.ops.specs.Ops.{restOk}
 use Rattle.ops.specs.Table.{roleOf, opWidth}
 use Rattle.ops.proofs.RoleRows.{Computing, row-of}
-use Rattle.ops.specs.declared.kinds.Role.the-variants.{Unknown, Declares, SetsLabel, Jumps, Exits, Constant, Computes, Branches, Loads, Stores}
+use Rattle.ops.specs.declared.Role.the-variants.{Unknown, Declares, SetsLabel, Jumps, Exits, Constant, Computes, Branches, Loads, Stores}
 
 abbrev pub restAt : List ℕ → ℕ → ℕ → Bool
 restAt b p k = restOk ((rowOf k) .does) (take ((rowOf k) .rest) (drop p b))

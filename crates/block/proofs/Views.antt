@@ -21,8 +21,8 @@ use Rattle.ops.specs.Table.{operandCount, roleOf, opWidth}
 use Rattle.ops.proofs.RoleRows.{RowFor, row-of}
 use Rattle.block.specs.Rules.{Seen, allBelow, operandsOf, rule4, rule6}
 use Rattle.block.specs.Scan.{recordAt, Stands}
-use Rattle.ops.specs.declared.kinds.Role.{Role}
-use Rattle.ops.specs.declared.kinds.Role.the-variants.{Unknown, Declares, SetsLabel, Jumps, Exits, Constant, Computes, Branches, Loads, Stores}
+use Rattle.ops.specs.declared.Role.{Role}
+use Rattle.ops.specs.declared.Role.the-variants.{Unknown, Declares, SetsLabel, Jumps, Exits, Constant, Computes, Branches, Loads, Stores}
 
 -- the views, from the bytes that they read
 abbrev pub constantView : ℕ → ℕ → View ℕ (List ℕ) Fault

@@ -9,8 +9,8 @@ use Rattle.ops.specs.Ops.{viewOf}
 use Rattle.block.specs.Checks.{firstBroken, checkFrom, checkOf}
 use Rattle.block.specs.Records.{cutBy, cutOf}
 use Rattle.block.specs.Rules.{rule3, rule4, rule5, rule6, rule7, rule8, rule9, rule10, rule7end, next}
-use Rattle.runner.specs.Runs.{fits, runOps, runChecked, runOf}
-use Rattle.optimiser.specs.Passes.{passOps, resultOf, passChecked, passOf}
+use Rattle.runs.specs.Runs.{fits, runOps, runChecked, runOf}
+use Rattle.passes.specs.Passes.{passOps, resultOf, passChecked, passOf}
 use Rattle.cases.specs.Examples.{source12, result12, Case12, writeBeforeLoad, deadLoad, loadIntoGlobal, divisionByZero, knownAtLabel, Mistakes}
 
 pub case-12 : Case12

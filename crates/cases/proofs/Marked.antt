@@ -10,7 +10,7 @@ use Rattle.ops.specs.Ops.{evalOf, viewOf}
 use Rattle.block.specs.Checks.{firstBroken, checkFrom, checkOf}
 use Rattle.block.specs.Records.{cutBy, cutOf}
 use Rattle.block.specs.Rules.{rule3, rule4, rule5, rule6, rule7, rule8, rule9, rule10, rule7end, next}
-use Rattle.runner.specs.Runs.{fits, runOps, runChecked, runOf}
+use Rattle.runs.specs.Runs.{fits, runOps, runChecked, runOf}
 use Rattle.cases.specs.Marked.{marked, MarkedCases}
 
 pub marked-cases : MarkedCases

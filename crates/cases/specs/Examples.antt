@@ -4,10 +4,10 @@ use mathlib.Core.Path.{_≡_}
 use mathlib.Core.Bool.{false}
 use mathlib.Core.List.{List, [], _∷_, _++_}
 use lib.ListN.{length}
-use Rattle.runner.specs.declared.Ending.the-variants.{Exit, Fault, NoResult}
-use Rattle.runner.specs.Runs.{runOf}
-use Rattle.optimiser.specs.declared.Written.the-variants.{Length}
-use Rattle.optimiser.specs.Passes.{passOf}
+use Rattle.runs.specs.declared.Ending.the-variants.{Exit, Fault, NoResult}
+use Rattle.runs.specs.Runs.{runOf}
+use Rattle.passes.specs.declared.Written.the-variants.{Length}
+use Rattle.passes.specs.Passes.{passOf}
 
 -- a 64-bit movi of a number below 256
 abbrev pub movi64 : ℕ → ℕ → List ℕ

@@ -8,8 +8,8 @@ use Rattle.ops.specs.Ops.{evalOf}
 use Rattle.block.specs.declared.Verdict.{Verdict}
 use Rattle.block.specs.declared.Verdict.the-variants.{Accepted, Refused}
 use Rattle.block.specs.Checks.{checkOf}
-use Rattle.runner.specs.declared.Ending.the-variants.{Exit}
-use Rattle.runner.specs.Runs.{Ran, runOf}
+use Rattle.runs.specs.declared.Ending.the-variants.{Exit}
+use Rattle.runs.specs.Runs.{Ran, runOf}
 
 -- what the definitions answer: the check; the run; a pure op, none where no result is stated; a load, none where it faults
 pub data Answer : Type 0 where

@@ -21,7 +21,7 @@ fn show_refusal(rule: u8, place: usize) {
 // Writes a block's name and what the check answers of it.
 fn run(name: &[u8], block: &[u8]) {
     io::write_all(1, name);
-    let verdict = block::check(block);
+    let verdict = checker::check(block);
     match verdict {
         Verdict::Accepted => {
             io::write_all(1, b": accepted\n");

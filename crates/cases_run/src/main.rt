@@ -1,7 +1,7 @@
 // Runs cases 2 to 10 and 12 of document 01, and writes what each leaves. The file stdout holds what it writes.
 use block::Verdict;
-use optimiser::Written;
-use runner::Ending;
+use passes::Written;
+use runs::Ending;
 
 fn wide(x: u8) -> u64 {
     x as u64
@@ -93,7 +93,7 @@ fn show_ending(ending: Ending) {
 // Runs a block, and writes its name, how it ends, and the globals and memory that it leaves.
 fn run(name: &[u8], block: &[u8], globals: &mut [u64], memory: &mut [u8]) {
     io::write_all(1, name);
-    let ending = runner::run(block, globals, memory);
+    let ending = run::run(block, globals, memory);
     show_ending(ending);
     io::write_all(1, b", globals");
     show_globals(globals);
@@ -106,7 +106,7 @@ fn run(name: &[u8], block: &[u8], globals: &mut [u64], memory: &mut [u8]) {
 
 fn case_2() {
     let block = b"\x01\x00\x01\x04\x00";
-    let verdict = block::check(block);
+    let verdict = checker::check(block);
     match verdict {
         Verdict::Accepted => {
             io::write_all(1, b"case 2: accepted\n");
@@ -286,7 +286,7 @@ fn case_12() {
     let mut memory = [0u8; 0];
     run(b"case 12: before: ", block, &mut globals, &mut memory);
     let mut out = [0xEEu8; 32];
-    let written = optimiser::pass(block, &mut out);
+    let written = pass::pass(block, &mut out);
     match written {
         Written::Refused { number, place } => {
             io::write_all(1, b"case 12: ");

@@ -16,17 +16,17 @@ use Rattle.block.specs.Meaning.{Meets, EachMeets}
 use Rattle.block.specs.Records.{recordsOf, concat, isDeclaration, declarations, opsFrom, classOf, typeOf, classesOf}
 use Rattle.block.proofs.Meaning.{refused-means}
 use Rattle.block.proofs.Parts.{parts}
-use Rattle.runner.specs.Runs.{fits, entry, Ran, ranAs, answerOf, ranOf, runOps, runRefused, runChecked, runOf}
-use Rattle.optimiser.specs.Passes.{passOps, resultOf, passRefused, written, passChecked, passOf}
-use Rattle.optimiser.proofs.Result.{parts-size, kept-parts, result-of}
+use Rattle.runs.specs.Runs.{fits, entry, Ran, ranAs, answerOf, ranOf, runOps, runRefused, runChecked, runOf}
+use Rattle.passes.specs.Passes.{passOps, resultOf, passRefused, written, passChecked, passOf}
+use Rattle.passes.proofs.Result.{parts-size, kept-parts, result-of}
 use Rattle.ngulo.specs.Numbers.{runNumber, reportOf, RunAnswer}
 use Rattle.block.specs.Rules.{Seen, start, allGlobal, rule3, rule9, declared, passed, next}
 use Rattle.block.specs.declared.Verdict.{Verdict}
 use Rattle.block.specs.declared.Verdict.the-variants.{Accepted, Refused}
-use Rattle.runner.specs.declared.Ending.{Ending}
-use Rattle.runner.specs.declared.Ending.the-variants.{Refused as RunRefused, Exit, Fault, NoResult}
-use Rattle.optimiser.specs.declared.Written.{Written}
-use Rattle.optimiser.specs.declared.Written.the-variants.{Refused as PassRefused, Length}
+use Rattle.runs.specs.declared.Ending.{Ending}
+use Rattle.runs.specs.declared.Ending.the-variants.{Refused as RunRefused, Exit, Fault, NoResult}
+use Rattle.passes.specs.declared.Written.{Written}
+use Rattle.passes.specs.declared.Written.the-variants.{Refused as PassRefused, Length}
 
 room-declared : (s : Seen) (r : List ℕ) → rule3 s r ≡ true → length (s .classes) < 64
 unfolding rule3

@@ -3,13 +3,13 @@ use mathlib.Core.Path.{_≡_}
 use mathlib.Core.Bool.{cond}
 use mathlib.Core.List.{List, [], _∷_}
 use Prim.Native.Nat.{ℕ, _+_, _*_}
-use Rattle.runner.specs.Runs.{Ran}
+use Rattle.runs.specs.Runs.{Ran}
 use Rattle.block.specs.declared.Verdict.{Verdict}
 use Rattle.block.specs.declared.Verdict.the-variants.{Accepted, Refused}
-use Rattle.runner.specs.declared.Ending.{Ending}
-use Rattle.runner.specs.declared.Ending.the-variants.{Refused as RunRefused, Exit, Fault, NoResult}
-use Rattle.optimiser.specs.declared.Written.{Written}
-use Rattle.optimiser.specs.declared.Written.the-variants.{Refused as PassRefused, Length}
+use Rattle.runs.specs.declared.Ending.{Ending}
+use Rattle.runs.specs.declared.Ending.the-variants.{Refused as RunRefused, Exit, Fault, NoResult}
+use Rattle.passes.specs.declared.Written.{Written}
+use Rattle.passes.specs.declared.Written.the-variants.{Refused as PassRefused, Length}
 
 -- a refusal: its number, and 256 times its place
 abbrev pub refusal : ℕ → ℕ → ℕ

@@ -4,15 +4,15 @@ ghost use mathlib.Core.Bool.{cond};
 ghost use mathlib.Core.List.{[], _∷_};
 ghost use Prim.Native.Nat.{_+_, _*_, _≤_};
 ghost use Rattle.block.specs.Checks.{checkOf};
-ghost use Rattle.runner.specs.Runs.{runOf};
-ghost use Rattle.optimiser.specs.Passes.{passOf};
+ghost use Rattle.runs.specs.Runs.{runOf};
+ghost use Rattle.passes.specs.Passes.{passOf};
 ghost use Rattle.ngulo.specs.Numbers.{refusal, checkNumber, passNumber, RunAnswer};
 use block::Verdict;
-use block::check;
-use optimiser::Written;
-use optimiser::pass;
-use runner::Ending;
-use runner::run;
+use checker::check;
+use pass::pass;
+use passes::Written;
+use run::run;
+use runs::Ending;
 
 fn wide(x: u8) -> u64
     ensures { λ r. ⌜ r ≡ x ⌝ }

@@ -14,8 +14,8 @@ use Rattle.ops.specs.Kinds.{Row, between, at, one, wideRow, rowOf}
 use Rattle.ops.specs.Ops.{bytesAt, evalBy, evalOf, foldableRow}
 use Rattle.ops.specs.Table.{roleOf}
 use Rattle.ops.proofs.Ranges.{agreed}
-use Rattle.ops.specs.declared.kinds.Role.{Role}
-use Rattle.ops.specs.declared.kinds.Role.the-variants.{Unknown, Declares, SetsLabel, Jumps, Exits, Constant, Computes, Branches, Loads, Stores}
+use Rattle.ops.specs.declared.Role.{Role}
+use Rattle.ops.specs.declared.Role.the-variants.{Unknown, Declares, SetsLabel, Jumps, Exits, Constant, Computes, Branches, Loads, Stores}
 
 -- what a row states of the inputs that a block names from the place i on, whatever stands after them
 record Feeds (row : Row) : Type 0 where

@@ -14,8 +14,8 @@ use Rattle.word.proofs.Tests.{cond-told, cond-all}
 use Rattle.ops.specs.Kinds.{unknown, declares, sets, jumpsTo, leaves, computes, Row, between, at, anything, condOk, movi, plain, brcond, load}
 use Rattle.ops.specs.Kinds.{store, wideRow, rowOf}
 use Rattle.ops.specs.Table.{roleBy, roles, roleOf, opWidth}
-use Rattle.ops.specs.declared.kinds.Role.{Role}
-use Rattle.ops.specs.declared.kinds.Role.the-variants.{Unknown, Declares, SetsLabel, Jumps, Exits, Constant, Computes, Branches, Loads, Stores}
+use Rattle.ops.specs.declared.Role.{Role}
+use Rattle.ops.specs.declared.Role.the-variants.{Unknown, Declares, SetsLabel, Jumps, Exits, Constant, Computes, Branches, Loads, Stores}
 
 -- a pure op that reads something: one output, and no byte or a condition after the operands
 pub record Computing (row : Row) : Type 0 where

@@ -9,7 +9,7 @@ use borrow.Author.Tests.{ne-eqb}
 use lib.Arith.{le-zero, le-of-le-suc-ne}
 use Rattle.ops.specs.Kinds.{Does, unknown, declares, sets, jumpsTo, leaves, branches, loads, stores, computes, Row, rowOf, isPure, pureKind}
 use Rattle.ops.specs.Table.{roleBy, roleNumber, roles, roleOf}
-use Rattle.ops.specs.declared.kinds.Role.the-variants.{Unknown}
+use Rattle.ops.specs.declared.Role.the-variants.{Unknown}
 
 pub role-is : (k n : ℕ) → roleNumber k ≡ n → getD roles n Unknown ≡ roleOf k
 unfolding roleOf

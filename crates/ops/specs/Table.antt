@@ -6,8 +6,8 @@ use lib.Dec.{eqb, leb}
 use lib.ListN.{length, getD}
 use Rattle.memory.specs.Answer.{accessWidth}
 use Rattle.ops.specs.Kinds.{Does, unknown, declares, sets, jumpsTo, leaves, branches, loads, stores, computes, Row, rowOf, bodyLength, outputCount}
-use Rattle.ops.specs.declared.kinds.Role.{Role}
-use Rattle.ops.specs.declared.kinds.Role.the-variants.{Unknown, Declares, SetsLabel, Jumps, Exits, Constant, Computes, Branches, Loads, Stores}
+use Rattle.ops.specs.declared.Role.{Role}
+use Rattle.ops.specs.declared.Role.the-variants.{Unknown, Declares, SetsLabel, Jumps, Exits, Constant, Computes, Branches, Loads, Stores}
 
 -- the widths of a kind's operands: its outputs, then its inputs
 abbrev pub operandWidths : ℕ → List ℕ

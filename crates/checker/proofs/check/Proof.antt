@@ -1,0 +1,20 @@
+-- `check` answers as the definition does. Two of the answers that this rules out: that all are refused, and that all are accepted. Assumes nothing.
+use borrow.Author.Needs.{needs}
+use Rattle.block.proofs.Scanned.{check-by, refuse-by}
+use Rattle.checker.proofs.check.Statement.{statement}
+use Rattle.checker.proofs.check.Tie as tie
+
+table-requires : tie.Need-table-requires
+table-requires c κs = tt
+
+scan-requires : tie.Need-scan-requires
+scan-requires c κs = search needs
+
+returns : tie.Need-returns
+returns c = check-by (c .before .scan .ensures) (c .if1 .taken)
+
+returns-2 : tie.Need-returns-2
+returns-2 c = refuse-by (c .before .scan .ensures) (c .if1 .left)
+
+pub check-spec : {M : Type 1} → statement M
+check-spec = tie.close (tie.spec table-requires scan-requires returns returns-2)

@@ -1,0 +1,80 @@
+-- Fold, from the first op. Assumes nothing.
+use mathlib.Core.Path.{refl, sym, _∙_}
+use Prim.Native.Nat.{_-_, _≤_}
+use native.Mathlib.Omega.{arith}
+use Rattle.ops.specs.Kinds.{known}
+use Rattle.block.specs.Records.{recordsOf, opsFrom}
+use Rattle.passes.proofs.Bytes.{this-op}
+use Rattle.passes.proofs.Forward.{FoldingSo, folding-start, folding-step, folding-ends}
+use Rattle.fold.proofs.fold.Statement.{statement}
+use Rattle.fold.proofs.fold.Tie as tie
+
+abbrev Inv-loop : tie.InvT-loop
+Inv-loop kinds block ops places folded₀ consts₀ known₀ values₀ i₀ folded consts known values i = (i ≤ ops) × FoldingSo block folded consts known values (opsFrom (recordsOf block)) i
+
+abbrev μ-loop : tie.MeasureT-loop
+μ-loop kinds block ops places folded₀ consts₀ known₀ values₀ i₀ folded consts known values i = ops - i
+
+loop-holds : tie.Need-loop-holds Inv-loop μ-loop
+loop-holds c = (omega arith, folding-start (c .before .before .before .pre .1) (c .before .before .before .pre .2) refl)
+
+mul-fold-at : tie.Need-mul-fold-at Inv-loop μ-loop
+mul-fold-at c = omega (arith, c .before .before .before .before .before .pre .0 .few, c .loop-test .taken)
+
+element-copy-out-fold-at : tie.Need-element-copy-out-fold-at Inv-loop μ-loop
+element-copy-out-fold-at c = omega (arith, c .before .before .before .before .before .pre .0 .few, c .loop-test .taken)
+
+cast-fold-at : tie.Need-cast-fold-at Inv-loop μ-loop
+cast-fold-at c =
+    omega (arith, (this-op (c .before .before .before .before .before .before .pre .0) (c .before .loop-test .taken)) .stands .whole, c .before .before .before .before .before .before .good .1 .0)
+
+fold-at-requires : tie.Need-fold-at-requires Inv-loop μ-loop
+fold-at-requires c κs =
+    let pre = c .before .before .before .before .before .before .before .before .before .before .pre in
+    let inv = c .before .before .before .before .before .before .loop .inv in
+    let more = c .before .before .before .before .before .loop-test .taken in
+    ((this-op (pre .0) more) .stands, omega (arith, pre .0 .few, more, inv .1 .long-folded), omega (arith, pre .0 .few, more, inv .1 .long-consts), pre .3)
+
+add-i : tie.Need-add-i Inv-loop μ-loop
+add-i c =
+    let pre = c .before .before .before .before .before .before .before .before .before .before .before .before .before .before .before .pre in
+    let more = c .before .before .before .before .before .before .before .before .before .before .loop-test .taken in
+    omega (arith, pre .0 .few, more)
+
+loop-less : tie.Need-loop-less Inv-loop μ-loop
+loop-less c = omega (arith, c .before .before .before .before .before .before .before .before .before .before .loop-test .taken)
+
+loop-again : tie.Need-loop-again Inv-loop μ-loop
+loop-again c =
+    let pre = c .before .before .before .before .before .before .before .before .before .before .before .before .before .before .before .pre in
+    let inv = c .before .before .before .before .before .before .before .before .before .before .before .loop .inv in
+    let more = c .before .before .before .before .before .before .before .before .before .before .loop-test .taken in
+    let fold-at = c .before .before .before .before .fold-at .ensures in
+    (omega (arith, more), folding-step (pre .0) (inv .1) more fold-at)
+
+same-length : tie.Need-same-length Inv-loop μ-loop
+same-length c = c .before .loop .inv .1 .long-folded ∙ sym (c .before .before .before .before .before .pre .1)
+
+same-length-2 : tie.Need-same-length-2 Inv-loop μ-loop
+same-length-2 c = c .before .loop .inv .1 .long-consts ∙ sym (c .before .before .before .before .before .pre .2)
+
+returns : tie.Need-returns Inv-loop μ-loop
+returns c = folding-ends (c .before .before .before .before .before .pre .0) (c .before .loop .inv .1) (omega (arith, c .loop-test .left))
+
+pub fold-spec : {M : Type 1} → statement M
+fold-spec =
+    tie.close
+    (tie.spec
+    Inv-loop
+    μ-loop
+    loop-holds
+    mul-fold-at
+    element-copy-out-fold-at
+    cast-fold-at
+    fold-at-requires
+    add-i
+    loop-less
+    loop-again
+    same-length
+    same-length-2
+    returns)

@@ -1,0 +1,200 @@
+// Fold: the values known in a basic block, and the constants that take ops' places.
+ghost use mathlib.Core.Path.{_≡_};
+ghost use mathlib.Core.Option.{some};
+ghost use Prim.Native.Nat.{_+_, _≤_, _<_};
+ghost use lib.ListN.{length, getD};
+ghost use Rattle.theory.specs.Machine.{upd};
+ghost use Rattle.ops.specs.Ops.{bytesAt};
+ghost use Rattle.ops.specs.Table.{kindTable, roleOf};
+ghost use Rattle.block.specs.Records.{recordsOf, opsFrom};
+ghost use Rattle.block.specs.Scan.{Stands, marked};
+ghost use Rattle.runs.specs.Evaluates.{Computed};
+ghost use Rattle.passes.specs.Choose.{OpsHere};
+ghost use Rattle.passes.specs.Knows.{knownOf, allMarked, IfComputes, StatesKnown, Folds, FoldsAt, FoldsAll};
+use kinds::operand_count;
+use kinds::role_of;
+use marks::clear;
+use marks::put;
+use memory::low_first;
+use ops::Role;
+use values::evaluate;
+use word::Stated;
+
+// A variable's value is known.
+fn learn(known: &mut [u8; 256], values: &mut [u64; 256], v: u8, x: u64)
+    ensures { λ _. ⌜ knownOf (now (known .exit)) (now (values .exit)) ≡ upd (knownOf (now (known .entry)) (now (values .entry))) v (some x) ⌝ }
+{
+    put(known, v, 1);
+    values::put(values, v, x);
+}
+
+// Whether a variable's value is known.
+fn is_known(known: &[u8; 256], v: u8) -> bool
+    ensures { λ r. ⌜ r ≡ marked (now (known .entry)) v ⌝ }
+{
+    known[v as usize] == 1
+}
+
+// Whether the variables that the bytes from a place on name are known.
+fn all_known(block: &[u8], from: usize, count: usize, known: &[u8; 256]) -> bool
+    requires { ⌜ from + count ≤ length (now block) ⌝ }
+    ensures { λ r. ⌜ r ≡ allMarked (marked (now (known .entry))) (bytesAt (now (block .entry)) from count) ⌝ }
+{
+    let mut j: usize = 0;
+    while j < count {
+        if !is_known(known, block[from + j]) {
+            return false;
+        }
+        j += 1;
+    }
+    true
+}
+
+// What an op states where all its inputs are known.
+fn evaluate_known(
+    kinds: &[u32; 256],
+    block: &[u8],
+    at: usize,
+    kind: u8,
+    known: &[u8; 256],
+    values: &[u64; 256],
+) -> Stated
+    requires { ⌜ Computed (now block) at kind × (now kinds ≡ kindTable) ⌝ }
+    ensures { λ r. ⌜ StatesKnown (now (block .entry)) at kind (now (known .entry)) (now (values .entry)) r ⌝ }
+{
+    if all_known(block, at + 2, operand_count(kinds, kind) - 1, known) {
+        return evaluate(kinds, block, at, kind, values);
+    }
+    Stated::NoResult
+}
+
+// Fold at a pure op that reads something.
+fn fold_computing(
+    kinds: &[u32; 256],
+    block: &[u8],
+    at: usize,
+    kind: u8,
+    known: &mut [u8; 256],
+    values: &mut [u64; 256],
+) -> Stated
+    requires { ⌜ Computed (now block) at kind × (now kinds ≡ kindTable) ⌝ }
+    ensures { λ r. ⌜ Folds (now (block .entry)) at kind (now (known .entry)) (now (values .entry)) (now (known .exit)) (now (values .exit)) r ⌝ }
+{
+    let stated = evaluate_known(kinds, block, at, kind, known, values);
+    match stated {
+        Stated::Value(x) => {
+            learn(known, values, block[at + 1], x);
+            Stated::Value(x)
+        }
+        Stated::NoResult => {
+            put(known, block[at + 1], 0);
+            Stated::NoResult
+        }
+    }
+}
+
+// What is known after an op that fold leaves as it is.
+fn pass_over(
+    kinds: &[u32; 256],
+    block: &[u8],
+    at: usize,
+    kind: u8,
+    known: &mut [u8; 256],
+    values: &mut [u64; 256],
+)
+    requires { ⌜ Stands (now block) at kind × (roleOf kind ≡ Role.Computes → ⊥) × (now kinds ≡ kindTable) ⌝ }
+    ensures { λ _. ⌜ Folds (now (block .entry)) at kind (now (known .entry)) (now (values .entry)) (now (known .exit)) (now (values .exit)) Stated.NoResult ⌝ }
+{
+    let role = role_of(kinds, kind);
+    match role {
+        Role::Constant => learn(known, values, block[at + 1], low_first(block, at + 2, 8)),
+        Role::Loads => put(known, block[at + 1], 0),
+        Role::Stores => {}
+        _ => clear(known),
+    }
+}
+
+// Whether a kind is pure and reads something.
+fn is_computing(kinds: &[u32; 256], kind: u8) -> bool
+    requires { ⌜ now kinds ≡ kindTable ⌝ }
+    ensures { λ r. ⌜ IfComputes r kind ⌝ }
+{
+    let role = role_of(kinds, kind);
+    match role {
+        Role::Computes => true,
+        _ => false,
+    }
+}
+
+// Fold at one op: the constant's value if one takes its place.
+fn fold_op(
+    kinds: &[u32; 256],
+    block: &[u8],
+    at: usize,
+    kind: u8,
+    known: &mut [u8; 256],
+    values: &mut [u64; 256],
+) -> Stated
+    requires { ⌜ Stands (now block) at kind × (now kinds ≡ kindTable) ⌝ }
+    ensures { λ r. ⌜ Folds (now (block .entry)) at kind (now (known .entry)) (now (values .entry)) (now (known .exit)) (now (values .exit)) r ⌝ }
+{
+    if is_computing(kinds, kind) {
+        return fold_computing(kinds, block, at, kind, known, values);
+    }
+    pass_over(kinds, block, at, kind, known, values);
+    Stated::NoResult
+}
+
+// Fold at the i-th op: its byte, and its constant if it has one.
+fn fold_at(
+    kinds: &[u32; 256],
+    block: &[u8],
+    at: usize,
+    i: usize,
+    known: &mut [u8; 256],
+    values: &mut [u64; 256],
+    folded: &mut [u8],
+    consts: &mut [u64],
+)
+    requires { ⌜ Stands (now block) at (getD (now block) at 0) × (i < length (now folded)) × (i < length (now consts)) × (now kinds ≡ kindTable) ⌝ }
+    ensures { λ _. ⌜ FoldsAt (now (block .entry)) at i (now (known .entry)) (now (values .entry)) (now (known .exit)) (now (values .exit)) (now (folded .entry)) (now (consts .entry)) (now (folded .exit)) (now (consts .exit)) ⌝ }
+{
+    let stated = fold_op(kinds, block, at, block[at], known, values);
+    match stated {
+        Stated::Value(x) => {
+            folded[i] = 1;
+            consts[i] = x;
+        }
+        Stated::NoResult => folded[i] = 0,
+    }
+}
+
+// Which ops fold replaces, read forward, and the constants that take their places.
+pub fn fold(
+    kinds: &[u32; 256],
+    block: &[u8],
+    ops: usize,
+    places: &[u16; 256],
+    folded: &mut [u8],
+    consts: &mut [u64],
+)
+    requires { ⌜ OpsHere (now block) (now places) (opsFrom (recordsOf (now block))) ops × (length (now folded) ≡ 256) × (length (now consts) ≡ 256) × (now kinds ≡ kindTable) ⌝ }
+    ensures { λ _. ⌜ FoldsAll (now (block .entry)) (now (folded .exit)) (now (consts .exit)) ⌝ }
+{
+    let mut known = [0u8; 256];
+    let mut values = [0u64; 256];
+    let mut i: usize = 0;
+    while i < ops {
+        fold_at(
+            kinds,
+            block,
+            places[i] as usize,
+            i,
+            &mut known,
+            &mut values,
+            folded,
+            consts,
+        );
+        i += 1;
+    }
+}

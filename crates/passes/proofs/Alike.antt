@@ -1,0 +1,98 @@
+-- The runs of a block and of the pass's result are alike. Assumes nothing.
+use mathlib.Core.Path.{_≡_, refl, sym, ap, ap₂, _∙_, subst, subst₂}
+use mathlib.Core.Bool.{Bool, true, false, cond, _&&_, true≢false}
+use mathlib.Core.List.{List, [], _∷_}
+use Prim.Native.Nat.{ℕ, zero, suc, _+_, _-_, _≤_, _<_}
+use native.Mathlib.Omega.{arith}
+use lib.Dec.{eqb, leb}
+use lib.ListN.{length}
+use borrow.Author.Tests.{eqb-true}
+use Rattle.theory.specs.Machine.{End, exit, fault, unstated, fell, spent, Result, runs}
+use Rattle.theory.specs.Scope.{scoped}
+use Rattle.theory.specs.Sets.{empty}
+use Rattle.theory.proofs.PruneBy.{Agree}
+use Rattle.theory.proofs.Sets.{and-l}
+use Rattle.theory.proofs.Simulation.{stated, Matches}
+use Rattle.ops.specs.Ops.{Fault, tcg}
+use Rattle.block.specs.Checks.{checkOf}
+use Rattle.block.specs.Records.{classesOf, widthsOf, globalCount}
+use Rattle.block.proofs.Parts.{Parts}
+use Rattle.runs.specs.Runs.{globalsFit, fits, entry, valuesFrom, Ran, answerOf, ranOf, runOps, runChecked, runOf}
+use Rattle.passes.specs.Demand.{Fit, unstatedEnd, SameEnd, same-exit, same-fault, Alike}
+use Rattle.passes.specs.Passes.{passOps}
+use Rattle.passes.proofs.Result.{ops-preserved}
+use Rattle.block.specs.Rules.{globalsIn, keptIn, declared}
+use Rattle.block.specs.declared.Verdict.the-variants.{Accepted}
+
+-- the variables below the number of globals are globals
+pub globals-below : (classes : List ℕ) (v : ℕ) → v < globalCount classes → globalsIn classes v ≡ true
+globals-below [] v h = absurd (omega arith)
+globals-below (c ∷ cs) v h = go (eqb c 0) refl v h (λ u. globals-below cs u)
+  where
+    go : (b : Bool) → eqb c 0 ≡ b → (u : ℕ) → u < cond b (suc (globalCount cs)) 0 → ((t : ℕ) → t < globalCount cs → globalsIn cs t ≡ true) → globalsIn (c ∷ cs) u ≡ true
+    go true e zero l ih = e
+    go true e (suc u) l ih = ih u (omega arith)
+    go false e u l ih = absurd (omega arith)
+
+values-same : (e e′ : ℕ → ℕ) (v n : ℕ) → ((u : ℕ) → u < v + n → e u ≡ e′ u) → valuesFrom e v n ≡ valuesFrom e′ v n
+values-same e e′ v zero h = refl
+values-same e e′ v (suc n) h =
+    ap₂ (λ (x : ℕ) (xs : List ℕ). x ∷ xs) (h v (omega arith)) (values-same e e′ (suc v) n (λ u l. h u (omega arith)))
+
+-- a run that does not end without a stated result exits or faults
+same-end : (end : End ℕ Fault) (p q m n : ℕ) → n ≤ m → unstatedEnd (answerOf end p m) ≡ false → SameEnd (answerOf end p m) (answerOf end q n)
+same-end (exit v) p q m n l h = same-exit l
+same-end (fault f) p q m n l h = same-fault l
+same-end unstated p q m n l h = absurd (true≢false h)
+same-end fell p q m n l h = absurd (true≢false h)
+same-end spent p q m n l h = absurd (true≢false h)
+
+stated-end : (end : End ℕ Fault) (p m : ℕ) → unstatedEnd (answerOf end p m) ≡ false → stated end ≡ true
+stated-end (exit v) p m h = refl
+stated-end (fault f) p m h = refl
+stated-end unstated p m h = absurd (true≢false h)
+stated-end fell p m h = absurd (true≢false h)
+stated-end spent p m h = absurd (true≢false h)
+
+-- two results that match give runs alike
+matches-alike : (classes : List ℕ) (a b n : ℕ) (r r′ : Result tcg) → n ≡ globalCount classes → Matches tcg (Agree 0 (globalsIn classes)) r r′
+    → unstatedEnd ((ranOf a n r) .answer) ≡ false → Alike (ranOf a n r) (ranOf b n r′)
+matches-alike classes a b n r r′ e m h =
+    record {
+      end = subst (λ (x : End ℕ Fault). SameEnd ((ranOf a n r) .answer) (answerOf x (b - length (r′ .left)) (r′ .count))) (sym (m .end))
+          (same-end (r .end) (a - length (r .left)) (b - length (r′ .left)) (r .count) (r′ .count) (m .count) h);
+      globals = values-same (r′ .state .env) (r .state .env) 0 n (λ u l. sym (m .state .vars u (globals-below classes u (omega arith))));
+      memory = sym (m .state .mem);
+    }
+
+-- a run of an accepted block on fitting globals and memory is the run of its ops
+pub run-accepted : (block : List ℕ) (ds os : List (List ℕ)) (globals memory : List ℕ) → checkOf block ≡ Accepted → Parts block ds os → fits ds globals memory ≡ true
+    → runOf block globals memory ≡ runOps os globals memory
+unfolding runOf runChecked
+run-accepted block ds os globals memory h p f = rw (h, p .declared, p .ops, f)
+
+fit-count : (ds : List (List ℕ)) (globals memory : List ℕ) → fits ds globals memory ≡ true → length globals ≡ globalCount (classesOf ds)
+unfolding fits
+fit-count ds globals memory f =
+    let a : (eqb (length globals) (globalCount (classesOf ds)) && globalsFit (widthsOf ds) globals) ≡ true =
+    and-l (eqb (length globals) (globalCount (classesOf ds)) && globalsFit (widthsOf ds) globals) (leb (length memory) 65536) f in
+    eqb-true (length globals) (globalCount (classesOf ds)) (and-l (eqb (length globals) (globalCount (classesOf ds))) (globalsFit (widthsOf ds) globals) a)
+
+runs-alike : (ds os : List (List ℕ)) (globals memory : List ℕ) → scoped tcg (keptIn (classesOf ds)) empty os ≡ true → fits ds globals memory ≡ true
+    → unstatedEnd ((runOps os globals memory) .answer) ≡ false → Alike (runOps os globals memory) (runOps (passOps (classesOf ds) os) globals memory)
+unfolding runOps passOps
+runs-alike ds os globals memory c f h =
+    let r = runs tcg os (entry globals memory) in
+    matches-alike (classesOf ds) (length os) (length (passOps (classesOf ds) os)) (length globals) r (runs tcg (passOps (classesOf ds) os) (entry globals memory))
+    (fit-count ds globals memory f)
+    ((ops-preserved (classesOf ds) os c) .alike (entry globals memory) tt (stated-end (r .end) (length os - length (r .left)) (r .count) h)) h
+
+pub blocks-alike : (block result : List ℕ) (ds os : List (List ℕ)) → checkOf block ≡ Accepted → Parts block ds os → checkOf result ≡ Accepted
+    → Parts result ds (passOps (classesOf ds) os) → (globals memory : List ℕ) → Fit block globals memory → unstatedEnd ((runOf block globals memory) .answer) ≡ false
+    → Alike (runOf block globals memory) (runOf result globals memory)
+blocks-alike block result ds os h p h′ p′ globals memory f u =
+    let f₁ : fits ds globals memory ≡ true = sym (ap (λ (t : List (List ℕ)). fits t globals memory) (p .declared)) ∙ f in
+    let e = run-accepted block ds os globals memory h p f₁ in
+    let e′ = run-accepted result ds (passOps (classesOf ds) os) globals memory h′ p′ f₁ in
+    let u₁ : unstatedEnd ((runOps os globals memory) .answer) ≡ false = sym (ap (λ (t : Ran). unstatedEnd (t .answer)) e) ∙ u in
+    subst₂ Alike (sym e) (sym e′) (runs-alike ds os globals memory (p .in-scope) f₁ u₁)

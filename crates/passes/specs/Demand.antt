@@ -1,0 +1,72 @@
+-- Demand 3, of what the check, the run and the pass answer. Proved in proofs/Demand.antt. Assumes nothing.
+use Prim.Native.Nat.{ℕ, _≤_}
+use mathlib.Core.Path.{_≡_}
+use mathlib.Core.Bool.{Bool, true, false}
+use mathlib.Core.List.{List, _++_}
+use lib.ListN.{length, drop}
+use Rattle.theory.specs.Prune.{AllUsed}
+use Rattle.theory.specs.Fold.{ReplacesNone, nothing}
+use Rattle.ops.specs.Ops.{tcg, folding}
+use Rattle.block.specs.declared.Verdict.the-variants.{Accepted as NoRefusal}
+use Rattle.block.specs.Records.{recordsOf, declarations, opsFrom, classesOf}
+use Rattle.block.specs.Rules.{globalsIn, keptIn}
+use Rattle.block.specs.Checks.{checkOf}
+use Rattle.runs.specs.declared.Ending.{Ending}
+use Rattle.runs.specs.declared.Ending.the-variants.{Refused, Exit, Fault, NoResult}
+use Rattle.runs.specs.Runs.{Ran, runOf, fits}
+use Rattle.passes.specs.declared.Written.the-variants.{Length}
+use Rattle.passes.specs.Passes.{passOf, resultOf}
+
+-- "A block is accepted if the check gives it no refusal."
+abbrev pub Accepted : List ℕ → Type 0
+Accepted block = checkOf block ≡ NoRefusal
+
+-- "Globals and memory fit it if nothing in row 11 applies to them."
+abbrev pub Fit : List ℕ → List ℕ → List ℕ → Type 0
+Fit block globals memory = fits (declarations (recordsOf block)) globals memory ≡ true
+
+-- "A buffer has room if it is at least as long as the result, whatever it holds."
+abbrev pub Room : List ℕ → List ℕ → Type 0
+Room result out = length result ≤ length out
+
+-- "A run meets an op without a stated result exactly when it ends in that way."
+abbrev pub unstatedEnd : Ending → Bool
+unstatedEnd (Refused number place) = false
+unstatedEnd (Exit value count) = false
+unstatedEnd (Fault store address flags count) = false
+unstatedEnd (NoResult position count) = true
+
+-- "Same exit: the same value. Same fault: load or store alike, the same address and the same flags." In no more ops
+pub data SameEnd : Ending → Ending → Type 0 where
+  same-exit : {value m n : ℕ} → n ≤ m → SameEnd (Exit value m) (Exit value n)
+  same-fault : {store : Bool} {address flags m n : ℕ} → n ≤ m → SameEnd (Fault store address flags m) (Fault store address flags n)
+
+-- "Each block runs on its own copy of the same globals and memory; what the runs leave there is compared, temporaries are not.
+-- The numbers of ops compared are those that the runs answer."
+pub record Alike (source target : Ran) : Type 0 where
+  pub end : SameEnd (source .answer) (target .answer)
+  pub globals : target .globals ≡ source .globals
+  pub memory : target .memory ≡ source .memory
+
+-- Demand 3 of a block and an output buffer: what is promised of the pass's answer
+pub record Demand3 (block out : List ℕ) : Type 0 where
+  -- "The pass never refuses an accepted block with room for the result": it answers a length, and the result is that many bytes
+  pub size : ℕ
+  pub result : List ℕ
+  pub answers : passOf block out ≡ record { answer = Length size; out = result ++ drop size out }
+  pub sized : length result ≡ size
+  pub small : size ≤ 2752
+  -- "its result is accepted"
+  pub accepted : Accepted result
+  -- "runs to the same exit or fault with the same globals and memory in no more ops (unless the source run meets an op without a stated result)"
+  pub alike : (globals memory : List ℕ) → Fit block globals memory → unstatedEnd ((runOf block globals memory) .answer) ≡ false
+      → Alike (runOf block globals memory) (runOf result globals memory)
+  -- "nothing foldable and no dead pure op remains"
+  pub folded : ReplacesNone tcg folding (opsFrom (recordsOf result)) nothing
+  pub used : AllUsed tcg (globalsIn (classesOf (declarations (recordsOf result)))) (keptIn (classesOf (declarations (recordsOf result)))) (opsFrom (recordsOf result))
+  -- "doing the pass again gives the same bytes": "The pass done again is lent the result's bytes alone as its block."
+  pub again : (out′ : List ℕ) → Room result out′ → passOf result out′ ≡ record { answer = Length size; out = result ++ drop size out′ }
+
+-- for every block that the check accepts and every output buffer with room
+abbrev pub Demand : Type 0
+Demand = (block out : List ℕ) → Accepted block → Room (resultOf block) out → Demand3 block out

@@ -1,0 +1,47 @@
+-- The pass: its answer, and the bytes that it leaves in the output buffer. Assumes nothing.
+use Prim.Native.Nat.{ℕ}
+use mathlib.Core.Bool.{cond}
+use mathlib.Core.List.{List, _++_}
+use lib.Dec.{leb, ltb}
+use lib.ListN.{length, drop}
+use Rattle.theory.specs.Machine.{Prog}
+use Rattle.theory.specs.Fold.{baseRule, pass}
+use Rattle.ops.specs.Ops.{tcg, folding}
+use Rattle.block.specs.declared.Verdict.{Verdict}
+use Rattle.block.specs.declared.Verdict.the-variants.{Accepted, Refused as CheckRefused}
+use Rattle.block.specs.Records.{recordsOf, concat, declarations, opsFrom, classesOf}
+use Rattle.block.specs.Rules.{globalsIn, keptIn}
+use Rattle.block.specs.Checks.{checkOf}
+use Rattle.passes.specs.declared.Written.{Written}
+use Rattle.passes.specs.declared.Written.the-variants.{Refused, Length}
+
+-- the ops that fold and prune leave, of variables of these classes
+unfoldable pub passOps : List ℕ → Prog tcg → Prog tcg
+passOps classes ops = pass tcg (baseRule tcg folding) (globalsIn classes) (keptIn classes) ops
+
+-- "Declarations are copied. The result is the declarations and kept ops"
+abbrev pub resultRecords : List (List ℕ) → List (List ℕ)
+resultRecords records = declarations records ++ passOps (classesOf (declarations records)) (opsFrom records)
+
+unfoldable pub resultOf : List ℕ → List ℕ
+resultOf block = concat (resultRecords (recordsOf block))
+
+-- what the pass answers, and what it leaves in the lent buffer
+pub record Passed : Type 0 where
+  pub answer : Written
+  pub out : List ℕ
+
+abbrev pub passRefused : ℕ → ℕ → List ℕ → Passed
+passRefused number place out = record { answer = Refused number place; out = out }
+
+-- "; bytes of the buffer after it stay as they were. The answer is its length."
+abbrev pub written : List ℕ → List ℕ → Passed
+written result out = record { answer = Length (length result); out = result ++ drop (length result) out }
+
+-- first the check's rules, then 12: "output buffer shorter than the result"
+unfoldable pub passChecked : List ℕ → List ℕ → Verdict → Passed
+passChecked result out (CheckRefused number place) = passRefused number place out
+passChecked result out Accepted = cond (leb (length result) (length out)) (written result out) (passRefused 12 0 out)
+
+unfoldable pub passOf : List ℕ → List ℕ → Passed
+passOf block out = passChecked (resultOf block) out (checkOf block)

@@ -1,0 +1,65 @@
+-- Demand 3, of the answers of calls as the contracts of the check, the run and the pass give them. Proved in proofs/Promise.antt. Assumes nothing.
+use mathlib.Core.Path.{_≡_}
+use mathlib.Core.Bool.{false}
+use mathlib.Core.List.{List}
+use Prim.Native.Nat.{ℕ, _≤_}
+use lib.ListN.{length, take, drop}
+use Rattle.theory.specs.Fold.{nothing, ReplacesNone}
+use Rattle.theory.specs.Prune.{AllUsed}
+use Rattle.ops.specs.Ops.{tcg, folding}
+use Rattle.block.specs.Checks.{checkOf}
+use Rattle.block.specs.Records.{recordsOf, declarations, opsFrom, classesOf}
+use Rattle.block.specs.Rules.{globalsIn, keptIn}
+use Rattle.runs.specs.Runs.{ranAs, runOf}
+use Rattle.passes.specs.Demand.{Fit, Room, unstatedEnd, SameEnd}
+use Rattle.passes.specs.Passes.{resultOf, passOf}
+use Rattle.block.specs.declared.Verdict.{Verdict}
+use Rattle.block.specs.declared.Verdict.the-variants.{Accepted as NoRefusal}
+use Rattle.runs.specs.declared.Ending.{Ending}
+use Rattle.passes.specs.declared.Written.{Written}
+use Rattle.passes.specs.declared.Written.the-variants.{Length}
+
+-- a call of the check answered this verdict
+pub record Checked (block : List ℕ) (verdict : Verdict) : Type 0 where
+  pub answered : verdict ≡ checkOf block
+
+-- a call of the pass that was lent the buffer out gave this answer and left out′
+pub record Optimised (block out : List ℕ) (answer : Written) (out′ : List ℕ) : Type 0 where
+  pub answered : answer ≡ (passOf block out) .answer
+  pub left : out′ ≡ (passOf block out) .out
+
+-- a call of the run that was lent globals and memory ended so and left globals′ and memory′
+pub record Run (block globals memory : List ℕ) (ending : Ending) (globals′ memory′ : List ℕ) : Type 0 where
+  pub left : ranAs ending globals′ memory′ ≡ runOf block globals memory
+
+-- the answer is the result's length, the result is the first bytes, and "bytes of the buffer after it stay as they were"
+pub record Wrote (size : ℕ) (result out : List ℕ) (answer : Written) (out′ : List ℕ) : Type 0 where
+  pub answers : answer ≡ Length size
+  pub first : take size out′ ≡ result
+  pub rest : drop size out′ ≡ drop size out
+
+-- what holds of a pass that answered, and of every call that answers after it
+pub record Promise (block out : List ℕ) (answer : Written) (out′ : List ℕ) : Type 0 where
+  -- "The pass never refuses an accepted block with room for the result"
+  pub size : ℕ
+  pub result : List ℕ
+  pub wrote : Wrote size result out answer out′
+  pub sized : length result ≡ size
+  pub small : size ≤ 2752
+  -- "its result is accepted"
+  pub accepted : (verdict : Verdict) → Checked result verdict → verdict ≡ NoRefusal
+  -- "runs to the same exit or fault with the same globals and memory in no more ops (unless the source run meets an op without a stated result)"
+  pub alike : (globals memory : List ℕ) (ending ending′ : Ending) (globals₁ memory₁ globals₂ memory₂ : List ℕ) → Fit block globals memory
+      → Run block globals memory ending globals₁ memory₁ → Run result globals memory ending′ globals₂ memory₂
+      → unstatedEnd ending ≡ false → SameEnd ending ending′ × (globals₂ ≡ globals₁) × (memory₂ ≡ memory₁)
+  -- "nothing foldable and no dead pure op remains"
+  pub folded : ReplacesNone tcg folding (opsFrom (recordsOf result)) nothing
+  pub used : AllUsed tcg (globalsIn (classesOf (declarations (recordsOf result)))) (keptIn (classesOf (declarations (recordsOf result)))) (opsFrom (recordsOf result))
+  -- "doing the pass again gives the same bytes"
+  pub again : (buffer : List ℕ) (answer′ : Written) (buffer′ : List ℕ) → Room result buffer → Optimised result buffer answer′ buffer′
+      → Wrote size result buffer answer′ buffer′
+
+-- for every block that a call of the check accepted and every buffer with room, of every call of the pass
+abbrev pub Promised : Type 0
+Promised = (block out : List ℕ) (answer : Written) (out′ : List ℕ) → Checked block NoRefusal → Room (resultOf block) out
+    → Optimised block out answer out′ → Promise block out answer out′

@@ -1,0 +1,93 @@
+// The loop over the ops of an accepted block.
+ghost use mathlib.Core.Path.{_≡_};
+ghost use Prim.Native.Nat.{_+_, _<_};
+ghost use lib.ListN.{getD};
+ghost use Rattle.theory.specs.Machine.{cost};
+ghost use Rattle.ops.specs.Table.{kindTable};
+ghost use Rattle.runs.specs.Runs.{answerOf};
+ghost use Rattle.runs.specs.Steps.{endOf, Ready, Executed};
+use kinds::body_length;
+use marks::index;
+use runs::Ending;
+use runs::Outcome;
+use runs::Stop;
+use step::step;
+
+fn wide(x: u16) -> usize
+    ensures { λ r. ⌜ r ≡ x ⌝ }
+{
+    x as usize
+}
+
+fn number_of(numbers: &[u16; 256], i: usize) -> usize
+    requires { ⌜ i < 256 ⌝ }
+    ensures { λ r. ⌜ r ≡ getD (now (numbers .entry)) i 0 ⌝ }
+{
+    wide(numbers[i])
+}
+
+// The answer of a run that the op-th op ends, after so many: it counts where it exits or faults.
+fn ended(stop: Stop, op: usize, count: u64) -> Ending
+    requires { ⌜ count < 256 ⌝ }
+    ensures { λ r. ⌜ r ≡ answerOf (endOf stop) op (count + cost (endOf stop)) ⌝ }
+{
+    match stop {
+        Stop::Leaves(value) => Ending::Exit {
+            value,
+            count: count + 1,
+        },
+        Stop::Faults {
+            store,
+            address,
+            flags,
+        } => Ending::Fault {
+            store,
+            address,
+            flags,
+            count: count + 1,
+        },
+        Stop::Unstated => Ending::NoResult {
+            position: op as u64,
+            count,
+        },
+    }
+}
+
+// Runs the ops from the first on. A jump goes to its label's op, whose number the scan kept.
+pub fn execute(
+    kinds: &[u32; 256],
+    block: &[u8],
+    start: usize,
+    ops: usize,
+    places: &[u16; 256],
+    labels: &[u16; 256],
+    values: &mut [u64; 256],
+    memory: &mut [u8],
+) -> Ending
+    requires { ⌜ Ready (now block) (now places) (now labels) start ops × (now kinds ≡ kindTable) ⌝ }
+    ensures { λ r. ⌜ Executed (now (block .entry)) (now (values .entry)) (now (memory .entry)) (now (values .exit)) (now (memory .exit)) r ⌝ }
+{
+    let mut op: usize = 0;
+    let mut at = start;
+    let mut count: u64 = 0;
+    while op < ops {
+        let kind = block[at];
+        let outcome = step(kinds, block, at, kind, values, memory);
+        match outcome {
+            Outcome::Falls => {
+                op += 1;
+                at += 1 + body_length(kinds, kind);
+            }
+            Outcome::JumpsTo(l) => {
+                op = number_of(labels, index(l)) - 1;
+                at = number_of(places, op);
+            }
+            Outcome::Stops(stop) => return ended(stop, op, count),
+        }
+        count += 1;
+    }
+    Ending::NoResult {
+        position: ops as u64,
+        count,
+    }
+}

@@ -1,0 +1,90 @@
+// The run of a block.
+ghost use mathlib.Core.Path.{_≡_};
+ghost use Prim.Native.Nat.{_≤_};
+ghost use lib.ListN.{length};
+ghost use Rattle.ops.specs.Table.{kindTable};
+ghost use Rattle.block.specs.Records.{recordsOf, opsFrom};
+ghost use Rattle.runs.specs.Runs.{ranAs, runOf, runOps};
+ghost use Rattle.runs.specs.Steps.{Ready};
+use exec::execute;
+use kinds::table;
+use lending::copy_in;
+use lending::copy_out;
+use lending::lent_ok;
+use runs::Ending;
+use scan::scan;
+
+mod exec;
+mod lending;
+
+// Runs the ops of a block that the scan has accepted.
+fn run_ops(
+    kinds: &[u32; 256],
+    block: &[u8],
+    start: usize,
+    ops: usize,
+    places: &[u16; 256],
+    labels: &[u16; 256],
+    globals: &mut [u64],
+    memory: &mut [u8],
+) -> Ending
+    requires { ⌜ Ready (now block) (now places) (now labels) start ops × (length (now globals) ≤ 256) × (now kinds ≡ kindTable) ⌝ }
+    ensures { λ r. ⌜ ranAs r (now (globals .exit)) (now (memory .exit)) ≡ runOps (opsFrom (recordsOf (now (block .entry)))) (now (globals .entry)) (now (memory .entry)) ⌝ }
+{
+    let mut values = [0u64; 256];
+    copy_in(globals, &mut values);
+    let ending = execute(
+        kinds,
+        block,
+        start,
+        ops,
+        places,
+        labels,
+        &mut values,
+        memory,
+    );
+    copy_out(&values, globals);
+    ending
+}
+
+// Checks a block and runs it: the answer, and the globals and memory that it leaves.
+pub fn run(block: &[u8], globals: &mut [u64], memory: &mut [u8]) -> Ending
+    ensures { λ r. ⌜ ranAs r (now (globals .exit)) (now (memory .exit)) ≡ runOf (now (block .entry)) (now (globals .entry)) (now (memory .entry)) ⌝ }
+{
+    let mut classes = [0u8; 256];
+    let mut types = [0u8; 256];
+    let mut places = [0u16; 256];
+    let mut labels = [0u16; 256];
+    let kinds = table();
+    let s = scan(
+        &kinds,
+        block,
+        &mut classes,
+        &mut types,
+        &mut places,
+        &mut labels,
+    );
+    let rule = s.rule;
+    if rule != 0 {
+        return Ending::Refused {
+            number: rule,
+            place: s.place,
+        };
+    }
+    if !lent_ok(&types, s.variables, s.globals, globals, memory) {
+        return Ending::Refused {
+            number: 11,
+            place: 0,
+        };
+    }
+    run_ops(
+        &kinds,
+        block,
+        s.start,
+        s.ops,
+        &places,
+        &labels,
+        globals,
+        memory,
+    )
+}

@@ -1,0 +1,148 @@
+-- Every run of an accepted block exits, faults or meets an op without a stated result. Assumes nothing.
+use mathlib.Core.Path.{_≡_, refl, sym, ap, subst}
+use mathlib.Core.Bool.{Bool, true, false, cond, not, _&&_, _||_, false≢true}
+use mathlib.Core.List.{List, [], _∷_}
+use mathlib.Core.Logic.{_⊎_, inl, inr}
+use Prim.Native.Nat.{ℕ, zero, suc, _<_}
+use native.Mathlib.Omega.{arith}
+use lib.Dec.{eqb}
+use borrow.Author.Tests.{leb-true, eqb-true, eqb-false, not-true}
+use lib.Arith.{lt-of-le-ne}
+use Rattle.theory.specs.Checker.{checks}
+use Rattle.theory.specs.Machine.{View, calc, access, label, jump, branch, leave, isLabel, St, seek, runs}
+use Rattle.theory.specs.Sets.{Vars}
+use Rattle.theory.proofs.Ends.{proper, isLeave, isJump, Grounded, ends-properly}
+use Rattle.theory.proofs.Sets.{and-l, and-r, clash, tell}
+use Rattle.ops.specs.Kinds.{Does, unknown, declares, sets, jumpsTo, leaves, branches, loads, stores, computes, Row, at, condOk, labelOk}
+use Rattle.ops.specs.Ops.{kindOf, rowAt, restBy, Fault, viewBy, viewOf, tcg, restOk}
+use Rattle.block.specs.Checks.{endRules, checkOf}
+use Rattle.block.specs.Records.{recordsOf, isDeclaration, declarations, opsFrom}
+use Rattle.block.specs.Rules.{Seen, start, rule4, rule5, rule6, labelFree, nextLabels, nextTargets, rule7, rule9, rule10, allSet, rule7end, passed}
+use Rattle.block.proofs.Accepts.{allMet}
+use Rattle.block.proofs.Cut.{whole}
+use Rattle.block.proofs.Lenient.{exit-view}
+use Rattle.block.proofs.Parts.{parts}
+use Rattle.runs.specs.Runs.{entry}
+use Rattle.block.proofs.Checker.{opOk, checker, declaredIn}
+use Rattle.block.specs.declared.Verdict.the-variants.{Accepted}
+
+-- an op is due, and the check accepts what is left
+abbrev Due : List (List ℕ) → Type 0
+Due [] = ⊥
+Due (o ∷ r) = (s : Seen) × (checks tcg checker s (o ∷ r) ≡ true)
+
+-- the last op is an exit
+not-last : (s : Seen) (o : List ℕ) → allMet (endRules (passed s o)) ≡ true → isLeave (viewOf o) ≡ true
+unfolding rule10
+not-last s o h = ap isLeave (exit-view o (eqb-true (kindOf o) 0x04 (and-l (eqb (kindOf o) 0x04) _ h)))
+
+next-due : (o : List ℕ) (r : List (List ℕ)) → Due (o ∷ r) → isLeave (viewOf o) ≡ false → Due r
+next-due o [] d h = clash (isLeave (viewOf o)) (not-last (d .0) o (and-r (opOk (d .0) o) (allMet (endRules (passed (d .0) o))) (d .1))) h
+next-due o (q ∷ r) d h = (passed (d .0) o, and-r (opOk (d .0) o) (checks tcg checker (passed (d .0) o) (q ∷ r)) (d .1))
+
+-- a jump's label is below 32, is not yet set, and is then jumped to
+low-label : (row : Row) (d : Does) (r : List ℕ) (k : ℕ) → isJump k (viewBy row d r) ≡ true → restOk d (restBy row r) ≡ true → k < 32
+low-label row unknown r k j h = absurd (false≢true j)
+low-label row declares r k j h = absurd (false≢true j)
+low-label row sets r k j h = absurd (false≢true j)
+low-label row jumpsTo r k j h = omega (arith, eqb-true (at (restBy row r) 0) k j, leb-true (at (restBy row r) 0) 31 h)
+low-label row leaves r k j h = absurd (false≢true j)
+low-label row (branches w) r k j h =
+    omega (arith, eqb-true (at (restBy row r) 1) k j, leb-true (at (restBy row r) 1) 31 (and-r (condOk (at (restBy row r) 0)) (labelOk (at (restBy row r) 1)) h))
+low-label row (loads w) r k j h = absurd (false≢true j)
+low-label row (stores w) r k j h = absurd (false≢true j)
+low-label row (computes ok f) r k j h = absurd (false≢true j)
+
+pub jump-low : (s : Seen) (o : List ℕ) (k : ℕ) → isJump k (viewOf o) ≡ true → rule6 s o ≡ true → k < 32
+unfolding viewOf rule6
+jump-low s o k j h = low-label (rowAt o) ((rowAt o) .does) o k j h
+
+jump-labels : (labels targets : Vars) (w : View ℕ (List ℕ) Fault) (k : ℕ) → isJump k w ≡ true → labelFree labels w ≡ true
+    → (nextLabels labels w k ≡ false) × (nextTargets targets w k ≡ true)
+jump-labels labels targets (calc outs ins f) k j h = absurd (false≢true j)
+jump-labels labels targets (access outs ins f) k j h = absurd (false≢true j)
+jump-labels labels targets (label l) k j h = absurd (false≢true j)
+jump-labels labels targets (jump l) k j h = (subst (λ (n : ℕ). labels n ≡ false) (eqb-true l k j) (not-true (labels l) h), rw j)
+jump-labels labels targets (branch ins f l) k j h = (subst (λ (n : ℕ). labels n ≡ false) (eqb-true l k j) (not-true (labels l) h), rw j)
+jump-labels labels targets (leave x) k j h = absurd (false≢true j)
+
+pub more-targets : (b t : Bool) → t ≡ true → cond b true t ≡ true
+more-targets true t h = refl
+more-targets false t h = h
+
+-- a label that is not set stays so up to its set_label, and a target stays one
+pub other-labels : (labels targets : Vars) (w : View ℕ (List ℕ) Fault) (k : ℕ) → isLabel k w ≡ false → labels k ≡ false → targets k ≡ true
+    → (nextLabels labels w k ≡ false) × (nextTargets targets w k ≡ true)
+other-labels labels targets (calc outs ins f) k n l t = (l, t)
+other-labels labels targets (access outs ins f) k n l t = (l, t)
+other-labels labels targets (label j) k n l t = (rw n l, t)
+other-labels labels targets (jump j) k n l t = (l, more-targets (eqb j k) (targets k) t)
+other-labels labels targets (branch ins f j) k n l t = (l, more-targets (eqb j k) (targets k) t)
+other-labels labels targets (leave x) k n l t = (l, t)
+
+-- at the end each target below 32 is set
+all-set : (targets labels : Vars) (n k : ℕ) → allSet targets labels n ≡ true → k < n → targets k ≡ true → labels k ≡ true
+all-set targets labels zero k h l t = absurd (omega arith)
+all-set targets labels (suc n) k h l t = go (tell (eqb n k)) (all-set targets labels n k (and-r (not (targets n) || labels n) (allSet targets labels n) h))
+  where
+    here : n ≡ k → labels k ≡ true
+    here e =
+        let a : (not (targets n) || labels n) ≡ true = and-l (not (targets n) || labels n) (allSet targets labels n) h in
+        let b : (not (targets k) || labels k) ≡ true = subst (λ (m : ℕ). (not (targets m) || labels m) ≡ true) e a in
+        rw t at b
+
+    go : (eqb n k ≡ true) ⊎ (eqb n k ≡ false) → (k < n → targets k ≡ true → labels k ≡ true) → labels k ≡ true
+    go (inl e) ih = here (eqb-true n k e)
+    go (inr e) ih = ih (lt-of-le-ne (omega arith) (λ q. eqb-false n k e (sym q))) t
+
+pub end-set : (s : Seen) (k : ℕ) → allMet (endRules s) ≡ true → k < 32 → s .targets k ≡ true → s .labels k ≡ true
+unfolding rule7end
+end-set s k h l t =
+    all-set (s .targets) (s .labels) 32 k (and-l (rule7end s) true (and-r (rule10 s) (rule7end s && true) h)) l t
+
+found : (r : List (List ℕ)) (s : Seen) (k : ℕ) → checks tcg checker s r ≡ true → k < 32 → s .labels k ≡ false → s .targets k ≡ true → Due (seek tcg k r)
+found [] s k c b l t = clash (s .labels k) (end-set s k c b t) l
+found (o ∷ r) s k c b l t = go (isLabel k (viewOf o)) refl
+    (λ n. let p = other-labels (s .labels) (s .targets) (viewOf o) k n l t in found r (passed s o) k (and-r (opOk s o) (checks tcg checker (passed s o) r) c) b (p .0) (p .1))
+  where
+    go : (x : Bool) → isLabel k (viewOf o) ≡ x → (isLabel k (viewOf o) ≡ false → Due (seek tcg k r)) → Due (cond x (o ∷ r) (seek tcg k r))
+    go true e ih = (s, c)
+    go false e ih = ih e
+
+pub op-parts : (s : Seen) (o : List ℕ) → opOk s o ≡ true → (rule6 s o ≡ true) × (rule7 s o ≡ true)
+op-parts s o h =
+    let a = and-r (not (isDeclaration o)) (rule9 s o && (rule4 s o && (rule5 s o && (rule6 s o && rule7 s o))))
+    (and-r (whole o) (not (isDeclaration o) && (rule9 s o && (rule4 s o && (rule5 s o && (rule6 s o && rule7 s o))))) h) in
+    let b = and-r (rule5 s o) (rule6 s o && rule7 s o) (and-r (rule4 s o) (rule5 s o && (rule6 s o && rule7 s o)) (and-r (rule9 s o) (rule4 s o && (rule5 s o && (rule6 s o && rule7 s o))) a)) in
+    (and-l (rule6 s o) (rule7 s o) b, and-r (rule6 s o) (rule7 s o) b)
+
+pub landed-labels : (s : Seen) (o : List ℕ) (k : ℕ) → isJump k (viewOf o) ≡ true → rule7 s o ≡ true
+    → ((passed s o) .labels k ≡ false) × ((passed s o) .targets k ≡ true)
+unfolding rule7
+landed-labels s o k j h = jump-labels (s .labels) (s .targets) (viewOf o) k j h
+
+grounded : Grounded tcg Due
+grounded =
+    record {
+      some-op = λ d. d;
+      next-op = next-due;
+      landed = λ o r k d j.
+          let p = op-parts (d .0) o (and-l (opOk (d .0) o) (checks tcg checker (passed (d .0) o) r) (d .1)) in
+          let q = landed-labels (d .0) o k j (p .1) in
+          found r (passed (d .0) o) k (and-r (opOk (d .0) o) (checks tcg checker (passed (d .0) o) r) (d .1)) (jump-low (d .0) o k j (p .0)) (q .0) (q .1);
+    }
+
+no-op : (s : Seen) → s .last ≡ 0 → rule10 s ≡ false
+unfolding rule10
+no-op s e = rw e
+
+-- accepted ops end in one of the three ways
+pub ops-end : (s : Seen) (os : List (List ℕ)) (t : St tcg) → s .last ≡ 0 → checks tcg checker s os ≡ true → proper ((runs tcg os t) .end) ≡ true
+ops-end s [] t e c = clash (rule10 s) (and-l (rule10 s) _ c) (no-op s e)
+ops-end s (o ∷ os) t e c = ends-properly tcg Due grounded (o ∷ os) t (s, c)
+
+-- "It ends in one of three ways": every run of an accepted block does
+pub run-ends : (block globals memory : List ℕ) → checkOf block ≡ Accepted → proper ((runs tcg (opsFrom (recordsOf block)) (entry globals memory)) .end) ≡ true
+run-ends block globals memory h =
+    let p = parts block h in
+    ops-end (declaredIn start (declarations (recordsOf block))) (opsFrom (recordsOf block)) (entry globals memory) refl (p .checked)

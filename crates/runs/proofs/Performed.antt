@@ -1,0 +1,178 @@
+-- What each op does to the values and the memory, as the step's parts find it. Assumes nothing.
+use mathlib.Core.Path.{_≡_, refl, sym, ap, ap₂, _∙_, subst, fun-ext}
+use mathlib.Core.Bool.{Bool, true, false, cond, false≢true}
+use mathlib.Core.Option.{Option, none, some}
+use mathlib.Core.List.{List, [], _∷_}
+use Prim.Native.Nat.{ℕ, _+_, _%_, _^_, _<_}
+use native.Mathlib.Omega.{arith}
+use lib.ListN.{getD}
+use native.Mathlib.Nat.{mod-eq-of-lt}
+use Rattle.theory.specs.Machine.{View, label, jump, leave, exit, fault, falls, jumps, stops, upd, reads, afterCalc, afterAccess, effect}
+use Rattle.word.specs.Condition.{condW}
+use Rattle.memory.specs.Access.{loadAt, storeAt}
+use Rattle.memory.specs.Answer.{accessWidth, loadedOf, servedOf, leftOf}
+use Rattle.memory.specs.Bytes.{lowFirst}
+use Rattle.ops.specs.Kinds.{at}
+use Rattle.ops.specs.Ops.{Fault, faultOf, afterLoad, afterStore, viewOf}
+use Rattle.ops.specs.Table.{roleOf}
+use Rattle.block.specs.Scan.{recordAt, Stands, SetAt}
+use Rattle.block.proofs.MarkSets.{at-place}
+use Rattle.block.proofs.Views.{unknown-view, declare-view, label-view, jump-view, leave-view, pure-view}
+use Rattle.runs.specs.Evaluates.{Computed, inputsAt, statesAt, valuesOf, envOf}
+use Rattle.runs.specs.Steps.{stateOf, effectOf, afterState, Performs, PerformsAlone, branchOp, loadOp, storeOp, constantOp}
+use Rattle.memory.specs.declared.Loaded.{Loaded}
+use Rattle.memory.specs.declared.Loaded.the-variants.{Value, Fault as LoadFault}
+use Rattle.word.specs.declared.Stated.{Stated}
+use Rattle.word.specs.declared.Stated.the-variants.{Value as StatedValue, NoResult as StatedNone}
+use Rattle.ops.specs.declared.Role.the-variants.{Unknown, Declares, SetsLabel, Jumps, Exits}
+use Rattle.runs.specs.declared.Outcome.{Outcome}
+use Rattle.runs.specs.declared.Outcome.the-variants.{Falls, JumpsTo, Stops}
+use Rattle.runs.specs.declared.Stop.the-variants.{Leaves, Faults, Unstated}
+
+-- a variable that is put: what the variables hold then
+pub put-env : {values values′ : List ℕ} {d x : ℕ} → SetAt values d x values′ → upd (envOf values) d x ≡ envOf values′
+put-env s = fun-ext (λ v. sym (at-place s v))
+
+module _ (w : View ℕ (List ℕ) Fault) (values memory : List ℕ) where
+  -- an op that leaves the state as it was
+  pub stays : (o : Outcome) → effect 0 w (stateOf values memory) ≡ effectOf o (stateOf values memory) → Performs w values memory values memory o
+  stays o e = record { tells = sym e; leaves-so = sym (ap (afterState (stateOf values memory)) e ∙ same o) }
+    where
+      same : (o : Outcome) → afterState (stateOf values memory) (effectOf o (stateOf values memory)) ≡ stateOf values memory
+      same Falls = refl
+      same (JumpsTo l) = refl
+      same (Stops e) = refl
+
+  -- an op that leaves another to the next op
+  pub falls-to : (values′ memory′ : List ℕ) → effect 0 w (stateOf values memory) ≡ falls (stateOf values′ memory′) → Performs w values memory values′ memory′ Falls
+  falls-to values′ memory′ e = record { tells = sym e; leaves-so = sym (ap (afterState (stateOf values memory)) e) }
+
+-- conditions and branches
+pub holds-wide : (c a b : ℕ) {wide r : Bool} → wide ≡ true → a < 2 ^ 64 → b < 2 ^ 64 → r ≡ condW 64 c a b
+    → r ≡ condW (accessWidth wide) c (a % 2 ^ accessWidth wide) (b % 2 ^ accessWidth wide)
+holds-wide c a b e l m q = rw (e, mod-eq-of-lt l, mod-eq-of-lt m) q
+
+pub holds-narrow : (c a b : ℕ) {wide r : Bool} {x y : ℕ} → wide ≡ false → x ≡ a % 2 ^ 32 → y ≡ b % 2 ^ 32 → r ≡ condW 32 c x y
+    → r ≡ condW (accessWidth wide) c (a % 2 ^ accessWidth wide) (b % 2 ^ accessWidth wide)
+holds-narrow c a b e l m q = rw (e, ← l, ← m) q
+
+module _ (b values : List ℕ) (p : ℕ) (wide : Bool) {x y : ℕ} {r : Bool} (ex : x ≡ getD values (at b (p + 1)) 0) (ey : y ≡ getD values (at b (p + 2)) 0)
+    (e : r ≡ condW (accessWidth wide) (at b (p + 3)) (x % 2 ^ accessWidth wide) (y % 2 ^ accessWidth wide)) where
+  decides : r ≡ condW (accessWidth wide) (at b (p + 3)) (getD values (at b (p + 1)) 0 % 2 ^ accessWidth wide) (getD values (at b (p + 2)) 0 % 2 ^ accessWidth wide)
+  decides = e ∙ ap₂ (λ (u v : ℕ). condW (accessWidth wide) (at b (p + 3)) (u % 2 ^ accessWidth wide) (v % 2 ^ accessWidth wide)) ex ey
+
+  branches-so : (t : Bool) (o : Outcome) → r ≡ t → ((m : List ℕ) → cond t (jumps (at b (p + 4))) (falls (stateOf values m)) ≡ effectOf o (stateOf values m))
+      → PerformsAlone (branchOp b p wide) values values o
+  branches-so t o q f =
+      record { under = λ m. stays (branchOp b p wide) values m o (ap (λ (u : Bool). cond u (jumps (at b (p + 4))) (falls (stateOf values m))) (sym decides ∙ q) ∙ f m) }
+
+  pub branch-jumps : r ≡ true → PerformsAlone (branchOp b p wide) values values (JumpsTo (at b (p + 4)))
+  branch-jumps t = branches-so true (JumpsTo (at b (p + 4))) t (λ m. refl)
+
+  pub branch-falls : r ≡ false → PerformsAlone (branchOp b p wide) values values Falls
+  branch-falls t = branches-so false Falls t (λ m. refl)
+
+-- loads
+load-value : (o : Option ℕ) {x : ℕ} → loadedOf o ≡ Value x → o ≡ some x
+load-value none e = let z : _≡_ {A = ℕ} 0 1 = cc in absurd (omega arith)
+load-value (some y) e = cc
+
+load-none : (o : Option ℕ) → loadedOf o ≡ LoadFault → o ≡ none
+load-none none e = refl
+load-none (some y) e = let z : _≡_ {A = ℕ} 0 1 = cc in absurd (omega arith)
+
+module _ (b values memory : List ℕ) (p : ℕ) (wide : Bool) {q : ℕ} {r : Loaded} (eq : q ≡ getD values (at b (p + 2)) 0)
+    (e : r ≡ loadedOf (loadAt (accessWidth wide) (at b (p + 3)) memory q)) where
+  loads-so : (o : Option ℕ) → loadAt (accessWidth wide) (at b (p + 3)) memory q ≡ o
+      → effect 0 (loadOp b p wide) (stateOf values memory) ≡ afterAccess 0 (at b (p + 1) ∷ []) (stateOf values memory) (afterLoad memory q (at b (p + 3)) o)
+  loads-so o h =
+      ap (λ (a : ℕ). afterAccess 0 (at b (p + 1) ∷ []) (stateOf values memory) (afterLoad memory a (at b (p + 3)) (loadAt (accessWidth wide) (at b (p + 3)) memory a))) (sym eq)
+      ∙ ap (λ (x : Option ℕ). afterAccess 0 (at b (p + 1) ∷ []) (stateOf values memory) (afterLoad memory q (at b (p + 3)) x)) h
+
+  pub load-falls : {x : ℕ} {values′ : List ℕ} → r ≡ Value x → SetAt values (at b (p + 1)) x values′ → Performs (loadOp b p wide) values memory values′ memory Falls
+  load-falls {x} {values′} t s =
+      falls-to (loadOp b p wide) values memory values′ memory
+      (loads-so (some x) (load-value (loadAt (accessWidth wide) (at b (p + 3)) memory q) (sym e ∙ t)) ∙ ap (λ (f : ℕ → ℕ). falls (record { env = f; mem = memory })) (put-env s))
+
+  pub loads-fault : r ≡ LoadFault → Performs (loadOp b p wide) values memory values memory (Stops (Faults false q (at b (p + 3))))
+  loads-fault t = stays (loadOp b p wide) values memory (Stops (Faults false q (at b (p + 3)))) (loads-so none (load-none (loadAt (accessWidth wide) (at b (p + 3)) memory q) (sym e ∙ t)))
+
+-- stores
+module _ (b values memory : List ℕ) (p : ℕ) {x q : ℕ} {memory′ : List ℕ} {r : Bool} (ex : x ≡ getD values (at b (p + 1)) 0) (eq : q ≡ getD values (at b (p + 2)) 0)
+    (e : (r ≡ servedOf (storeAt (at b (p + 3)) memory q x)) × (memory′ ≡ leftOf memory (storeAt (at b (p + 3)) memory q x))) where
+  stores-so : effect 0 (storeOp b p) (stateOf values memory) ≡ afterAccess 0 [] (stateOf values memory) (afterStore q (at b (p + 3)) (storeAt (at b (p + 3)) memory q x))
+  stores-so = ap₂ (λ (u v : ℕ). afterAccess 0 [] (stateOf values memory) (afterStore v (at b (p + 3)) (storeAt (at b (p + 3)) memory v u))) (sym ex) (sym eq)
+
+  pub store-falls : r ≡ true → Performs (storeOp b p) values memory values memory′ Falls
+  store-falls t = falls-to (storeOp b p) values memory values memory′ (stores-so ∙ go (storeAt (at b (p + 3)) memory q x) (sym (e .0) ∙ t) (e .1))
+    where
+      go : (o : Option (List ℕ)) → servedOf o ≡ true → memory′ ≡ leftOf memory o
+          → afterAccess 0 [] (stateOf values memory) (afterStore q (at b (p + 3)) o) ≡ falls (stateOf values memory′)
+      go none s l = absurd (false≢true s)
+      go (some m) s l = ap (λ (n : List ℕ). falls (stateOf values n)) (sym l)
+
+  pub stores-fault : r ≡ false → Performs (storeOp b p) values memory values memory′ (Stops (Faults true q (at b (p + 3))))
+  stores-fault t =
+      let g = go (storeAt (at b (p + 3)) memory q x) (sym (e .0) ∙ t) (e .1) in
+      subst (λ (m : List ℕ). Performs (storeOp b p) values memory values m (Stops (Faults true q (at b (p + 3))))) (sym (g .0))
+      (stays (storeOp b p) values memory (Stops (Faults true q (at b (p + 3)))) (stores-so ∙ g .1))
+    where
+      go : (o : Option (List ℕ)) → servedOf o ≡ false → memory′ ≡ leftOf memory o
+          → (memory′ ≡ memory) × (afterAccess 0 [] (stateOf values memory) (afterStore q (at b (p + 3)) o) ≡ stops (fault (faultOf true q (at b (p + 3)))))
+      go none s l = (l, refl)
+      go (some m) s l = absurd (false≢true (sym s))
+
+-- constants
+pub constant-falls : (b values values′ : List ℕ) (p : ℕ) {x : ℕ} → x ≡ lowFirst b (p + 2) 8 → SetAt values (at b (p + 1)) x values′ → PerformsAlone (constantOp b p) values values′ Falls
+constant-falls b values values′ p {x} e s =
+    record {
+      under = λ m.
+          falls-to (constantOp b p) values m values′ m
+          (ap (λ (y : ℕ). falls (record { env = upd (envOf values) (at b (p + 1)) y; mem = m })) (sym e)
+          ∙ ap (λ (f : ℕ → ℕ). falls (record { env = f; mem = m })) (put-env s));
+    }
+
+-- pure ops that read something
+module _ {b : List ℕ} {p k : ℕ} (c : Computed b p k) (values : List ℕ) (r : Stated) (e : statesAt b p k (reads (envOf values) (inputsAt b p k)) ≡ valuesOf r) where
+  acts : (m : List ℕ) → effect 0 (viewOf (recordAt b p)) (stateOf values m) ≡ afterCalc 0 (at b (p + 1) ∷ []) (stateOf values m) (valuesOf r)
+  acts m =
+      ap (λ (w : View ℕ (List ℕ) Fault). effect 0 w (stateOf values m)) (pure-view (c .stands) (c .role-is))
+      ∙ ap (afterCalc 0 (at b (p + 1) ∷ []) (stateOf values m)) e
+
+  pub compute-falls : {x : ℕ} {values′ : List ℕ} → r ≡ StatedValue x → SetAt values (at b (p + 1)) x values′ → PerformsAlone (viewOf (recordAt b p)) values values′ Falls
+  compute-falls {x} {values′} t s =
+      record {
+        under = λ m.
+            falls-to (viewOf (recordAt b p)) values m values′ m
+            (acts m ∙ ap (λ (o : Stated). afterCalc 0 (at b (p + 1) ∷ []) (stateOf values m) (valuesOf o)) t
+            ∙ ap (λ (v : ℕ → ℕ). falls (record { env = v; mem = m })) (put-env s));
+      }
+
+  pub compute-unstated : r ≡ StatedNone → PerformsAlone (viewOf (recordAt b p)) values values (Stops Unstated)
+  compute-unstated t =
+      record {
+        under = λ m.
+            stays (viewOf (recordAt b p)) values m (Stops Unstated)
+            (acts m ∙ ap (λ (o : Stated). afterCalc 0 (at b (p + 1) ∷ []) (stateOf values m) (valuesOf o)) t);
+      }
+
+-- the ops that change nothing
+module _ {b : List ℕ} {p k : ℕ} (s : Stands b p k) (values memory : List ℕ) where
+  alone : (v : View ℕ (List ℕ) Fault) (o : Outcome) → viewOf (recordAt b p) ≡ v → effect 0 v (stateOf values memory) ≡ effectOf o (stateOf values memory)
+      → Performs (viewOf (recordAt b p)) values memory values memory o
+  alone v o e q = stays (viewOf (recordAt b p)) values memory o (ap (λ (w : View ℕ (List ℕ) Fault). effect 0 w (stateOf values memory)) e ∙ q)
+
+  pub step-label : roleOf k ≡ SetsLabel → Performs (viewOf (recordAt b p)) values memory values memory Falls
+  step-label e = alone (label (at b (p + 1))) Falls (label-view s e) refl
+
+  pub step-jumps : roleOf k ≡ Jumps → Performs (viewOf (recordAt b p)) values memory values memory (JumpsTo (at b (p + 1)))
+  step-jumps e = alone (jump (at b (p + 1))) (JumpsTo (at b (p + 1))) (jump-view s e) refl
+
+  pub step-exits : roleOf k ≡ Exits → {x : ℕ} → x ≡ getD values (at b (p + 1)) 0 → Performs (viewOf (recordAt b p)) values memory values memory (Stops (Leaves x))
+  step-exits e {x} q = alone (leave (at b (p + 1))) (Stops (Leaves x)) (leave-view s e) (ap (λ (v : ℕ). stops (exit v)) (sym q))
+
+  pub step-unknown : roleOf k ≡ Unknown → {x : ℕ} → x ≡ getD values 0 0 → Performs (viewOf (recordAt b p)) values memory values memory (Stops (Leaves x))
+  step-unknown e {x} q = alone (leave 0) (Stops (Leaves x)) (unknown-view s e) (ap (λ (v : ℕ). stops (exit v)) (sym q))
+
+  pub step-declares : roleOf k ≡ Declares → {x : ℕ} → x ≡ getD values 0 0 → Performs (viewOf (recordAt b p)) values memory values memory (Stops (Leaves x))
+  step-declares e {x} q = alone (leave 0) (Stops (Leaves x)) (declare-view s e) (ap (λ (v : ℕ). stops (exit v)) (sym q))

@@ -1,0 +1,308 @@
+-- The run of a block's ops, turn by turn: the run of what is left is the run of the whole. Assumes nothing.
+use mathlib.Core.Path.{_≡_, refl, sym, ap, ap₂, _∙_, subst, subst₂}
+use mathlib.Core.Bool.{Bool, true, false, cond}
+use mathlib.Core.Option.{Option, none, some}
+use mathlib.Core.List.{List, [], _∷_}
+use Prim.Native.Nat.{ℕ, zero, suc, _+_, _-_, _*_, _%_, _≤_, _<_}
+use native.Mathlib.Omega.{arith}
+use lib.Dec.{eqb}
+use lib.ListN.{length, getD, drop, drop-of-length-le, length-drop}
+use lib.Seq.{drop-cons, drop-drop}
+use borrow.Author.Tests.{eq-eqb}
+use native.Mathlib.Nat.{zero-add, sub-zero, add-zero, mod-eq-of-lt}
+use native.Mathlib.Numerals.{add-one}
+use Rattle.theory.specs.Checker.{checks}
+use Rattle.theory.specs.Machine.{Touch, faults, gives, View, calc, access, label, jump, branch, leave, fell, Effect, falls}
+use Rattle.theory.specs.Machine.{jumps, stops, reads, afterCalc, afterAccess, effect, St, Result, cost, seek, moved, counted, after, run, runs}
+use Rattle.theory.specs.Sets.{empty}
+use Rattle.theory.proofs.Ends.{isJump}
+use Rattle.ops.specs.Kinds.{bodyLength}
+use Rattle.ops.specs.Ops.{Fault, viewOf, tcg}
+use Rattle.ops.proofs.Sizes.{body-short}
+use Rattle.block.specs.Records.{recordsOf, declarations, opsFrom}
+use Rattle.block.specs.Scan.{recordAt, Stands, placesFrom, recordsAt}
+use Rattle.block.proofs.Parts.{parts}
+use Rattle.block.proofs.Places.{Standing, standing, spanOf, records-from, places-at}
+use Rattle.block.proofs.Steps.{record-length}
+use Rattle.runs.specs.Runs.{answerOf}
+use Rattle.runs.specs.Steps.{stateOf, endOf, effectOf, afterState, Performs, Ready, Executed}
+use Rattle.runs.proofs.Landing.{Lands, jump-lands}
+use Rattle.block.proofs.Checker.{checker, declaredIn, few-ops}
+use Rattle.block.specs.Rules.{start as seenFirst}
+use Rattle.runs.specs.declared.Ending.{Ending}
+use Rattle.runs.specs.declared.Ending.the-variants.{NoResult}
+use Rattle.runs.specs.declared.Outcome.{Outcome}
+use Rattle.runs.specs.declared.Outcome.the-variants.{Falls, JumpsTo, Stops}
+use Rattle.runs.specs.declared.Stop.{Stop}
+use Rattle.runs.specs.declared.Stop.the-variants.{Unstated}
+
+-- a block's ops
+abbrev pub opsOf : List ℕ → List (List ℕ)
+opsOf b = opsFrom (recordsOf b)
+
+-- so many ops were run before
+abbrev pub sooner : ℕ → Result tcg → Result tcg
+sooner n r = record { end = r .end; state = r .state; count = n + r .count; left = r .left }
+
+-- an effect that jumps is a jump's
+effect-jumps : (w : View ℕ (List ℕ) Fault) (s : St tcg) (l : ℕ) → effect 0 w s ≡ jumps l → isJump l w ≡ true
+effect-jumps (calc outs ins f) s l e = no (f (reads (s .env) ins)) e
+  where
+    no : (o : Option (List ℕ)) → afterCalc {Val = ℕ} {Mem = List ℕ} {Flt = Fault} 0 outs s o ≡ jumps l → false ≡ true
+    no none q = let z : _≡_ {A = ℕ} 0 1 = cc in absurd (omega arith)
+    no (some vs) q = let z : _≡_ {A = ℕ} 0 1 = cc in absurd (omega arith)
+effect-jumps (access outs ins f) s l e = no (f (s .mem) (reads (s .env) ins)) e
+  where
+    no : (t : Touch ℕ (List ℕ) Fault) → afterAccess {Val = ℕ} {Mem = List ℕ} {Flt = Fault} 0 outs s t ≡ jumps l → false ≡ true
+    no (faults x) q = let z : _≡_ {A = ℕ} 0 1 = cc in absurd (omega arith)
+    no (gives vs m) q = let z : _≡_ {A = ℕ} 0 1 = cc in absurd (omega arith)
+effect-jumps (label m) s l e = let z : _≡_ {A = ℕ} 0 1 = cc in absurd (omega arith)
+effect-jumps (jump m) s l e = let q : m ≡ l = cc in eq-eqb m l q
+effect-jumps (branch ins f m) s l e = go (f (reads (s .env) ins)) e
+  where
+    go : (t : Bool) → cond {A = Effect ℕ (List ℕ) Fault} t (jumps m) (falls s) ≡ jumps l → eqb m l ≡ true
+    go true q = let z : m ≡ l = cc in eq-eqb m l z
+    go false q = let z : _≡_ {A = ℕ} 0 1 = cc in absurd (omega arith)
+effect-jumps (leave x) s l e = let z : _≡_ {A = ℕ} 0 1 = cc in absurd (omega arith)
+
+-- a record has at most ten bytes
+span-small : (b : List ℕ) (p j : ℕ) (os : List (List ℕ)) → recordsAt b p ≡ os → j ≤ length os → spanOf j os ≤ 10 * j
+span-small b p zero os e l = omega arith
+span-small b p (suc j) [] e l = absurd (omega arith)
+span-small b p (suc j) (o ∷ os) e l =
+    let s = standing b p o os e in
+    let n : length o ≡ suc (bodyLength (getD b p 0)) = sym (ap length (s .record-here)) ∙ record-length b p (s .inside) (s .whole-here) in
+    omega (arith, n, body-short (getD b p 0), span-small b (p + suc (bodyLength (getD b p 0))) j os (s .others) (omega arith))
+
+module _ {b places labels : List ℕ} {start ops : ℕ} (r : Ready b places labels start ops) where
+  checked : checks tcg checker (declaredIn seenFirst (declarations (recordsOf b))) (opsOf b) ≡ true
+  checked = (parts b (r .approved .accepted)) .checked
+
+  pub few : length (opsOf b) ≤ 256
+  few = omega (arith, few-ops (declaredIn seenFirst (declarations (recordsOf b))) (opsOf b) checked (omega arith))
+
+  pub count-of : ops ≡ length (opsOf b)
+  count-of = r .approved .count-is
+
+  -- the j-th op stands at the place that the scan kept
+  pub place-of : (j : ℕ) → j < length (opsOf b) → recordsAt b (getD places j 0) ≡ drop j (opsOf b)
+  place-of j h =
+      let a = r .approved in
+      let e : getD places j 0 ≡ (start + spanOf j (opsOf b)) % 65536 =
+      ap (λ (l : List ℕ). getD l j 0) (a .places-are)
+      ∙ ap (λ (n : ℕ). getD (placesFrom start 0 (r .places₀) (opsOf b)) n 0) (sym (zero-add j))
+      ∙ places-at (opsOf b) start 0 (r .places₀) j h (omega (arith, few, r .long-places)) in
+      let l : start + spanOf j (opsOf b) < 65536 = omega (arith, a .start-is, a .few, few, span-small b start j (opsOf b) (a .ops-are) (omega arith)) in
+      ap (recordsAt b) (e ∙ mod-eq-of-lt l) ∙ records-from b start j (opsOf b) (a .ops-are) (omega arith)
+
+-- op ops on, the ops that are left stand at a place; so many have been run, and the run goes on from here
+pub record Running (b values₀ memory₀ values memory : List ℕ) (op place count : ℕ) : Type 0 where
+  pub fuel : ℕ
+  pub fuel-is : count + fuel ≡ suc (length (opsOf b))
+  pub early : count ≤ op
+  pub within : op ≤ length (opsOf b)
+  pub here : recordsAt b place ≡ drop op (opsOf b)
+  pub goes-on : runs tcg (opsOf b) (stateOf values₀ memory₀) ≡ sooner count (run tcg (seek tcg) fuel (drop op (opsOf b)) (stateOf values memory))
+
+pub running-start : {b places labels : List ℕ} {start ops : ℕ} → Ready b places labels start ops → (values memory : List ℕ) → Running b values memory values memory 0 start 0
+running-start {b} r values memory =
+    record {
+      fuel = suc (length (opsOf b));
+      fuel-is = zero-add (suc (length (opsOf b)));
+      early = omega arith;
+      within = omega arith;
+      here = r .approved .ops-are;
+      goes-on = nothing-sooner (runs tcg (opsOf b) (stateOf values memory));
+    }
+  where
+    nothing-sooner : (q : Result tcg) → q ≡ sooner 0 q
+    nothing-sooner q = ap (λ (n : ℕ). record { end = q .end; state = q .state; count = n; left = q .left }) (sym (zero-add (q .count)))
+
+-- past the last op
+pub fell-past : {b values₀ memory₀ values memory : List ℕ} {op place count ops : ℕ} → Running b values₀ memory₀ values memory op place count → ops ≡ length (opsOf b) → ops ≤ op
+    → Executed b values₀ memory₀ values memory (NoResult ops count)
+fell-past {b} {values₀} {memory₀} {values} {memory} {op} {place} {count} {ops} u e h = go (u .fuel) refl
+  where
+    none-left : drop op (opsOf b) ≡ []
+    none-left = let l : length (opsOf b) ≤ op = omega arith in drop-of-length-le (opsOf b) l
+
+    go : (f : ℕ) → u .fuel ≡ f → Executed b values₀ memory₀ values memory (NoResult ops count)
+    go zero q = absurd (omega (arith, u .fuel-is, u .early, u .within))
+    go (suc n) q =
+        let t : runs tcg (opsOf b) (stateOf values₀ memory₀) ≡ record { end = fell; state = stateOf values memory; count = count + 0; left = [] } =
+        u .goes-on ∙ ap₂ (λ (f : ℕ) (l : List (List ℕ)). sooner count (run tcg (seek tcg) f l (stateOf values memory))) q none-left in
+        record {
+          answers = ap₂ NoResult (e ∙ sym (sub-zero (length (opsOf b)))) (sym (add-zero count)) ∙ sym (ap (λ (x : Result tcg). answerOf (x .end) (length (opsOf b) - length (x .left)) (x .count)) t);
+          state-is = sym (ap (λ (x : Result tcg). x .state) t);
+        }
+
+module _ {b values₀ memory₀ values memory : List ℕ} {op place count : ℕ} (u : Running b values₀ memory₀ values memory op place count) (h : op < length (opsOf b)) where
+  abbrev onward : List (List ℕ)
+  onward = drop (suc op) (opsOf b)
+
+  first : drop op (opsOf b) ≡ getD (opsOf b) op [] ∷ onward
+  first = drop-cons (opsOf b) op [] h
+
+  pub stood : Standing b place (getD (opsOf b) op []) (drop (suc op) (opsOf b))
+  stood = standing b place (getD (opsOf b) op []) onward (u .here ∙ first)
+
+  pub stands-at : (kind : ℕ) → kind ≡ getD b place 0 → Stands b place kind
+  stands-at kind e = record { its-kind = e; whole = rw e (stood .whole-here) }
+
+  pub place-inside : place < length b
+  place-inside = stood .inside
+
+  module _ {values′ memory′ : List ℕ} {o : Outcome} (p : Performs (viewOf (recordAt b place)) values memory values′ memory′ o) where
+    told : effect 0 (viewOf (getD (opsOf b) op [])) (stateOf values memory) ≡ effectOf o (stateOf values′ memory′)
+    told = ap (λ (q : List ℕ). effect 0 (viewOf q) (stateOf values memory)) (sym (stood .record-here)) ∙ sym (p .tells)
+
+    changed : stateOf values′ memory′ ≡ afterState (stateOf values memory) (effectOf o (stateOf values′ memory′))
+    changed = p .leaves-so ∙ ap (afterState (stateOf values memory)) (sym (p .tells))
+
+    more : u .fuel ≡ suc (u .fuel - 1)
+    more = omega (arith, u .fuel-is, u .early)
+
+    -- the run as one step and what follows it
+    turned : runs tcg (opsOf b) (stateOf values₀ memory₀)
+        ≡ sooner count (after tcg (run tcg (seek tcg) (u .fuel - 1)) (drop op (opsOf b)) (stateOf values memory) (moved tcg (seek tcg) onward (stateOf values memory) (effectOf o (stateOf values′ memory′))))
+    turned =
+        u .goes-on ∙ ap (λ (f : ℕ). sooner count (run tcg (seek tcg) f (drop op (opsOf b)) (stateOf values memory))) more
+        ∙ ap (λ (l : List (List ℕ)). sooner count (run tcg (seek tcg) (suc (u .fuel - 1)) l (stateOf values memory))) first
+        ∙ ap (λ (x : Effect ℕ (List ℕ) Fault). sooner count (after tcg (run tcg (seek tcg) (u .fuel - 1)) (getD (opsOf b) op [] ∷ onward) (stateOf values memory) (moved tcg (seek tcg) onward (stateOf values memory) x))) told
+        ∙ ap (λ (l : List (List ℕ)). sooner count (after tcg (run tcg (seek tcg) (u .fuel - 1)) l (stateOf values memory) (moved tcg (seek tcg) onward (stateOf values memory) (effectOf o (stateOf values′ memory′))))) (sym first)
+
+    counts : (q : Result tcg) → sooner count (counted tcg q) ≡ sooner (count + 1) q
+    counts q = let e : count + suc (q .count) ≡ count + 1 + q .count = omega arith in ap (λ (n : ℕ). record { end = q .end; state = q .state; count = n; left = q .left }) e
+
+    -- the op that ends the run
+    pub run-stops : {e : Stop} → o ≡ Stops e → {ending : Ending} → ending ≡ answerOf (endOf e) op (count + cost (endOf e)) → Executed b values₀ memory₀ values′ memory′ ending
+    run-stops {e} k a =
+        let q : effectOf o (stateOf values′ memory′) ≡ stops (endOf e) = ap (λ (x : Outcome). effectOf x (stateOf values′ memory′)) k in
+        let t : runs tcg (opsOf b) (stateOf values₀ memory₀) ≡ record { end = endOf e; state = stateOf values memory; count = count + cost (endOf e); left = drop op (opsOf b) } =
+        turned ∙ ap (λ (x : Effect ℕ (List ℕ) Fault). sooner count (after tcg (run tcg (seek tcg) (u .fuel - 1)) (drop op (opsOf b)) (stateOf values memory) (moved tcg (seek tcg) onward (stateOf values memory) x))) q in
+        let n : op ≡ length (opsOf b) - length (drop op (opsOf b)) = omega (arith, length-drop op (opsOf b)) in
+        record {
+          answers = a ∙ ap (λ (i : ℕ). answerOf (endOf e) i (count + cost (endOf e))) n ∙ sym (ap (λ (x : Result tcg). answerOf (x .end) (length (opsOf b) - length (x .left)) (x .count)) t);
+          state-is = changed ∙ ap (afterState (stateOf values memory)) q ∙ sym (ap (λ (x : Result tcg). x .state) t);
+        }
+
+  module _ {values′ memory′ : List ℕ} where
+    -- the next op
+    pub run-falls : Performs (viewOf (recordAt b place)) values memory values′ memory′ Falls → {n : ℕ} → n ≡ bodyLength (getD b place 0)
+        → Running b values₀ memory₀ values′ memory′ (op + 1) (place + (1 + n)) (count + 1)
+    run-falls p {n} e =
+        record {
+          fuel = u .fuel - 1;
+          fuel-is = omega (arith, u .fuel-is, u .early);
+          early = omega (arith, u .early);
+          within = omega arith;
+          here = ap (recordsAt b) next-place ∙ stood .others ∙ ap (λ (i : ℕ). drop i (opsOf b)) (sym (add-one op));
+          goes-on =
+              turned p ∙ counts p (run tcg (seek tcg) (u .fuel - 1) onward (stateOf values′ memory′))
+              ∙ ap (λ (i : ℕ). sooner (count + 1) (run tcg (seek tcg) (u .fuel - 1) (drop i (opsOf b)) (stateOf values′ memory′))) (sym (add-one op));
+        }
+      where
+        next-place : place + (1 + n) ≡ place + suc (bodyLength (getD b place 0))
+        next-place = omega (arith, e)
+
+    -- a jump
+    module _ {places labels : List ℕ} {start ops : ℕ} (r : Ready b places labels start ops) {l : ℕ} (p : Performs (viewOf (recordAt b place)) values memory values′ memory′ (JumpsTo l)) where
+      pub landing : Lands (drop (suc op) (opsOf b)) l (getD labels l 0) (suc op)
+      landing =
+          subst (λ (x : List ℕ). Lands (drop (suc op) (opsOf b)) l (getD x l 0) (suc op)) (sym (r .approved .labels-are))
+          (jump-lands (declaredIn seenFirst (declarations (recordsOf b))) (opsOf b) op l (getD (opsOf b) op []) onward (checked r) no-labels first
+          (effect-jumps (viewOf (getD (opsOf b) op [])) (stateOf values memory) l (told p)))
+        where
+          no-labels : (declaredIn seenFirst (declarations (recordsOf b))) .labels ≡ empty
+          no-labels = refl
+
+      -- its label has a number, of an op further on
+      pub has-number : 1 ≤ getD labels l 0
+      has-number = omega (arith, landing .numbered-so)
+
+      pub lands-on : op < getD labels l 0 - 1
+      lands-on = omega (arith, landing .numbered-so)
+
+      pub lands-inside : getD labels l 0 - 1 < length (opsOf b)
+      lands-inside = omega (arith, landing .numbered-so, landing .inside, length-drop (suc op) (opsOf b))
+
+      pub run-jumps : Running b values₀ memory₀ values′ memory′ (getD labels l 0 - 1) (getD places (getD labels l 0 - 1) 0) (count + 1)
+      run-jumps =
+          record {
+            fuel = u .fuel - 1;
+            fuel-is = omega (arith, u .fuel-is, u .early);
+            early = omega (arith, u .early, lands-on);
+            within = omega (arith, lands-inside);
+            here = place-of r (getD labels l 0 - 1) lands-inside;
+            goes-on =
+                turned p ∙ counts p (run tcg (seek tcg) (u .fuel - 1) (seek tcg l onward) (stateOf values memory))
+                ∙ ap₂ (λ (q : List (List ℕ)) (s : St tcg). sooner (count + 1) (run tcg (seek tcg) (u .fuel - 1) q s)) target (sym (changed p));
+          }
+        where
+          target : seek tcg l onward ≡ drop (getD labels l 0 - 1) (opsOf b)
+          target =
+              let e : suc op + landing .on ≡ getD labels l 0 - 1 = omega (arith, landing .numbered-so) in
+              landing .here ∙ drop-drop (landing .on) (suc op) (opsOf b) ∙ ap (λ (i : ℕ). drop i (opsOf b)) e
+
+-- the same, as the loop finds it
+pub ends-past : {b values₀ memory₀ values memory places labels : List ℕ} {op place count start ops : ℕ} → Ready b places labels start ops
+    → Running b values₀ memory₀ values memory op place count → ops ≤ op → Executed b values₀ memory₀ values memory (NoResult ops count)
+ends-past r u h = fell-past u (count-of r) h
+
+-- a turn of the loop: the run stands at one of the ops
+pub record Turn (b values₀ memory₀ values memory places labels : List ℕ) (op place count start ops : ℕ) : Type 0 where
+  pub ready : Ready b places labels start ops
+  pub running : Running b values₀ memory₀ values memory op place count
+  pub more-ops : op < ops
+
+module _ {b values₀ memory₀ values memory places labels : List ℕ} {op place count start ops : ℕ} (t : Turn b values₀ memory₀ values memory places labels op place count start ops) where
+  due : op < length (opsOf b)
+  due = omega (arith, count-of (t .ready), t .more-ops)
+
+  pub inside-now : place < length b
+  inside-now = place-inside (t .running) due
+
+  pub stands-now : Stands b place (getD b place 0)
+  stands-now = stands-at (t .running) due (getD b place 0) refl
+
+  pub body-now : {n : ℕ} → n ≡ bodyLength (getD b place 0) → place + (1 + n) ≤ length b
+  body-now e = omega (arith, stands-now .whole)
+
+  pub few-now : count < 256
+  few-now = omega (arith, t .running .early, due, few (t .ready))
+
+  module _ {values′ memory′ : List ℕ} {o : Outcome} (p : Performs (viewOf (recordAt b place)) values memory values′ memory′ o) where
+    so : {x : Outcome} → o ≡ x → Performs (viewOf (recordAt b place)) values memory values′ memory′ x
+    so e = subst (Performs (viewOf (recordAt b place)) values memory values′ memory′) e p
+
+    pub stops-now : {e : Stop} → o ≡ Stops e → {ending : Ending} → ending ≡ answerOf (endOf e) op (count + cost (endOf e)) → Executed b values₀ memory₀ values′ memory′ ending
+    stops-now e a = run-stops (t .running) due p e a
+
+    pub falls-on : o ≡ Falls → {n op′ place′ : ℕ} → n ≡ bodyLength (getD b place 0) → op′ ≡ op + 1 → place′ ≡ place + (1 + n)
+        → (op < op′) × Running b values₀ memory₀ values′ memory′ op′ place′ (count + 1)
+    falls-on e {n} {op′} {place′} l q w =
+        (omega (arith, q), subst₂ (λ (x y : ℕ). Running b values₀ memory₀ values′ memory′ x y (count + 1)) (sym q) (sym w) (run-falls (t .running) due (so e) l))
+
+    -- the label's number, as it is read
+    module _ {l i m : ℕ} (e : o ≡ JumpsTo l) (ei : i ≡ l) (em : m ≡ getD labels i 0) where
+      number : m ≡ getD labels l 0
+      number = em ∙ ap (λ (x : ℕ). getD labels x 0) ei
+
+      pub number-now : 1 ≤ m
+      number-now = omega (arith, number, has-number (t .running) due (t .ready) (so e))
+
+      pub target-now : m - 1 < 256
+      target-now = omega (arith, number, lands-inside (t .running) due (t .ready) (so e), few (t .ready))
+
+      pub jumps-on : {op′ q place′ : ℕ} → q ≡ getD places (m - 1) 0 → op′ ≡ m - 1 → place′ ≡ q → (op < op′) × Running b values₀ memory₀ values′ memory′ op′ place′ (count + 1)
+      jumps-on {op′} {q} {place′} eq eo ep =
+          let n : op′ ≡ getD labels l 0 - 1 = eo ∙ ap (λ (x : ℕ). x - 1) number in
+          let w : place′ ≡ getD places (getD labels l 0 - 1) 0 = ep ∙ eq ∙ ap (λ (x : ℕ). getD places (x - 1) 0) number in
+          (omega (arith, n, lands-on (t .running) due (t .ready) (so e)), subst₂ (λ (x y : ℕ). Running b values₀ memory₀ values′ memory′ x y (count + 1)) (sym n) (sym w) (run-jumps (t .running) due (t .ready) (so e)))
+
+-- the answer of the op that ends the run
+pub ended-so : (op count : ℕ) {s t : Stop} → s ≡ t → answerOf (endOf t) op (count + cost (endOf t)) ≡ answerOf (endOf s) op (count + cost (endOf s))
+ended-so op count e = sym (ap (λ (s : Stop). answerOf (endOf s) op (count + cost (endOf s))) e)
+
+pub ended-uncounted : (op count : ℕ) {s : Stop} → s ≡ Unstated → NoResult op count ≡ answerOf (endOf s) op (count + cost (endOf s))
+ended-uncounted op count e = ap (NoResult op) (sym (add-zero count)) ∙ ended-so op count e

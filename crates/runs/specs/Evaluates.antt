@@ -1,0 +1,33 @@
+-- What a pure op states of its inputs, where it stands in a block. Assumes nothing.
+use mathlib.Core.Path.{_≡_}
+use mathlib.Core.Option.{Option, none, some}
+use mathlib.Core.List.{List, [], _∷_}
+use Prim.Native.Nat.{ℕ, _+_}
+use lib.ListN.{length, getD, take, drop}
+use Rattle.ops.specs.Kinds.{rowOf}
+use Rattle.ops.specs.Ops.{bytesAt, evalOf}
+use Rattle.ops.specs.Table.{operandCount, roleOf}
+use Rattle.block.specs.Scan.{Stands}
+use Rattle.word.specs.declared.Stated.{Stated}
+use Rattle.word.specs.declared.Stated.the-variants.{Value, NoResult}
+use Rattle.ops.specs.declared.Role.the-variants.{Computes}
+
+-- a pure op that reads something stands at the place
+pub record Computed (block : List ℕ) (place kind : ℕ) : Type 0 where
+  pub stands : Stands block place kind
+  pub role-is : roleOf kind ≡ Computes
+
+-- its inputs, and what it states of their values
+abbrev pub inputsAt : List ℕ → ℕ → ℕ → List ℕ
+inputsAt block place kind = bytesAt block (place + 2) (length ((rowOf kind) .ins))
+
+abbrev pub statesAt : List ℕ → ℕ → ℕ → List ℕ → Option (List ℕ)
+statesAt block place kind = evalOf kind (take ((rowOf kind) .rest) (drop (place + (1 + operandCount kind)) block))
+
+abbrev pub valuesOf : Stated → Option (List ℕ)
+valuesOf (Value x) = some (x ∷ [])
+valuesOf NoResult = none
+
+-- what the variables hold, from a list of their values
+abbrev pub envOf : List ℕ → ℕ → ℕ
+envOf values = λ v. getD values v 0

@@ -1,0 +1,78 @@
+-- The run: its answer, and the globals and memory that it leaves. Assumes nothing.
+use Prim.Native.Nat.{ℕ, zero, suc, _-_}
+use mathlib.Core.Bool.{Bool, true, cond, _&&_}
+use mathlib.Core.List.{List, [], _∷_}
+use lib.Dec.{eqb, leb}
+use lib.ListN.{length, getD}
+use Rattle.theory.specs.Machine.{St, End, exit, fault, unstated, fell, spent, Result, runs}
+use Rattle.ops.specs.Kinds.{narrowOk}
+use Rattle.ops.specs.Ops.{tcg}
+use Rattle.block.specs.declared.Verdict.{Verdict}
+use Rattle.block.specs.declared.Verdict.the-variants.{Accepted, Refused as CheckRefused}
+use Rattle.block.specs.Records.{recordsOf, declarations, opsFrom, classesOf, widthsOf, globalCount}
+use Rattle.block.specs.Checks.{checkOf}
+use Rattle.runs.specs.declared.Ending.{Ending}
+use Rattle.runs.specs.declared.Ending.the-variants.{Refused, Exit, Fault, NoResult}
+
+-- 11: "number of lent globals differs from those declared, a 32-bit global of 2^32 or more, memory above 65,536 bytes"
+abbrev pub globalsFit : List ℕ → List ℕ → Bool
+globalsFit ws [] = true
+globalsFit [] (g ∷ gs) = true
+globalsFit (w ∷ ws) (g ∷ gs) = narrowOk w g && globalsFit ws gs
+
+unfoldable pub fits : List (List ℕ) → List ℕ → List ℕ → Bool
+fits declared globals memory = eqb (length globals) (globalCount (classesOf declared)) && globalsFit (widthsOf declared) globals && leb (length memory) 65536
+
+-- "Globals outlive the block. Local temporaries last for the block and start at zero (our rule)."
+abbrev pub entry : List ℕ → List ℕ → St tcg
+entry globals memory = record { env = λ v. getD globals v 0; mem = memory }
+
+-- n values from the variable v on
+abbrev pub valuesFrom : (ℕ → ℕ) → ℕ → ℕ → List ℕ
+valuesFrom env v zero = []
+valuesFrom env v (suc n) = env v ∷ valuesFrom env (suc v) n
+
+-- what a run answers, and what it leaves in the lent globals and memory
+pub record Ran : Type 0 where
+  pub answer : Ending
+  pub globals : List ℕ
+  pub memory : List ℕ
+
+-- the run that ended with this answer and left these globals and memory
+abbrev pub ranAs : Ending → List ℕ → List ℕ → Ran
+ranAs answer globals memory = record { answer = answer; globals = globals; memory = memory }
+
+-- "It ends in one of three ways: exit with a value; fault with load or store, address and flags; or no stated result, with the op's
+-- position counted from 0 among the ops." No run of an accepted block falls past its last op or uses up its steps (proofs/Ends)
+abbrev pub answerOf : End ℕ (tcg .Flt) → ℕ → ℕ → Ending
+answerOf (exit v) position count = Exit v count
+answerOf (fault f) position count = Fault (f .store) (f .address) (f .flags) count
+answerOf unstated position count = NoResult position count
+answerOf fell position count = NoResult position count
+answerOf spent position count = NoResult position count
+
+-- "The globals and memory then hold what the completed ops left."
+abbrev pub ranOf : ℕ → ℕ → Result tcg → Ran
+ranOf ops globals r =
+    record {
+      answer = answerOf (r .end) (ops - length (r .left)) (r .count);
+      globals = valuesFrom (r .state .env) 0 globals;
+      memory = r .state .mem;
+    }
+
+unfoldable pub runOps : List (List ℕ) → List ℕ → List ℕ → Ran
+runOps ops globals memory = ranOf (length ops) (length globals) (runs tcg ops (entry globals memory))
+
+-- "A refusal changes no lent buffer and carries only its number and place."
+abbrev pub runRefused : ℕ → ℕ → List ℕ → List ℕ → Ran
+runRefused number place globals memory = record { answer = Refused number place; globals = globals; memory = memory }
+
+-- "A run takes the block, the globals as 64-bit numbers, and the memory." First the check's rules, then 11
+unfoldable pub runChecked : List (List ℕ) → List ℕ → List ℕ → Verdict → Ran
+runChecked records globals memory (CheckRefused number place) = runRefused number place globals memory
+runChecked records globals memory Accepted =
+    let ran = runOps (opsFrom records) globals memory in
+    cond (fits (declarations records) globals memory) ran (runRefused 11 0 globals memory)
+
+unfoldable pub runOf : List ℕ → List ℕ → List ℕ → Ran
+runOf block globals memory = runChecked (recordsOf block) globals memory (checkOf block)

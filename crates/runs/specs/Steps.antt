@@ -1,0 +1,95 @@
+-- What a step and the loop over the ops come to. Assumes nothing.
+use mathlib.Core.Path.{_≡_}
+use mathlib.Core.Bool.{Bool, _&&_}
+use mathlib.Core.Option.{some}
+use mathlib.Core.List.{List, [], _∷_, map}
+use Prim.Native.Nat.{ℕ, _+_, _-_}
+use lib.Dec.{eqb, leb}
+use lib.ListN.{length, take}
+use Rattle.theory.specs.Machine.{View, calc, access, branch, End, exit, fault, unstated, Effect, falls, jumps, stops, effect, St, runs}
+use Rattle.word.specs.Condition.{condW}
+use Rattle.memory.specs.Access.{loadAt, storeAt}
+use Rattle.memory.specs.Answer.{accessWidth}
+use Rattle.memory.specs.Bytes.{lowFirst}
+use Rattle.ops.specs.Kinds.{at}
+use Rattle.ops.specs.Ops.{atWidths, Fault, faultOf, afterLoad, afterStore, tcg}
+use Rattle.block.specs.Records.{recordsOf, opsFrom, widthOf}
+use Rattle.block.specs.Scan.{Approved}
+use Rattle.runs.specs.Evaluates.{envOf}
+use Rattle.runs.specs.Runs.{globalsFit, answerOf}
+use Rattle.runs.specs.declared.Ending.{Ending}
+use Rattle.runs.specs.declared.Outcome.{Outcome}
+use Rattle.runs.specs.declared.Outcome.the-variants.{Falls, JumpsTo, Stops}
+use Rattle.runs.specs.declared.Stop.{Stop}
+use Rattle.runs.specs.declared.Stop.the-variants.{Leaves, Faults, Unstated}
+
+-- the machine's state, from the values of the variables and the memory
+abbrev pub stateOf : List ℕ → List ℕ → St tcg
+stateOf values memory = record { env = envOf values; mem = memory }
+
+-- how a run ends, and the effect that an outcome tells, with the state that an op leaves to the next
+abbrev pub endOf : Stop → End ℕ Fault
+endOf (Leaves v) = exit v
+endOf (Faults store address flags) = fault (faultOf store address flags)
+endOf Unstated = unstated
+
+abbrev pub effectOf : Outcome → St tcg → Effect ℕ (List ℕ) Fault
+effectOf Falls t = falls t
+effectOf (JumpsTo l) t = jumps l
+effectOf (Stops e) t = stops (endOf e)
+
+-- the state after an effect: only an op that leaves one to the next changes it
+abbrev pub afterState : St tcg → Effect ℕ (List ℕ) Fault → St tcg
+afterState s (falls t) = t
+afterState s (jumps l) = s
+afterState s (stops e) = s
+
+-- an op with this view is run: its outcome, and what it leaves in the values and the memory
+pub record Performs (w : View ℕ (List ℕ) Fault) (values memory values′ memory′ : List ℕ) (outcome : Outcome) : Type 0 where
+  pub tells : effectOf outcome (stateOf values′ memory′) ≡ effect 0 w (stateOf values memory)
+  pub leaves-so : stateOf values′ memory′ ≡ afterState (stateOf values memory) (effect 0 w (stateOf values memory))
+
+-- the same where the op leaves every memory as it is
+pub record PerformsAlone (w : View ℕ (List ℕ) Fault) (values values′ : List ℕ) (outcome : Outcome) : Type 0 where
+  pub under : (m : List ℕ) → Performs w values m values′ m outcome
+
+-- the scan has accepted the block, and kept where its ops and labels are
+pub record Ready (block places labels : List ℕ) (start ops : ℕ) : Type 0 where
+  pub places₀ : List ℕ
+  pub classes : List ℕ
+  pub types : List ℕ
+  pub n : ℕ
+  pub globals : ℕ
+  pub approved : Approved block places₀ classes types places labels start n globals ops
+  pub long-places : length places₀ ≡ 256
+
+-- the run of a block's ops from these values and this memory: the answer, and what is left in both
+pub record Executed (block values memory values′ memory′ : List ℕ) (ending : Ending) : Type 0 where
+  pub answers :
+      let ops = opsFrom (recordsOf block) in
+      let r = runs tcg ops (stateOf values memory) in
+      ending ≡ answerOf (r .end) (length ops - length (r .left)) (r .count)
+  pub state-is : stateOf values′ memory′ ≡ (runs tcg (opsFrom (recordsOf block)) (stateOf values memory)) .state
+
+-- rule 11, where n variables have these types and so many of them are globals
+abbrev pub lentOk : List ℕ → ℕ → ℕ → List ℕ → List ℕ → Bool
+lentOk types n declared globals memory = eqb (length globals) declared && globalsFit (map widthOf (take n types)) globals && leb (length memory) 65536
+
+-- the views of the ops that a step takes apart, from the bytes of the block after the place
+abbrev pub branchOp : List ℕ → ℕ → Bool → View ℕ (List ℕ) Fault
+branchOp b p wide =
+    let w = accessWidth wide in
+    branch (at b (p + 1) ∷ at b (p + 2) ∷ []) (λ vs. let xs = atWidths (w ∷ w ∷ []) vs in condW w (at b (p + 3)) (at xs 0) (at xs 1)) (at b (p + 4))
+
+abbrev pub loadOp : List ℕ → ℕ → Bool → View ℕ (List ℕ) Fault
+loadOp b p wide =
+    let f = at b (p + 3) in
+    access (at b (p + 1) ∷ []) (at b (p + 2) ∷ []) (λ m vs. let q = at vs 0 in afterLoad m q f (loadAt (accessWidth wide) f m q))
+
+abbrev pub storeOp : List ℕ → ℕ → View ℕ (List ℕ) Fault
+storeOp b p =
+    let f = at b (p + 3) in
+    access [] (at b (p + 1) ∷ at b (p + 2) ∷ []) (λ m vs. let q = at vs 1 in afterStore q f (storeAt f m q (at vs 0)))
+
+abbrev pub constantOp : List ℕ → ℕ → View ℕ (List ℕ) Fault
+constantOp b p = calc (at b (p + 1) ∷ []) [] (λ vs. some (lowFirst b (p + 2) 8 ∷ []))

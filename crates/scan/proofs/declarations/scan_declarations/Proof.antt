@@ -1,0 +1,113 @@
+-- `scan_declarations` reads the declarations. Assumes nothing.
+use mathlib.Core.Logic.{⊎-elim}
+use Prim.Native.Nat.{_-_, _≤_}
+use native.Mathlib.Omega.{arith}
+use lib.ListN.{length}
+use borrow.Author.Tests.{not-true, not-false}
+use borrow.Author.Needs.{needs}
+use Rattle.block.specs.Scan.{Declaring}
+use Rattle.block.proofs.Declaring.{declaring-few, declaring-start, short-by, ended-by, stopped-by, Here, refused-by, again-global, again-other}
+use Rattle.scan.proofs.declarations.scan_declarations.Statement.{statement}
+use Rattle.scan.proofs.declarations.scan_declarations.Tie as tie
+
+abbrev Inv-loop : tie.InvT-loop
+Inv-loop block classes₀ types₀ n₀ globals₀ at₀ classes types n globals at = (at ≤ length block) × Declaring block classes types at n globals
+
+abbrev μ-loop : tie.MeasureT-loop
+μ-loop block classes₀ types₀ n₀ globals₀ at₀ classes types n globals at = length block - at
+
+loop-holds : tie.Need-loop-holds Inv-loop μ-loop
+loop-holds c = (omega arith, declaring-start _ _ _ (c .before .pre .0) (c .before .pre .1))
+
+-- the test that leaves a whole declaration, and what is then known
+abbrev turn : tie.Else2 Inv-loop μ-loop → tie.In-loop Inv-loop μ-loop
+turn c = c .before .before .before
+
+here : (c : tie.Else2 Inv-loop μ-loop) → Here (turn c .before .loop .inv .1)
+here c = record { inside = turn c .loop-test .taken; declares-here = c .before .if1 .left; whole = c .if2 .left }
+
+shared-slice-read-if1 : tie.Need-shared-slice-read-if1 Inv-loop μ-loop
+shared-slice-read-if1 c = search needs
+
+sub-if2 : tie.Need-sub-if2 Inv-loop μ-loop
+sub-if2 c = search needs
+
+returns : tie.Need-returns Inv-loop μ-loop
+returns c = short-by (c .before .before .before .before .loop .inv .1) (c .before .before .before .loop-test .taken) (c .before .if1 .left) (c .if2 .taken)
+
+add-class : tie.Need-add-class Inv-loop μ-loop
+add-class c = search needs
+
+shared-slice-read-class : tie.Need-shared-slice-read-class Inv-loop μ-loop
+shared-slice-read-class c = search needs
+
+add-ty : tie.Need-add-ty Inv-loop μ-loop
+add-ty c = search needs
+
+shared-slice-read-ty : tie.Need-shared-slice-read-ty Inv-loop μ-loop
+shared-slice-read-ty c = search needs
+
+declaration-ok-requires : tie.Need-declaration-ok-requires Inv-loop μ-loop
+declaration-ok-requires c κs = search needs
+
+returns-2 : tie.Need-returns-2 Inv-loop μ-loop
+returns-2 c = refused-by (here (c .before .before .before .before)) (c .before .declaration-ok .ensures) (not-true _ (c .if3 .taken))
+
+element-write-classes : tie.Need-element-write-classes Inv-loop μ-loop
+element-write-classes c = search needs
+
+element-write-types : tie.Need-element-write-types Inv-loop μ-loop
+element-write-types c = search needs
+
+add-globals : tie.Need-add-globals Inv-loop μ-loop
+add-globals c =
+    let d = turn (c .before .before .before .before .before) .before .loop .inv .1 in
+    omega (arith, declaring-few d, d .few)
+
+add-n : tie.Need-add-n Inv-loop μ-loop
+add-n c = search needs
+
+add-at : tie.Need-add-at Inv-loop μ-loop
+add-at c = search needs
+
+loop-less : tie.Need-loop-less Inv-loop μ-loop
+loop-less c = search needs
+
+loop-again : tie.Need-loop-again Inv-loop μ-loop
+loop-again c =
+    let h = here (c .before .before .before .before .before) in
+    let ok = c .before .before .declaration-ok .ensures in
+    let t = not-false (c .before .before .declaration-ok .result) (c .before .if3 .left) in
+    (omega arith, ⊎-elim (λ w. again-global h ok t (w .0 .taken) (w .1)) (λ w. again-other h ok t (w .0 .left) (w .1)) (c .if4 .came))
+
+returns-3 : tie.Need-returns-3 Inv-loop μ-loop
+returns-3 c = ended-by (c .before .loop .inv .1) (c .loop-test .left)
+
+returns-4 : tie.Need-returns-4 Inv-loop μ-loop
+returns-4 c = stopped-by (c .before .before .before .loop .inv .1) (c .if1 .taken)
+
+pub scan-declarations-spec : {M : Type 1} → statement M
+scan-declarations-spec =
+    tie.close
+    (tie.spec
+    Inv-loop
+    μ-loop
+    loop-holds
+    shared-slice-read-if1
+    sub-if2
+    returns
+    add-class
+    shared-slice-read-class
+    add-ty
+    shared-slice-read-ty
+    declaration-ok-requires
+    returns-2
+    element-write-classes
+    element-write-types
+    add-globals
+    add-n
+    add-at
+    loop-less
+    loop-again
+    returns-3
+    returns-4)

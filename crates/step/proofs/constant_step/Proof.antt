@@ -1,0 +1,30 @@
+-- A constant: the eight bytes. Assumes nothing.
+use borrow.Author.Needs.{needs}
+use Rattle.runs.proofs.Performed.{constant-falls}
+use Rattle.step.proofs.constant_step.Statement.{statement}
+use Rattle.step.proofs.constant_step.Tie as tie
+
+add-put : tie.Need-add-put
+add-put c = search needs
+
+shared-slice-read-put : tie.Need-shared-slice-read-put
+shared-slice-read-put c = search needs
+
+add-low-first : tie.Need-add-low-first
+add-low-first c = search needs
+
+low-first-requires : tie.Need-low-first-requires
+low-first-requires c κs = search needs
+
+put-requires : tie.Need-put-requires
+put-requires c κs = search needs
+
+returns : tie.Need-returns
+returns c =
+    let args = c .before .before .before .before .before .args in
+    constant-falls (args .block .now) (args .values .now) _ (args .at) (c .before .low-first .ensures .0) (c .put .ensures)
+
+pub constant-step-spec : {M : Type 1} → statement M
+constant-step-spec =
+    tie.close
+    (tie.spec add-put shared-slice-read-put add-low-first low-first-requires put-requires returns)

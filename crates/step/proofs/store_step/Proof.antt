@@ -1,0 +1,72 @@
+-- A store: it is served, or it faults and leaves the memory. Assumes nothing.
+use borrow.Author.Needs.{needs}
+use Rattle.runs.proofs.Performed.{store-falls, stores-fault}
+use Rattle.step.proofs.store_step.Statement.{statement}
+use Rattle.step.proofs.store_step.Tie as tie
+
+add-get : tie.Need-add-get
+add-get c = search needs
+
+shared-slice-read-get : tie.Need-shared-slice-read-get
+shared-slice-read-get c = search needs
+
+get-requires : tie.Need-get-requires
+get-requires c κs = search needs
+
+add-get-2 : tie.Need-add-get-2
+add-get-2 c = search needs
+
+shared-slice-read-get-2 : tie.Need-shared-slice-read-get-2
+shared-slice-read-get-2 c = search needs
+
+get-requires-2 : tie.Need-get-requires-2
+get-requires-2 c κs = search needs
+
+add-flags : tie.Need-add-flags
+add-flags c = search needs
+
+shared-slice-read-flags : tie.Need-shared-slice-read-flags
+shared-slice-read-flags c = search needs
+
+store-requires : tie.Need-store-requires
+store-requires c κs = search needs
+
+same-length : tie.Need-same-length
+same-length c = search needs
+
+returns : tie.Need-returns
+returns c =
+    let args = c .before .before .before .before .before .before .before .before .before .before .before .before .args in
+    let get = c .before .before .before .before .before .before .before .before .get .ensures in
+    let get2 = c .before .before .before .before .before .before .get2 .ensures in
+    let store = c .before .before .before .store .ensures in
+    store-falls (args .block .now) (args .values .now) (args .memory .now) (args .at) get get2 store (c .if1 .taken)
+
+same-length-2 : tie.Need-same-length-2
+same-length-2 c = search needs
+
+returns-2 : tie.Need-returns-2
+returns-2 c =
+    let args = c .before .before .before .before .before .before .before .before .before .before .before .before .args in
+    let get = c .before .before .before .before .before .before .before .before .get .ensures in
+    let get2 = c .before .before .before .before .before .before .get2 .ensures in
+    let store = c .before .before .before .store .ensures in
+    stores-fault (args .block .now) (args .values .now) (args .memory .now) (args .at) get get2 store (c .if1 .left)
+
+pub store-step-spec : {M : Type 1} → statement M
+store-step-spec =
+    tie.close
+    (tie.spec
+    add-get
+    shared-slice-read-get
+    get-requires
+    add-get-2
+    shared-slice-read-get-2
+    get-requires-2
+    add-flags
+    shared-slice-read-flags
+    store-requires
+    same-length
+    returns
+    same-length-2
+    returns-2)

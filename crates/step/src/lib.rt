@@ -1,0 +1,147 @@
+// One op run: what it does to the values and the memory, and how the run goes on.
+ghost use mathlib.Core.Path.{_≡_};
+ghost use Prim.Native.Nat.{_+_, _≤_, _<_, _%_, _^_};
+ghost use lib.ListN.{length};
+ghost use Rattle.word.specs.Condition.{condW};
+ghost use Rattle.memory.specs.Answer.{accessWidth};
+ghost use Rattle.ops.specs.Ops.{viewOf};
+ghost use Rattle.ops.specs.Table.{kindTable};
+ghost use Rattle.block.specs.Scan.{recordAt, Stands};
+ghost use Rattle.runs.specs.Evaluates.{Computed};
+ghost use Rattle.runs.specs.Steps.{Performs, PerformsAlone, branchOp, loadOp, storeOp, constantOp};
+use kinds::is_wide;
+use kinds::role_of;
+use memory::Loaded;
+use memory::load;
+use memory::low_first;
+use memory::store;
+use ops::Role;
+use runs::Outcome;
+use runs::Stop;
+use values::evaluate;
+use values::get;
+use values::put;
+use widths::condition::holds32;
+use widths::condition::holds64;
+use widths::convert::trunc_i64_i32;
+use word::Stated;
+
+// A condition at 64 bits, or at 32.
+fn holds(c: u8, a: u64, b: u64, wide: bool) -> bool
+    ensures { λ r. ⌜ r ≡ condW (accessWidth wide) c (a % 2 ^ accessWidth wide) (b % 2 ^ accessWidth wide) ⌝ }
+{
+    if wide {
+        return holds64(c, a, b);
+    }
+    holds32(c, trunc_i64_i32(a), trunc_i64_i32(b))
+}
+
+// brcond: c1, c2, condition, label.
+fn branch_step(block: &[u8], at: usize, wide: bool, values: &[u64; 256]) -> Outcome
+    requires { ⌜ at + 4 < length (now block) ⌝ }
+    ensures { λ r. ⌜ PerformsAlone (branchOp (now (block .entry)) at wide) (now (values .entry)) (now (values .entry)) r ⌝ }
+{
+    let a = get(values, block[at + 1]);
+    let b = get(values, block[at + 2]);
+    let label = block[at + 4];
+    if holds(block[at + 3], a, b, wide) {
+        return Outcome::JumpsTo(label);
+    }
+    Outcome::Falls
+}
+
+// qemu_ld: d, address, flags.
+fn load_step(block: &[u8], at: usize, wide: bool, values: &mut [u64; 256], memory: &[u8]) -> Outcome
+    requires { ⌜ at + 3 < length (now block) ⌝ }
+    ensures { λ r. ⌜ Performs (loadOp (now (block .entry)) at wide) (now (values .entry)) (now (memory .entry)) (now (values .exit)) (now (memory .entry)) r ⌝ }
+{
+    let address = get(values, block[at + 2]);
+    let flags = block[at + 3];
+    let loaded = load(memory, address, flags, wide);
+    match loaded {
+        Loaded::Value(x) => {
+            put(values, block[at + 1], x);
+            Outcome::Falls
+        }
+        Loaded::Fault => Outcome::Stops(Stop::Faults {
+            store: false,
+            address,
+            flags,
+        }),
+    }
+}
+
+// qemu_st: value, address, flags.
+fn store_step(block: &[u8], at: usize, values: &[u64; 256], memory: &mut [u8]) -> Outcome
+    requires { ⌜ at + 3 < length (now block) ⌝ }
+    ensures { λ r. ⌜ Performs (storeOp (now (block .entry)) at) (now (values .entry)) (now (memory .entry)) (now (values .entry)) (now (memory .exit)) r ⌝ }
+{
+    let value = get(values, block[at + 1]);
+    let address = get(values, block[at + 2]);
+    let flags = block[at + 3];
+    if store(memory, address, flags, value) {
+        return Outcome::Falls;
+    }
+    Outcome::Stops(Stop::Faults {
+        store: true,
+        address,
+        flags,
+    })
+}
+
+// movi: d, eight bytes.
+fn constant_step(block: &[u8], at: usize, values: &mut [u64; 256]) -> Outcome
+    requires { ⌜ at + 10 ≤ length (now block) ⌝ }
+    ensures { λ r. ⌜ PerformsAlone (constantOp (now (block .entry)) at) (now (values .entry)) (now (values .exit)) r ⌝ }
+{
+    put(values, block[at + 1], low_first(block, at + 2, 8));
+    Outcome::Falls
+}
+
+// A pure op that reads something: d, its inputs, and for some the condition.
+fn compute_step(
+    kinds: &[u32; 256],
+    block: &[u8],
+    at: usize,
+    kind: u8,
+    values: &mut [u64; 256],
+) -> Outcome
+    requires { ⌜ Computed (now block) at kind × (now kinds ≡ kindTable) ⌝ }
+    ensures { λ r. ⌜ PerformsAlone (viewOf (recordAt (now (block .entry)) at)) (now (values .entry)) (now (values .exit)) r ⌝ }
+{
+    let stated = evaluate(kinds, block, at, kind, values);
+    match stated {
+        Stated::Value(v) => {
+            put(values, block[at + 1], v);
+            Outcome::Falls
+        }
+        Stated::NoResult => Outcome::Stops(Stop::Unstated),
+    }
+}
+
+// Runs the op of this kind that starts at a place.
+pub fn step(
+    kinds: &[u32; 256],
+    block: &[u8],
+    at: usize,
+    kind: u8,
+    values: &mut [u64; 256],
+    memory: &mut [u8],
+) -> Outcome
+    requires { ⌜ Stands (now block) at kind × (now kinds ≡ kindTable) ⌝ }
+    ensures { λ r. ⌜ Performs (viewOf (recordAt (now (block .entry)) at)) (now (values .entry)) (now (memory .entry)) (now (values .exit)) (now (memory .exit)) r ⌝ }
+{
+    let role = role_of(kinds, kind);
+    match role {
+        Role::Computes => compute_step(kinds, block, at, kind, values),
+        Role::Constant => constant_step(block, at, values),
+        Role::Loads => load_step(block, at, is_wide(kind), values, memory),
+        Role::Stores => store_step(block, at, values, memory),
+        Role::Branches => branch_step(block, at, is_wide(kind), values),
+        Role::SetsLabel => Outcome::Falls,
+        Role::Jumps => Outcome::JumpsTo(block[at + 1]),
+        Role::Exits => Outcome::Stops(Stop::Leaves(get(values, block[at + 1]))),
+        Role::Unknown => Outcome::Stops(Stop::Leaves(get(values, 0))),
+        Role::Declares => Outcome::Stops(Stop::Leaves(get(values, 0))),
+    }
+}

@@ -1,0 +1,3 @@
+// What goes by both widths.
+pub mod condition;
+pub mod convert;
