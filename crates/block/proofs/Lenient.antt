@@ -8,14 +8,15 @@ use lib.Dec.{eqb, ltb}
 use lib.ListN.{length, getD}
 use borrow.Author.Tests.{ltb-true, eqb-true, lt-ltb, eq-eqb}
 use native.Mathlib.Nat.{le-trans, le-refl}
-use Rattle.theory.specs.Fold.{Known, isCalc, inputs, baseRule}
-use Rattle.theory.specs.Machine.{View, calc, access, label, jump, branch, leave, reads}
+use Rattle.theory.specs.Fold.{Known, baseRule}
+use Rattle.theory.specs.Machine.{View, calc, access, label, flow, pure}
+use Rattle.theory.proofs.Views.{computes-calc}
 use Rattle.theory.specs.Sets.{Vars}
 use Rattle.theory.proofs.Accept.{Lenient, Admits}
-use Rattle.theory.proofs.Rule.{Puts, same, folds, puts, IsPut, view-put}
+use Rattle.theory.proofs.Rule.{Puts, same, folds, puts, no-omit, no-cut}
 use Rattle.theory.proofs.Sets.{and-l, and-r, and-i, clash}
 use Rattle.ops.specs.Kinds.{at, one, rowOf, known, bodyLength}
-use Rattle.ops.specs.Ops.{kindOf, rowAt, insBy, Fault, viewBy, viewOf, tcg, moviOf, folding}
+use Rattle.ops.specs.Ops.{leave, kindOf, rowAt, insBy, Fault, viewBy, viewOf, tcg, moviOf, folding}
 use Rattle.ops.proofs.Folding.{Movi, movi-facts, states, movi-for, constants}
 use Rattle.block.specs.Checks.{endRules}
 use Rattle.block.specs.Records.{isDeclaration}
@@ -68,13 +69,11 @@ end-le x y l h =
     (rw (l .targets, l .labels) (and-r (rule10 x) (rule7end x && true) h))
 
 -- a pure op marks no label and jumps to none, and is no exit
-calc-labels : (labels targets : Vars) (w : View ℕ (List ℕ) Fault) → isCalc w ≡ true → (nextLabels labels w ≡ labels) × (nextTargets targets w ≡ targets)
+calc-labels : (labels targets : Vars) (w : View ℕ (List ℕ) ℕ Fault) → pure w ≡ true → (nextLabels labels w ≡ labels) × (nextTargets targets w ≡ targets)
 calc-labels labels targets (calc outs ins f) c = (refl, refl)
 calc-labels labels targets (access outs ins f) c = absurd (false≢true c)
 calc-labels labels targets (label k) c = absurd (false≢true c)
-calc-labels labels targets (jump k) c = absurd (false≢true c)
-calc-labels labels targets (branch ins f k) c = absurd (false≢true c)
-calc-labels labels targets (leave x) c = absurd (false≢true c)
+calc-labels labels targets (flow ins t y) c = absurd (false≢true c)
 
 exit-row : (k : ℕ) (r : List ℕ) → k ≡ 0x04 → viewBy (rowOf k) ((rowOf k) .does) r ≡ leave (at r 1)
 unfolding rowOf
@@ -84,10 +83,10 @@ pub exit-view : (o : List ℕ) → kindOf o ≡ 0x04 → viewOf o ≡ leave (at 
 unfolding viewOf
 exit-view o e = exit-row (kindOf o) o e
 
-no-exit : {A : Type 0} (o : List ℕ) → isCalc (viewOf o) ≡ true → kindOf o ≡ 0x04 → A
-no-exit o c e = clash (isCalc (viewOf o)) c (ap isCalc (exit-view o e))
+no-exit : {A : Type 0} (o : List ℕ) → pure (viewOf o) ≡ true → kindOf o ≡ 0x04 → A
+no-exit o c e = clash (pure (viewOf o)) c (ap pure (exit-view o e))
 
-drop-ok : (x : Seen) (o : List ℕ) → isCalc (viewOf o) ≡ true → Le (passed x o) x
+drop-ok : (x : Seen) (o : List ℕ) → pure (viewOf o) ≡ true → Le (passed x o) x
 drop-ok x o c =
     let l = calc-labels (x .labels) (x .targets) (viewOf o) c in
     record {
@@ -181,13 +180,13 @@ module _ (x : Seen) (o : List ℕ) (w v : ℕ) (one : (rowAt o) .outs ≡ w ∷ 
 put-ok : (x : Seen) (k : Known ℕ) (o o′ : List ℕ) → Puts tcg folding constants k o o′ → opOk x o ≡ true
     → (opOk x o′ ≡ true) × Le (passed x o) (passed x o′) × Unit {0}
 put-ok x k o o′ (same e) h = rw (← e) (h, record { classes = refl; widths = refl; labels = refl; targets = refl; ops = omega arith; last = λ q. q }, tt)
-put-ok x k o o′ (folds outs ins f xs vs t e a g p d w) h =
-    let s = states o outs ins f xs vs t e g in
+put-ok x k o o′ (folds xs vs t a g p w) h =
+    let s = states o xs vs t g in
     let q : o′ ≡ moviOf (s .width) (at o 1) (s .value) = p ∙ movi-for o vs s in
     let m = movi-facts (s .width) (at o 1) (s .value) (s .wide) (s .fits) in
-    let c : isCalc (viewOf o) ≡ true = ap isCalc e in
+    let c : pure (viewOf o) ≡ true = ap pure (computes-calc (viewOf o) xs vs g) in
     let l = calc-labels (x .labels) (x .targets) (viewOf o) c in
-    let l′ = calc-labels (x .labels) (x .targets) (viewOf o′) (ap isCalc w) in (
+    let l′ = calc-labels (x .labels) (x .targets) (viewOf o′) (ap pure w) in (
       ap (opOk x) q ∙ movi-ok x o (s .width) (s .value) (s .one-out) m h,
       record {
         classes = refl;
@@ -207,8 +206,8 @@ admits =
       Good = λ k. Unit {0};
       good-none = tt;
       put-ok = λ x k o o′ u q h. put-ok x k o o′ (puts tcg folding constants k o o′ q) h;
-      omit-ok = λ x k o q. absurd (subst (IsPut tcg folding constants) q (view-put tcg folding constants o (viewOf o) (reads k (inputs (viewOf o)))));
+      omit-ok = λ x k o q. no-omit tcg folding constants k o q;
       Skips = ⊥;
-      cut-ok = λ x k o o′ q. absurd (subst (IsPut tcg folding constants) q (view-put tcg folding constants o (viewOf o) (reads k (inputs (viewOf o)))));
+      cut-ok = λ x k o o′ q. no-cut tcg folding constants k o o′ q;
       skip-ok = λ x o n e. absurd n;
     }

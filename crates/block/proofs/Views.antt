@@ -8,14 +8,14 @@ use native.Mathlib.Omega.{arith}
 use lib.ListN.{length, getD, take, drop, length-append}
 use lib.Seq.{take-nil, getD-take, drop-drop, getD-drop}
 use native.Mathlib.Nat.{zero-add, suc-add, add-zero, add-suc, add-assoc}
-use Rattle.theory.specs.Machine.{View, calc, access, label, jump, branch, leave}
+use Rattle.theory.specs.Machine.{View, calc, access, label}
 use Rattle.word.specs.Condition.{condW}
 use Rattle.memory.specs.Access.{loadAt, storeAt}
 use Rattle.memory.specs.Bytes.{lowFirst}
 use Rattle.memory.proofs.Numbers.{low-same}
 use Rattle.ops.specs.Kinds.{Does, unknown, declares, sets, jumpsTo, leaves, computes, Row, at, movi, plain, brcond, load, store, rowOf, bodyLength}
 use Rattle.ops.specs.Kinds.{outputCount}
-use Rattle.ops.specs.Ops.{kindOf, rowAt, bytesAt, outsBy, insBy, restBy, atWidths, evalBy, evalOf, Fault, afterLoad, afterStore, viewBy, viewOf}
+use Rattle.ops.specs.Ops.{jump, branch, leave, kindOf, rowAt, bytesAt, outsBy, insBy, restBy, atWidths, evalBy, evalOf, Fault, afterLoad, afterStore, viewBy, viewOf}
 use Rattle.ops.specs.Ops.{restOk}
 use Rattle.ops.specs.Table.{operandCount, roleOf, opWidth}
 use Rattle.ops.proofs.RoleRows.{RowFor, row-of}
@@ -25,19 +25,19 @@ use Rattle.ops.specs.declared.Role.{Role}
 use Rattle.ops.specs.declared.Role.the-variants.{Unknown, Declares, SetsLabel, Jumps, Exits, Constant, Computes, Branches, Loads, Stores}
 
 -- the views, from the bytes that they read
-abbrev pub constantView : ℕ → ℕ → View ℕ (List ℕ) Fault
+abbrev pub constantView : ℕ → ℕ → View ℕ (List ℕ) ℕ Fault
 constantView d x = calc (d ∷ []) [] (λ vs. some (x ∷ []))
 
-abbrev pub branchView : ℕ → ℕ → ℕ → ℕ → ℕ → View ℕ (List ℕ) Fault
+abbrev pub branchView : ℕ → ℕ → ℕ → ℕ → ℕ → View ℕ (List ℕ) ℕ Fault
 branchView w a b c l = branch (a ∷ b ∷ []) (λ vs. let xs = atWidths (w ∷ w ∷ []) vs in condW w c (at xs 0) (at xs 1)) l
 
-abbrev pub loadView : ℕ → ℕ → ℕ → ℕ → View ℕ (List ℕ) Fault
+abbrev pub loadView : ℕ → ℕ → ℕ → ℕ → View ℕ (List ℕ) ℕ Fault
 loadView w d a f = access (d ∷ []) (a ∷ []) (λ m vs. let p = at vs 0 in afterLoad m p f (loadAt w f m p))
 
-abbrev pub storeView : ℕ → ℕ → ℕ → View ℕ (List ℕ) Fault
+abbrev pub storeView : ℕ → ℕ → ℕ → View ℕ (List ℕ) ℕ Fault
 storeView x a f = access [] (x ∷ a ∷ []) (λ m vs. let p = at vs 1 in afterStore p f (storeAt f m p (at vs 0)))
 
-abbrev pub pureView : ℕ → ℕ → List ℕ → List ℕ → View ℕ (List ℕ) Fault
+abbrev pub pureView : ℕ → ℕ → List ℕ → List ℕ → View ℕ (List ℕ) ℕ Fault
 pureView k d ins rest = calc (d ∷ []) ins (evalOf k rest)
 
 -- no op of a role names fewer variables than this, and no fewer bytes than this follow them

@@ -1,10 +1,11 @@
 -- The rules that a record must meet, each by itself, after the records before it. Assumes nothing.
 use Prim.Native.Nat.{ℕ, zero, suc, _+_}
 use mathlib.Core.Bool.{Bool, true, cond, not, _&&_, _||_}
+use mathlib.Core.Option.{Option, none, some}
 use mathlib.Core.List.{List, [], _∷_, _++_}
 use lib.Dec.{eqb, ltb, leb}
 use lib.ListN.{length, getD}
-use Rattle.theory.specs.Machine.{View, calc, access, label, jump, branch, leave, upd}
+use Rattle.theory.specs.Machine.{View, labelOf, target, upd}
 use Rattle.theory.specs.Sets.{Vars, empty}
 use Rattle.theory.specs.Scope.{mayRead, wrote}
 use Rattle.ops.specs.Ops.{kindOf, rowAt, outsBy, insBy, restBy, restOk, viewOf}
@@ -64,30 +65,28 @@ unfoldable pub rule6 : Seen → List ℕ → Bool
 rule6 s r = restOk ((rowAt r) .does) (restBy (rowAt r) r)
 
 -- 7: "label set twice, or jump to a label already set"
-module _ {Val Mem Flt : Type 0} where
-  abbrev pub labelFree : Vars → View Val Mem Flt → Bool
-  labelFree labels (calc outs ins f) = true
-  labelFree labels (access outs ins f) = true
-  labelFree labels (label l) = not (labels l)
-  labelFree labels (jump l) = not (labels l)
-  labelFree labels (branch ins f l) = not (labels l)
-  labelFree labels (leave x) = true
+abbrev pub freeAt : Vars → Option ℕ → Bool
+freeAt labels none = true
+freeAt labels (some l) = not (labels l)
 
-  abbrev pub nextLabels : Vars → View Val Mem Flt → Vars
-  nextLabels labels (calc outs ins f) = labels
-  nextLabels labels (access outs ins f) = labels
-  nextLabels labels (label l) = upd labels l true
-  nextLabels labels (jump l) = labels
-  nextLabels labels (branch ins f l) = labels
-  nextLabels labels (leave x) = labels
+-- the label that an op sets, or else the one to which it may jump
+abbrev pub either : Option ℕ → Option ℕ → Option ℕ
+either none y = y
+either (some l) y = some l
 
-  abbrev pub nextTargets : Vars → View Val Mem Flt → Vars
-  nextTargets targets (calc outs ins f) = targets
-  nextTargets targets (access outs ins f) = targets
-  nextTargets targets (label l) = targets
-  nextTargets targets (jump l) = upd targets l true
-  nextTargets targets (branch ins f l) = upd targets l true
-  nextTargets targets (leave x) = targets
+abbrev pub markAt : Vars → Option ℕ → Vars
+markAt labels none = labels
+markAt labels (some l) = upd labels l true
+
+module _ {Val Mem Out Flt : Type 0} where
+  abbrev pub labelFree : Vars → View Val Mem Out Flt → Bool
+  labelFree labels w = freeAt labels (either (labelOf w) (target w))
+
+  abbrev pub nextLabels : Vars → View Val Mem Out Flt → Vars
+  nextLabels labels w = markAt labels (labelOf w)
+
+  abbrev pub nextTargets : Vars → View Val Mem Out Flt → Vars
+  nextTargets targets w = markAt targets (target w)
 
 unfoldable pub rule7 : Seen → List ℕ → Bool
 rule7 s r = labelFree (s .labels) (viewOf r)

@@ -1,11 +1,12 @@
 -- What the scan's arrays hold. Assumes nothing.
 use mathlib.Core.Path.{_≡_}
 use mathlib.Core.Bool.{Bool, true, cond, not, _&&_, _||_, Bool·beq}
+use mathlib.Core.Option.{Option, none, some}
 use mathlib.Core.List.{List, [], _∷_, _++_, map}
 use Prim.Native.Nat.{ℕ, suc, _+_, _*_, _/_, _%_, _≤_, _<_}
 use lib.Dec.{eqb, ltb, leb}
 use lib.ListN.{length, getD, take, drop, set, replicate}
-use Rattle.theory.specs.Machine.{View, calc, access, label, jump, branch, leave, All}
+use Rattle.theory.specs.Machine.{View, labelOf, All}
 use Rattle.theory.specs.Scope.{wrote}
 use Rattle.theory.specs.Sets.{Vars, empty}
 use Rattle.ops.specs.Kinds.{known, bodyLength}
@@ -73,14 +74,12 @@ seenOf classes types written labels targets n ops last =
     }
 
 -- the labels' numbers once an op has been read: a label's is one more than its op's
-module _ {Val Mem Flt : Type 0} where
-  abbrev pub labelledBy : View Val Mem Flt → ℕ → List ℕ → List ℕ
-  labelledBy (calc outs ins f) op labels = labels
-  labelledBy (access outs ins f) op labels = labels
-  labelledBy (label l) op labels = set labels l (op + 1)
-  labelledBy (jump l) op labels = labels
-  labelledBy (branch ins f l) op labels = labels
-  labelledBy (leave x) op labels = labels
+abbrev pub numberAt : Option ℕ → ℕ → List ℕ → List ℕ
+numberAt none op labels = labels
+numberAt (some l) op labels = set labels l (op + 1)
+
+abbrev pub labelledBy : {Val Mem Out Flt : Type 0} → View Val Mem Out Flt → ℕ → List ℕ → List ℕ
+labelledBy w op labels = numberAt (labelOf w) op labels
 
 -- what is seen after n declarations
 abbrev pub declaredSeen : List ℕ → List ℕ → ℕ → Seen

@@ -9,10 +9,10 @@ use native.Mathlib.Omega.{arith}
 use lib.Dec.{eqb, ltb, leb}
 use lib.ListN.{length}
 use borrow.Author.Tests.{eqb-true, lt-ltb}
-use Rattle.theory.specs.Fold.{isCalc, outputs}
-use Rattle.theory.specs.Machine.{View, calc, access, label, jump, branch, leave, headOr}
+use Rattle.theory.specs.Machine.{calc, computes as stated, outputs, headOr}
+use Rattle.theory.proofs.Views.{no-some}
 use Rattle.theory.proofs.Rule.{Constants}
-use Rattle.theory.proofs.Sets.{and-l, and-r, clash}
+use Rattle.theory.proofs.Sets.{and-l, and-r}
 use Rattle.memory.specs.Bytes.{lowFirst, bytesOf}
 use Rattle.memory.proofs.Numbers.{low-bytes, length-bytes}
 use Rattle.ops.specs.Kinds.{Does, unknown, declares, sets, jumpsTo, leaves, branches, loads, stores, computes, Row, at, narrowOk, movi, wideRow}
@@ -75,53 +75,38 @@ pub record States (row : Row) (vs : List ℕ) : Type 0 where
   pub one-value : vs ≡ value ∷ []
   pub fits : value < 2 ^ width
 
-fnOf : View ℕ (List ℕ) Fault → List ℕ → Option (List ℕ)
-fnOf (calc outs ins f) = f
-fnOf (access outs ins f) = λ vs. none
-fnOf (label l) = λ vs. none
-fnOf (jump l) = λ vs. none
-fnOf (branch ins f l) = λ vs. none
-fnOf (leave x) = λ vs. none
-
 module _ (row : Row) (r : List ℕ) (t : foldableRow row ≡ true) where
-  no-calc : {A : Type 0} (w : View ℕ (List ℕ) Fault) {outs ins : List ℕ} {f : List ℕ → Option (List ℕ)} → isCalc w ≡ false → w ≡ calc outs ins f → A
-  no-calc w h e = clash true refl (sym (ap isCalc e) ∙ h)
-
-  states-by : (d : Does) → SaneBy row d → (outs ins : List ℕ) (f : List ℕ → Option (List ℕ)) (xs vs : List ℕ)
-      → viewBy row d r ≡ calc outs ins f → f xs ≡ some vs → States row vs
-  unfolding fnOf
-  states-by unknown s outs ins f xs vs e g = no-calc (viewBy row unknown r) refl e
-  states-by declares s outs ins f xs vs e g = no-calc (viewBy row declares r) refl e
-  states-by sets s outs ins f xs vs e g = no-calc (viewBy row sets r) refl e
-  states-by jumpsTo s outs ins f xs vs e g = no-calc (viewBy row jumpsTo r) refl e
-  states-by leaves s outs ins f xs vs e g = no-calc (viewBy row leaves r) refl e
-  states-by (branches w) s outs ins f xs vs e g = no-calc (viewBy row (branches w) r) refl e
-  states-by (loads w) s outs ins f xs vs e g = no-calc (viewBy row (loads w) r) refl e
-  states-by (stores w) s outs ins f xs vs e g = no-calc (viewBy row (stores w) r) refl e
-  states-by (computes ok h) s outs ins f xs vs e g =
-      let q : h (restBy row r) (atWidths (row .ins) xs) ≡ some vs = ap (λ (w : View ℕ (List ℕ) Fault). fnOf w xs) e ∙ g in
+  states-by : (d : Does) → SaneBy row d → (xs vs : List ℕ) → stated (viewBy row d r) xs ≡ some vs → States row vs
+  states-by unknown s xs vs g = no-some g
+  states-by declares s xs vs g = no-some g
+  states-by sets s xs vs g = no-some g
+  states-by jumpsTo s xs vs g = no-some g
+  states-by leaves s xs vs g = no-some g
+  states-by (branches w) s xs vs g = no-some g
+  states-by (loads w) s xs vs g = no-some g
+  states-by (stores w) s xs vs g = no-some g
+  states-by (computes ok h) s xs vs g =
       let a = s t in
-      let p = a .value (restBy row r) xs vs q in
+      let p = a .value (restBy row r) xs vs g in
       record { width = a .width; value = p .0; one-out = a .one-out; wide = a .wide; one-value = p .1; fits = p .2 }
 
-  one-out-by : (d : Does) → isCalc (viewBy row d r) ≡ true → outputs (viewBy row d r) ≡ at r 1 ∷ []
-  one-out-by unknown c = absurd (false≢true c)
-  one-out-by declares c = absurd (false≢true c)
-  one-out-by sets c = absurd (false≢true c)
-  one-out-by jumpsTo c = absurd (false≢true c)
-  one-out-by leaves c = absurd (false≢true c)
-  one-out-by (branches w) c = absurd (false≢true c)
-  one-out-by (loads w) c = absurd (false≢true c)
-  one-out-by (stores w) c = absurd (false≢true c)
-  one-out-by (computes ok h) c =
+  one-out-by : (d : Does) (xs vs : List ℕ) → stated (viewBy row d r) xs ≡ some vs → outputs (viewBy row d r) ≡ at r 1 ∷ []
+  one-out-by unknown xs vs g = no-some g
+  one-out-by declares xs vs g = no-some g
+  one-out-by sets xs vs g = no-some g
+  one-out-by jumpsTo xs vs g = no-some g
+  one-out-by leaves xs vs g = no-some g
+  one-out-by (branches w) xs vs g = no-some g
+  one-out-by (loads w) xs vs g = no-some g
+  one-out-by (stores w) xs vs g = no-some g
+  one-out-by (computes ok h) xs vs g =
       let e : length (row .outs) ≡ 1 =
       eqb-true (length (row .outs)) 1 (and-l (eqb (length (row .outs)) 1) (leb 1 (length (row .ins))) (and-r (isPure (row .does)) _ t)) in
       rw e
 
-pub states : (o outs ins : List ℕ) (f : List ℕ → Option (List ℕ)) (xs vs : List ℕ) → foldableRow (rowAt o) ≡ true → viewOf o ≡ calc outs ins f → f xs ≡ some vs
-    → States (rowAt o) vs
+pub states : (o xs vs : List ℕ) → foldableRow (rowAt o) ≡ true → stated (viewOf o) xs ≡ some vs → States (rowAt o) vs
 unfolding viewOf
-states o outs ins f xs vs t e g = states-by (rowAt o) o t ((rowAt o) .does) (sane (kindOf o)) outs ins f xs vs e g
+states o xs vs t g = states-by (rowAt o) o t ((rowAt o) .does) (sane (kindOf o)) xs vs g
 
 -- what is put in the op's place
 pub movi-for : (o vs : List ℕ) (s : States (rowAt o) vs) → folding .const o (headOr 0 vs) ≡ moviOf (s .width) (at o 1) (s .value)
@@ -132,14 +117,14 @@ unfolding rowOf wideRow
 no-fold true = refl
 no-fold false = refl
 
-one-out : (o : List ℕ) → foldableRow (rowAt o) ≡ true → isCalc (viewOf o) ≡ true → outputs (viewOf o) ≡ at o 1 ∷ []
+one-out : (o xs vs : List ℕ) → foldableRow (rowAt o) ≡ true → stated (viewOf o) xs ≡ some vs → outputs (viewOf o) ≡ at o 1 ∷ []
 unfolding viewOf
-one-out o t c = one-out-by (rowAt o) o t ((rowAt o) .does) c
+one-out o xs vs t g = one-out-by (rowAt o) o t ((rowAt o) .does) xs vs g
 
-pub const-view : (o outs ins : List ℕ) (f : List ℕ → Option (List ℕ)) (xs vs : List ℕ) → foldableRow (rowAt o) ≡ true → viewOf o ≡ calc outs ins f → f xs ≡ some vs
+pub const-view : (o xs vs : List ℕ) → foldableRow (rowAt o) ≡ true → stated (viewOf o) xs ≡ some vs
     → viewOf (folding .const o (headOr 0 vs)) ≡ calc (at o 1 ∷ []) [] (λ ys. some (headOr 0 vs ∷ []))
-const-view o outs ins f xs vs t e g =
-    let s = states o outs ins f xs vs t e g in
+const-view o xs vs t g =
+    let s = states o xs vs t g in
     ap viewOf (movi-for o vs s) ∙ (movi-facts (s .width) (at o 1) (s .value) (s .wide) (s .fits)) .view
     ∙ ap (λ (n : ℕ). calc (at o 1 ∷ []) [] (λ ys. some (n ∷ []))) (sym (ap (headOr 0) (s .one-value)))
 

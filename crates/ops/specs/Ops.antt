@@ -5,7 +5,7 @@ use mathlib.Core.Option.{Option, none, some}
 use mathlib.Core.List.{List, [], _∷_}
 use lib.Dec.{eqb, leb}
 use lib.ListN.{length, drop}
-use Rattle.theory.specs.Machine.{View, calc, access, label, jump, branch, leave, Touch, faults, gives, Lang, headOr}
+use Rattle.theory.specs.Machine.{View, calc, access, label, flow, always, when, to, out, Touch, faults, gives, Lang, headOr}
 use Rattle.theory.specs.Fold.{Folding}
 use Rattle.word.specs.Condition.{condW}
 use Rattle.memory.specs.Bytes.{bytesOf}
@@ -73,8 +73,18 @@ abbrev pub afterStore : ℕ → ℕ → Option (List ℕ) → Touch ℕ (List �
 afterStore address flags none = faults (faultOf true address flags)
 afterStore address flags (some m) = gives [] m
 
+-- br, brcond and exit_tb
+abbrev pub jump : ℕ → View ℕ (List ℕ) ℕ Fault
+jump l = flow [] always (to l)
+
+abbrev pub branch : List ℕ → (List ℕ → Bool) → ℕ → View ℕ (List ℕ) ℕ Fault
+branch ins f l = flow ins (when (λ m. f)) (to l)
+
+abbrev pub leave : ℕ → View ℕ (List ℕ) ℕ Fault
+leave x = flow (x ∷ []) always (out (λ vs. headOr 0 vs))
+
 -- what an op does. A record that is no op has no view of its own; an accepted block runs none
-abbrev pub viewBy : (row : Row) → Does → List ℕ → View ℕ (List ℕ) Fault
+abbrev pub viewBy : (row : Row) → Does → List ℕ → View ℕ (List ℕ) ℕ Fault
 viewBy row unknown r = leave 0
 viewBy row declares r = leave 0
 viewBy row sets r = label (at (restBy row r) 0)
@@ -88,12 +98,12 @@ viewBy row (stores w) r =
     access (outsBy row r) (insBy row r) (λ m vs. let p = at vs 1 in let f = at (restBy row r) 0 in afterStore p f (storeAt f m p (at vs 0)))
 viewBy row (computes ok f) r = calc (outsBy row r) (insBy row r) (λ vs. f (restBy row r) (atWidths (row .ins) vs))
 
-unfoldable pub viewOf : List ℕ → View ℕ (List ℕ) Fault
+unfoldable pub viewOf : List ℕ → View ℕ (List ℕ) ℕ Fault
 viewOf r = viewBy (rowAt r) ((rowAt r) .does) r
 
 -- the language of ops: an op is its record, values are numbers, the memory a list of bytes
 abbrev pub tcg : Lang
-tcg = record { Op = List ℕ; Val = ℕ; Mem = List ℕ; Flt = Fault; zeroV = 0; view = viewOf }
+tcg = record { Op = List ℕ; Val = ℕ; Mem = List ℕ; Out = ℕ; Flt = Fault; zeroV = 0; view = viewOf }
 
 -- "An op of kinds 05 to 07 or 11 to 29 (either width)": a pure op that reads something; one output
 abbrev pub foldableRow : Row → Bool

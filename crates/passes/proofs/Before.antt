@@ -1,12 +1,12 @@
 -- What is live before an op, and whether it is dead, by its role. Assumes nothing.
 use mathlib.Core.Path.{_≡_, refl, ap, _∙_}
-use mathlib.Core.Bool.{Bool, true, false, not, _&&_}
+use mathlib.Core.Bool.{Bool, true, false, not, _&&_, _||_}
 use mathlib.Core.List.{List, [], _∷_}
 use Prim.Native.Nat.{ℕ, suc, _+_, _-_, _≤_}
 use native.Mathlib.Omega.{arith}
 use lib.ListN.{length, length-append}
 use Rattle.theory.specs.Prune.{dead}
-use Rattle.theory.specs.Sets.{Vars, without, plus}
+use Rattle.theory.specs.Sets.{Vars, without, plus, both}
 use Rattle.ops.specs.Kinds.{at, rowOf}
 use Rattle.ops.specs.Ops.{bytesAt, viewOf}
 use Rattle.ops.specs.Table.{operandCount, roleOf}
@@ -67,3 +67,11 @@ module _ {b : List ℕ} {p k : ℕ} (s : Stands b p k) where
         go Branches e = rw (branch-view s e)
         go Loads e = rw (load-view s e)
         go Stores e = rw (store-view s e)
+
+or-self : (t : Bool) → t ≡ (t || t)
+or-self true = refl
+or-self false = refl
+
+-- a set joined with itself
+pub both-self : (l : Vars) (xs : List ℕ) → plus l xs ≡ plus (both l l) xs
+both-self l xs = ap (λ (f : Vars). plus f xs) (λ i v. or-self (l v) i)

@@ -8,13 +8,13 @@ use native.Mathlib.Omega.{arith}
 use lib.Dec.{eqb, leb}
 use lib.ListN.{length, getD, replicate}
 use native.Mathlib.Nat.{sub-zero, add-zero}
-use Rattle.theory.specs.Fold.{nothing, put, inputs, learned, ruleAt, consO, allKnown, bindO, tried, baseView, baseRule}
-use Rattle.theory.specs.Machine.{View, calc, label, jump, leave, upd, reads}
+use Rattle.theory.specs.Fold.{Rewrite, nothing, put, learned, ruleAt, consO, allKnown, bindO, tried, baseRule}
+use Rattle.theory.specs.Machine.{View, calc, label, computes as stated, inputs, upd, reads}
 use Rattle.theory.specs.Sets.{Vars}
 use Rattle.theory.proofs.Sets.{and-l, and-r}
 use Rattle.memory.specs.Bytes.{lowFirst}
 use Rattle.ops.specs.Kinds.{at, rowOf, isPure}
-use Rattle.ops.specs.Ops.{rowAt, bytesAt, Fault, viewOf, tcg, foldableRow, folding}
+use Rattle.ops.specs.Ops.{jump, leave, rowAt, bytesAt, Fault, viewOf, tcg, foldableRow, folding}
 use Rattle.ops.specs.Table.{operandCount, roleOf, opWidth}
 use Rattle.ops.proofs.Folding.{const-view}
 use Rattle.ops.proofs.Inputs.{computes-fold}
@@ -81,6 +81,10 @@ pub known-ends : {b known : List ℕ} {start count j : ℕ} → KnownSo b known 
 known-ends {b} {known} {start} {count} {j} s h =
     let e : count - j ≡ 0 = omega arith in sym (ap (λ (n : ℕ). allMarked (marked known) (bytesAt b (start + j) n)) e) ∙ s .so-far
 
+-- document 01's rule at an op with the view w
+abbrev ruleOn : List ℕ → View ℕ (List ℕ) ℕ Fault → List (Option ℕ) → Rewrite (List ℕ)
+ruleOn o w ks = cond (foldableRow (rowAt o)) (tried tcg folding o (bindO (stated w) (allKnown ks))) (put o)
+
 -- the values of inputs that are all known
 inputs-known : (known values xs : List ℕ) → allMarked (marked known) xs ≡ true → allKnown (reads (knownOf known values) xs) ≡ some (reads (envOf values) xs)
 inputs-known known values [] h = refl
@@ -133,7 +137,7 @@ module _ {b : List ℕ} {p k : ℕ} (c : Computed b p k) (l : k < 256) where
     rule-is : (q : Option (List ℕ)) → bindO (statesAt b p k) (allKnown (reads (knownOf known values) (inputsAt b p k))) ≡ q
         → ruleAt tcg (baseRule tcg folding) (knownOf known values) (recordAt b p) ≡ tried tcg folding (recordAt b p) q
     rule-is q e =
-        ap (λ (w : View ℕ (List ℕ) Fault). baseView tcg folding (recordAt b p) w (reads (knownOf known values) (inputs w))) views
+        ap (λ (w : View ℕ (List ℕ) ℕ Fault). ruleOn (recordAt b p) w (reads (knownOf known values) (inputs w))) views
         ∙ ap (λ (t : Bool). cond t (tried tcg folding (recordAt b p) (bindO (statesAt b p k) (allKnown (reads (knownOf known values) (inputsAt b p k))))) (put (recordAt b p))) foldable-here
         ∙ ap (tried tcg folding (recordAt b p)) e
 
@@ -145,7 +149,7 @@ module _ {b : List ℕ} {p k : ℕ} (c : Computed b p k) (l : k < 256) where
         go none h = let z : _≡_ {A = ℕ} 0 1 = cc in absurd (omega arith)
         go (some xs) h =
             let q : viewOf (folding .const (recordAt b p) x) ≡ calc (at (recordAt b p) 1 ∷ []) [] (λ ys. some (x ∷ [])) =
-            const-view (recordAt b p) (at b (p + 1) ∷ []) (inputsAt b p k) (statesAt b p k) xs (x ∷ []) foldable-here views h in
+            const-view (recordAt b p) xs (x ∷ []) foldable-here (ap (λ (w : View ℕ (List ℕ) ℕ Fault). stated w xs) views ∙ h) in
             q ∙ ap (λ (n : ℕ). calc (n ∷ []) [] (λ ys. some (x ∷ []))) output-byte
 
     pub folds-value : {r : Stated} {x : ℕ} {known′ values′ : List ℕ} → StatesKnown b p k known values r → r ≡ Value x → knownOf known′ values′ ≡ upd (knownOf known values) (at b (p + 1)) (some x)
@@ -166,24 +170,38 @@ module _ {b : List ℕ} {p k : ℕ} (c : Computed b p k) (l : k < 256) where
               put-unknown values u
               ∙ sym
               (ap (learned (knownOf known values)) views
-              ∙ ap (λ (n : ℕ). learned {Mem = List ℕ} {Flt = Fault} (knownOf known values) (calc (at b (p + 1) ∷ []) (bytesAt b (p + 2) n) (statesAt b p k))) (some-input .1));
+              ∙ ap (λ (n : ℕ). learned {Mem = List ℕ} {Out = ℕ} {Flt = Fault} (knownOf known values) (calc (at b (p + 1) ∷ []) (bytesAt b (p + 2) n) (statesAt b p k))) (some-input .1));
           only-so = λ y z. c .role-is;
         }
 
 no-value : (x : ℕ) → NoResult ≡ Value x → ⊥
 no-value x e = let z : _≡_ {A = ℕ} 0 1 = cc in omega arith
 
+-- an op that computes nothing stays
+stays-as : (o : List ℕ) (w : View ℕ (List ℕ) ℕ Fault) (ks : List (Option ℕ)) → ((xs : List ℕ) → stated w xs ≡ none) → ruleOn o w ks ≡ put o
+stays-as o w ks h = go (foldableRow (rowAt o)) (allKnown ks)
+  where
+    go : (t : Bool) (x : Option (List ℕ)) → cond t (tried tcg folding o (bindO (stated w) x)) (put o) ≡ put o
+    go true none = refl
+    go true (some xs) = ap (tried tcg folding o) (h xs)
+    go false x = refl
+
 -- fold at any other op
 module _ {b : List ℕ} {p k : ℕ} (s : Stands b p k) (known values : List ℕ) where
-  left-as : {known′ values′ : List ℕ} (w : View ℕ (List ℕ) Fault) → viewOf (recordAt b p) ≡ w
-      → baseView tcg folding (recordAt b p) w (reads (knownOf known values) (inputs w)) ≡ put (recordAt b p) → knownOf known′ values′ ≡ learned (knownOf known values) w
+  left-as : {known′ values′ : List ℕ} (w : View ℕ (List ℕ) ℕ Fault) → viewOf (recordAt b p) ≡ w
+      → ruleOn (recordAt b p) w (reads (knownOf known values) (inputs w)) ≡ put (recordAt b p) → knownOf known′ values′ ≡ learned (knownOf known values) w
       → Folds b p k known values known′ values′ NoResult
   left-as w e r q =
       record {
-        rule-so = ap (λ (v : View ℕ (List ℕ) Fault). baseView tcg folding (recordAt b p) v (reads (knownOf known values) (inputs v))) e ∙ r;
+        rule-so = ap (λ (v : View ℕ (List ℕ) ℕ Fault). ruleOn (recordAt b p) v (reads (knownOf known values) (inputs v))) e ∙ r;
         known-so = q ∙ sym (ap (learned (knownOf known values)) e);
         only-so = λ x z. absurd (no-value x z);
       }
+
+  -- an op that computes nothing stays
+  other-as : {known′ values′ : List ℕ} (w : View ℕ (List ℕ) ℕ Fault) → viewOf (recordAt b p) ≡ w → ((xs : List ℕ) → stated w xs ≡ none) → knownOf known′ values′ ≡ learned (knownOf known values) w
+      → Folds b p k known values known′ values′ NoResult
+  other-as w e n q = left-as w e (stays-as (recordAt b p) w (reads (knownOf known values) (inputs w)) n) q
 
   constant-stays : roleOf k ≡ Constant → foldableRow (rowAt (recordAt b p)) ≡ false
   constant-stays e = ap foldableRow (row-at s ∙ row-of Constant k e)
@@ -196,10 +214,10 @@ module _ {b : List ℕ} {p k : ℕ} (s : Stands b p k) (known values : List ℕ)
       (u ∙ ap (λ (y : ℕ). upd (knownOf known values) (at b (p + 1)) (some y)) h)
 
   pub over-load : {known′ : List ℕ} → roleOf k ≡ Loads → SetAt known (at b (p + 1)) 0 known′ → Folds b p k known values known′ values NoResult
-  over-load e u = left-as (loadView (opWidth k) (at b (p + 1)) (at b (p + 2)) (at b (p + 3))) (load-view s e) refl (put-unknown values u)
+  over-load e u = other-as (loadView (opWidth k) (at b (p + 1)) (at b (p + 2)) (at b (p + 3))) (load-view s e) (λ xs. refl) (put-unknown values u)
 
   pub over-store : roleOf k ≡ Stores → Folds b p k known values known values NoResult
-  over-store e = left-as (storeView (at b (p + 1)) (at b (p + 2)) (at b (p + 3))) (store-view s e) refl refl
+  over-store e = other-as (storeView (at b (p + 1)) (at b (p + 2)) (at b (p + 3))) (store-view s e) (λ xs. refl) refl
 
   pub over-end : {known′ : List ℕ} → (roleOf k ≡ Computes → ⊥) → (roleOf k ≡ Constant → ⊥) → (roleOf k ≡ Loads → ⊥) → (roleOf k ≡ Stores → ⊥) → known′ ≡ replicate 256 0
       → Folds b p k known values known′ values NoResult
@@ -209,13 +227,13 @@ module _ {b : List ℕ} {p k : ℕ} (s : Stands b p k) (known values : List ℕ)
       u = none-known values z
 
       go : (r : Role) → roleOf k ≡ r → Folds b p k known values known′ values NoResult
-      go Unknown e = left-as (leave 0) (unknown-view s e) refl u
-      go Declares e = left-as (leave 0) (declare-view s e) refl u
-      go SetsLabel e = left-as (label (at b (p + 1))) (label-view s e) refl u
-      go Jumps e = left-as (jump (at b (p + 1))) (jump-view s e) refl u
-      go Exits e = left-as (leave (at b (p + 1))) (leave-view s e) refl u
+      go Unknown e = other-as (leave 0) (unknown-view s e) (λ xs. refl) u
+      go Declares e = other-as (leave 0) (declare-view s e) (λ xs. refl) u
+      go SetsLabel e = other-as (label (at b (p + 1))) (label-view s e) (λ xs. refl) u
+      go Jumps e = other-as (jump (at b (p + 1))) (jump-view s e) (λ xs. refl) u
+      go Exits e = other-as (leave (at b (p + 1))) (leave-view s e) (λ xs. refl) u
       go Constant e = absurd (n₂ e)
       go Computes e = absurd (n₁ e)
-      go Branches e = left-as (branchView (opWidth k) (at b (p + 1)) (at b (p + 2)) (at b (p + 3)) (at b (p + 4))) (branch-view s e) refl u
+      go Branches e = other-as (branchView (opWidth k) (at b (p + 1)) (at b (p + 2)) (at b (p + 3)) (at b (p + 4))) (branch-view s e) (λ xs. refl) u
       go Loads e = absurd (n₃ e)
       go Stores e = absurd (n₄ e)

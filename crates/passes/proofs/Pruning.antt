@@ -57,7 +57,7 @@ module _ {b : List ℕ} {p folded : ℕ} (f : Foldable b p folded) (e : folded �
 
   pub dead-same : (value : ℕ) (l : Vars) → dead (viewOf (recordAt b p)) l ≡ dead (viewOf (pickOp folded value (recordAt b p))) l
   dead-same value l =
-      ap (λ (w : View ℕ (List ℕ) Fault). dead w l) (pure-view (f .stands) (f .folds-only e)) ∙ sym (ap (λ (w : View ℕ (List ℕ) Fault). dead w l) ((constant-here value) .shape-is))
+      ap (λ (w : View ℕ (List ℕ) ℕ Fault). dead w l) (pure-view (f .stands) (f .folds-only e)) ∙ sym (ap (λ (w : View ℕ (List ℕ) ℕ Fault). dead w l) ((constant-here value) .shape-is))
 
 plain-op : (b : List ℕ) (p : ℕ) {folded : ℕ} → (folded ≡ 1 → ⊥) → (value : ℕ) → recordAt b p ≡ pickOp folded value (recordAt b p)
 plain-op b p {folded} n value = sym (ap (λ (t : Bool). cond t (folding .const (recordAt b p) value) (recordAt b p)) (ne-eqb folded 1 n))
@@ -79,7 +79,7 @@ module _ {b : List ℕ} {p folded : ℕ} (f : Foldable b p folded) (live : List 
       let q = dead-is value ∙ h in
       record {
         keeps-so = rw q;
-        live-so = rw q (marked-without s ∙ sym (ap (λ (w : View ℕ (List ℕ) Fault). before (globalsIn classes) (keptIn classes) w (marked live)) ((constant-here f e value) .shape-is)));
+        live-so = rw q (marked-without s ∙ sym (ap (λ (w : View ℕ (List ℕ) ℕ Fault). before (globalsIn classes) (keptIn classes) w (marked live)) ((constant-here f e value) .shape-is)));
       }
 
   pub prunes-kept : {classes live′ : List ℕ} → t ≡ false → (folded ≡ 1 → ⊥) → marked live′ ≡ liveBefore classes (recordAt b p) (marked live)

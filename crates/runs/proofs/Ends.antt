@@ -9,9 +9,10 @@ use lib.Dec.{eqb}
 use borrow.Author.Tests.{leb-true, eqb-true, eqb-false, not-true}
 use lib.Arith.{lt-of-le-ne}
 use Rattle.theory.specs.Checker.{checks}
-use Rattle.theory.specs.Machine.{View, calc, access, label, jump, branch, leave, isLabel, St, seek, runs}
+use Rattle.theory.specs.Machine.{View, calc, access, label, flow, to, out, isLabel, St, seek, runs}
 use Rattle.theory.specs.Sets.{Vars}
-use Rattle.theory.proofs.Ends.{proper, isLeave, isJump, Grounded, ends-properly}
+use Rattle.theory.proofs.Ends.{Grounded, ends-properly}
+use Rattle.theory.proofs.Simulation.{proper, goesOn, isJump}
 use Rattle.theory.proofs.Sets.{and-l, and-r, clash, tell}
 use Rattle.ops.specs.Kinds.{Does, unknown, declares, sets, jumpsTo, leaves, branches, loads, stores, computes, Row, at, condOk, labelOk}
 use Rattle.ops.specs.Ops.{kindOf, rowAt, restBy, Fault, viewBy, viewOf, tcg, restOk}
@@ -32,12 +33,12 @@ Due [] = ⊥
 Due (o ∷ r) = (s : Seen) × (checks tcg checker s (o ∷ r) ≡ true)
 
 -- the last op is an exit
-not-last : (s : Seen) (o : List ℕ) → allMet (endRules (passed s o)) ≡ true → isLeave (viewOf o) ≡ true
+not-last : (s : Seen) (o : List ℕ) → allMet (endRules (passed s o)) ≡ true → goesOn (viewOf o) ≡ false
 unfolding rule10
-not-last s o h = ap isLeave (exit-view o (eqb-true (kindOf o) 0x04 (and-l (eqb (kindOf o) 0x04) _ h)))
+not-last s o h = ap goesOn (exit-view o (eqb-true (kindOf o) 0x04 (and-l (eqb (kindOf o) 0x04) _ h)))
 
-next-due : (o : List ℕ) (r : List (List ℕ)) → Due (o ∷ r) → isLeave (viewOf o) ≡ false → Due r
-next-due o [] d h = clash (isLeave (viewOf o)) (not-last (d .0) o (and-r (opOk (d .0) o) (allMet (endRules (passed (d .0) o))) (d .1))) h
+next-due : (o : List ℕ) (r : List (List ℕ)) → Due (o ∷ r) → goesOn (viewOf o) ≡ true → Due r
+next-due o [] d h = clash (goesOn (viewOf o)) h (not-last (d .0) o (and-r (opOk (d .0) o) (allMet (endRules (passed (d .0) o))) (d .1)))
 next-due o (q ∷ r) d h = (passed (d .0) o, and-r (opOk (d .0) o) (checks tcg checker (passed (d .0) o) (q ∷ r)) (d .1))
 
 -- a jump's label is below 32, is not yet set, and is then jumped to
@@ -57,28 +58,26 @@ pub jump-low : (s : Seen) (o : List ℕ) (k : ℕ) → isJump k (viewOf o) ≡ t
 unfolding viewOf rule6
 jump-low s o k j h = low-label (rowAt o) ((rowAt o) .does) o k j h
 
-jump-labels : (labels targets : Vars) (w : View ℕ (List ℕ) Fault) (k : ℕ) → isJump k w ≡ true → labelFree labels w ≡ true
+jump-labels : (labels targets : Vars) (w : View ℕ (List ℕ) ℕ Fault) (k : ℕ) → isJump k w ≡ true → labelFree labels w ≡ true
     → (nextLabels labels w k ≡ false) × (nextTargets targets w k ≡ true)
 jump-labels labels targets (calc outs ins f) k j h = absurd (false≢true j)
 jump-labels labels targets (access outs ins f) k j h = absurd (false≢true j)
 jump-labels labels targets (label l) k j h = absurd (false≢true j)
-jump-labels labels targets (jump l) k j h = (subst (λ (n : ℕ). labels n ≡ false) (eqb-true l k j) (not-true (labels l) h), rw j)
-jump-labels labels targets (branch ins f l) k j h = (subst (λ (n : ℕ). labels n ≡ false) (eqb-true l k j) (not-true (labels l) h), rw j)
-jump-labels labels targets (leave x) k j h = absurd (false≢true j)
+jump-labels labels targets (flow ins c (to l)) k j h = (subst (λ (n : ℕ). labels n ≡ false) (eqb-true l k j) (not-true (labels l) h), rw j)
+jump-labels labels targets (flow ins c (out g)) k j h = absurd (false≢true j)
 
 pub more-targets : (b t : Bool) → t ≡ true → cond b true t ≡ true
 more-targets true t h = refl
 more-targets false t h = h
 
 -- a label that is not set stays so up to its set_label, and a target stays one
-pub other-labels : (labels targets : Vars) (w : View ℕ (List ℕ) Fault) (k : ℕ) → isLabel k w ≡ false → labels k ≡ false → targets k ≡ true
+pub other-labels : (labels targets : Vars) (w : View ℕ (List ℕ) ℕ Fault) (k : ℕ) → isLabel k w ≡ false → labels k ≡ false → targets k ≡ true
     → (nextLabels labels w k ≡ false) × (nextTargets targets w k ≡ true)
 other-labels labels targets (calc outs ins f) k n l t = (l, t)
 other-labels labels targets (access outs ins f) k n l t = (l, t)
 other-labels labels targets (label j) k n l t = (rw n l, t)
-other-labels labels targets (jump j) k n l t = (l, more-targets (eqb j k) (targets k) t)
-other-labels labels targets (branch ins f j) k n l t = (l, more-targets (eqb j k) (targets k) t)
-other-labels labels targets (leave x) k n l t = (l, t)
+other-labels labels targets (flow ins c (to j)) k n l t = (l, more-targets (eqb j k) (targets k) t)
+other-labels labels targets (flow ins c (out g)) k n l t = (l, t)
 
 -- at the end each target below 32 is set
 all-set : (targets labels : Vars) (n k : ℕ) → allSet targets labels n ≡ true → k < n → targets k ≡ true → labels k ≡ true

@@ -9,9 +9,9 @@ use lib.ListN.{length, getD, drop, set, replicate, length-set}
 use borrow.Author.Tests.{leb-true, eqb-true, not-true, eq-eqb, ne-eqb}
 use native.Mathlib.Nat.{zero-add, add-zero}
 use Rattle.theory.specs.Checker.{checks}
-use Rattle.theory.specs.Machine.{View, calc, access, label, jump, branch, leave, isLabel, seek, upd}
+use Rattle.theory.specs.Machine.{View, calc, access, label, flow, isLabel, seek, upd}
 use Rattle.theory.specs.Sets.{Vars, empty}
-use Rattle.theory.proofs.Ends.{isJump}
+use Rattle.theory.proofs.Simulation.{isJump}
 use Rattle.theory.proofs.Sets.{and-l, and-r, clash}
 use Rattle.ops.specs.Kinds.{Does, unknown, declares, sets, jumpsTo, leaves, branches, loads, stores, computes, Row, at}
 use Rattle.ops.specs.Ops.{rowAt, restBy, Fault, viewBy, viewOf, tcg, restOk}
@@ -25,16 +25,14 @@ use Rattle.runs.proofs.Ends.{jump-low, more-targets, other-labels, end-
 abbrev Says : List ℕ → Seen → Type 0
 Says L s = (length L ≡ 256) × ((v : ℕ) → numbered L v ≡ s .labels v)
 
-says-view : (L : List ℕ) (labels : Vars) (w : View ℕ (List ℕ) Fault) (i : ℕ) → length L ≡ 256 → ((v : ℕ) → numbered L v ≡ labels v) → ((m : ℕ) → isLabel m w ≡ true → m < 256)
+says-view : (L : List ℕ) (labels : Vars) (w : View ℕ (List ℕ) ℕ Fault) (i : ℕ) → length L ≡ 256 → ((v : ℕ) → numbered L v ≡ labels v) → ((m : ℕ) → isLabel m w ≡ true → m < 256)
     → (length (labelledBy w i L) ≡ 256) × ((v : ℕ) → numbered (labelledBy w i L) v ≡ nextLabels labels w v)
 says-view L labels (calc outs ins f) i n h b = (n, h)
 says-view L labels (access outs ins f) i n h b = (n, h)
 says-view L labels (label m) i n h b =
     let e : numbered (set L m (i + 1)) ≡ upd (numbered L) m true = numbered-upd (set-here L m (i + 1) (omega (arith, b m (eq-eqb m m refl)))) (omega arith) in
     (length-set L m (i + 1) ∙ n, λ v. ap (λ (f : Vars). f v) e ∙ ap (cond (eqb m v) true) (h v))
-says-view L labels (jump m) i n h b = (n, h)
-says-view L labels (branch ins f m) i n h b = (n, h)
-says-view L labels (leave x) i n h b = (n, h)
+says-view L labels (flow ins c y) i n h b = (n, h)
 
 low-set : (row : Row) (d : Does) (r : List ℕ) (k : ℕ) → isLabel k (viewBy row d r) ≡ true → restOk d (restBy row r) ≡ true → k < 32
 low-set row unknown r k j h = absurd (false≢true j)
@@ -55,27 +53,23 @@ says-next : (L : List ℕ) (s : Seen) (o : List ℕ) (i : ℕ) → Says L s → 
 says-next L s o i h k = says-view L (s .labels) (viewOf o) i (h .0) (h .1) (λ m e. omega (arith, set-low s o m e ((op-parts s o k) .0)))
 
 -- a label that is set keeps its number
-keeps-number : (L : List ℕ) (labels : Vars) (w : View ℕ (List ℕ) Fault) (i l : ℕ) → ((m : ℕ) → isLabel m w ≡ true → m < length L) → labelFree labels w ≡ true → labels l ≡ true
+keeps-number : (L : List ℕ) (labels : Vars) (w : View ℕ (List ℕ) ℕ Fault) (i l : ℕ) → ((m : ℕ) → isLabel m w ≡ true → m < length L) → labelFree labels w ≡ true → labels l ≡ true
     → getD (labelledBy w i L) l 0 ≡ getD L l 0
 keeps-number L labels (calc outs ins f) i l b h t = refl
 keeps-number L labels (access outs ins f) i l b h t = refl
 keeps-number L labels (label m) i l b h t =
     at-place (set-here L m (i + 1) (b m (eq-eqb m m refl))) l ∙ rw (ne-eqb m l (λ e. clash (labels l) t (subst (λ (x : ℕ). labels x ≡ false) e (not-true (labels m) h))))
-keeps-number L labels (jump m) i l b h t = refl
-keeps-number L labels (branch ins f m) i l b h t = refl
-keeps-number L labels (leave x) i l b h t = refl
+keeps-number L labels (flow ins c y) i l b h t = refl
 
 free-label : (s : Seen) (o : List ℕ) → rule7 s o ≡ true → labelFree (s .labels) (viewOf o) ≡ true
 unfolding rule7
 free-label s o h = h
 
-stays-set : (w : View ℕ (List ℕ) Fault) (labels : Vars) (l : ℕ) → labels l ≡ true → nextLabels labels w l ≡ true
+stays-set : (w : View ℕ (List ℕ) ℕ Fault) (labels : Vars) (l : ℕ) → labels l ≡ true → nextLabels labels w l ≡ true
 stays-set (calc outs ins f) labels l t = t
 stays-set (access outs ins f) labels l t = t
 stays-set (label m) labels l t = more-targets (eqb m l) (labels l) t
-stays-set (jump m) labels l t = t
-stays-set (branch ins f m) labels l t = t
-stays-set (leave x) labels l t = t
+stays-set (flow ins c y) labels l t = t
 
 stays : (os : List (List ℕ)) (s : Seen) (L : List ℕ) (i l : ℕ) → checks tcg checker s os ≡ true → Says L s → s .labels l ≡ true → getD (labelsFrom i L os) l 0 ≡ getD L l 0
 unfolding labelsFrom
@@ -93,13 +87,11 @@ pub record Lands (os : List (List ℕ)) (l number i : ℕ) : Type 0 where
   pub inside : on < length os
   pub numbered-so : number ≡ suc (i + on)
 
-label-view : (w : View ℕ (List ℕ) Fault) (l i : ℕ) (L : List ℕ) → isLabel l w ≡ true → l < length L → getD (labelledBy w i L) l 0 ≡ i + 1
+label-view : (w : View ℕ (List ℕ) ℕ Fault) (l i : ℕ) (L : List ℕ) → isLabel l w ≡ true → l < length L → getD (labelledBy w i L) l 0 ≡ i + 1
 label-view (calc outs ins f) l i L e h = absurd (false≢true e)
 label-view (access outs ins f) l i L e h = absurd (false≢true e)
 label-view (label m) l i L e h = at-place (set-here L m (i + 1) (omega (arith, eqb-true m l e))) l ∙ rw e
-label-view (jump m) l i L e h = absurd (false≢true e)
-label-view (branch ins f m) l i L e h = absurd (false≢true e)
-label-view (leave x) l i L e h = absurd (false≢true e)
+label-view (flow ins c y) l i L e h = absurd (false≢true e)
 
 lands : (os : List (List ℕ)) (s : Seen) (L : List ℕ) (i l : ℕ) → checks tcg checker s os ≡ true → Says L s → l < 32 → s .labels l ≡ false → s .targets l ≡ true
     → Lands os l (getD (labelsFrom i L os) l 0) i

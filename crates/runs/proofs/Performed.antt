@@ -7,13 +7,13 @@ use Prim.Native.Nat.{ℕ, _+_, _%_, _^_, _<_}
 use native.Mathlib.Omega.{arith}
 use lib.ListN.{getD}
 use native.Mathlib.Nat.{mod-eq-of-lt}
-use Rattle.theory.specs.Machine.{View, label, jump, leave, exit, fault, falls, jumps, stops, upd, reads, afterCalc, afterAccess, effect}
+use Rattle.theory.specs.Machine.{View, label, exit, fault, falls, jumps, stops, upd, reads, afterCalc, afterAccess, effect}
 use Rattle.word.specs.Condition.{condW}
 use Rattle.memory.specs.Access.{loadAt, storeAt}
 use Rattle.memory.specs.Answer.{accessWidth, loadedOf, servedOf, leftOf}
 use Rattle.memory.specs.Bytes.{lowFirst}
 use Rattle.ops.specs.Kinds.{at}
-use Rattle.ops.specs.Ops.{Fault, faultOf, afterLoad, afterStore, viewOf}
+use Rattle.ops.specs.Ops.{jump, leave, Fault, faultOf, afterLoad, afterStore, viewOf}
 use Rattle.ops.specs.Table.{roleOf}
 use Rattle.block.specs.Scan.{recordAt, Stands, SetAt}
 use Rattle.block.proofs.MarkSets.{at-place}
@@ -33,7 +33,7 @@ use Rattle.runs.specs.declared.Stop.the-variants.{Leaves, Faults, Unstat
 pub put-env : {values values′ : List ℕ} {d x : ℕ} → SetAt values d x values′ → upd (envOf values) d x ≡ envOf values′
 put-env s = fun-ext (λ v. sym (at-place s v))
 
-module _ (w : View ℕ (List ℕ) Fault) (values memory : List ℕ) where
+module _ (w : View ℕ (List ℕ) ℕ Fault) (values memory : List ℕ) where
   -- an op that leaves the state as it was
   pub stays : (o : Outcome) → effect 0 w (stateOf values memory) ≡ effectOf o (stateOf values memory) → Performs w values memory values memory o
   stays o e = record { tells = sym e; leaves-so = sym (ap (afterState (stateOf values memory)) e ∙ same o) }
@@ -84,10 +84,10 @@ load-none (some y) e = let z : _≡_ {A = ℕ} 0 1 = cc in absurd (omega arith)
 module _ (b values memory : List ℕ) (p : ℕ) (wide : Bool) {q : ℕ} {r : Loaded} (eq : q ≡ getD values (at b (p + 2)) 0)
     (e : r ≡ loadedOf (loadAt (accessWidth wide) (at b (p + 3)) memory q)) where
   loads-so : (o : Option ℕ) → loadAt (accessWidth wide) (at b (p + 3)) memory q ≡ o
-      → effect 0 (loadOp b p wide) (stateOf values memory) ≡ afterAccess 0 (at b (p + 1) ∷ []) (stateOf values memory) (afterLoad memory q (at b (p + 3)) o)
+      → effect 0 (loadOp b p wide) (stateOf values memory) ≡ afterAccess {Out = ℕ} 0 (at b (p + 1) ∷ []) (stateOf values memory) (afterLoad memory q (at b (p + 3)) o)
   loads-so o h =
-      ap (λ (a : ℕ). afterAccess 0 (at b (p + 1) ∷ []) (stateOf values memory) (afterLoad memory a (at b (p + 3)) (loadAt (accessWidth wide) (at b (p + 3)) memory a))) (sym eq)
-      ∙ ap (λ (x : Option ℕ). afterAccess 0 (at b (p + 1) ∷ []) (stateOf values memory) (afterLoad memory q (at b (p + 3)) x)) h
+      ap (λ (a : ℕ). afterAccess {Out = ℕ} 0 (at b (p + 1) ∷ []) (stateOf values memory) (afterLoad memory a (at b (p + 3)) (loadAt (accessWidth wide) (at b (p + 3)) memory a))) (sym eq)
+      ∙ ap (λ (x : Option ℕ). afterAccess {Out = ℕ} 0 (at b (p + 1) ∷ []) (stateOf values memory) (afterLoad memory q (at b (p + 3)) x)) h
 
   pub load-falls : {x : ℕ} {values′ : List ℕ} → r ≡ Value x → SetAt values (at b (p + 1)) x values′ → Performs (loadOp b p wide) values memory values′ memory Falls
   load-falls {x} {values′} t s =
@@ -100,14 +100,14 @@ module _ (b values memory : List ℕ) (p : ℕ) (wide : Bool) {q : ℕ} {r : Loa
 -- stores
 module _ (b values memory : List ℕ) (p : ℕ) {x q : ℕ} {memory′ : List ℕ} {r : Bool} (ex : x ≡ getD values (at b (p + 1)) 0) (eq : q ≡ getD values (at b (p + 2)) 0)
     (e : (r ≡ servedOf (storeAt (at b (p + 3)) memory q x)) × (memory′ ≡ leftOf memory (storeAt (at b (p + 3)) memory q x))) where
-  stores-so : effect 0 (storeOp b p) (stateOf values memory) ≡ afterAccess 0 [] (stateOf values memory) (afterStore q (at b (p + 3)) (storeAt (at b (p + 3)) memory q x))
-  stores-so = ap₂ (λ (u v : ℕ). afterAccess 0 [] (stateOf values memory) (afterStore v (at b (p + 3)) (storeAt (at b (p + 3)) memory v u))) (sym ex) (sym eq)
+  stores-so : effect 0 (storeOp b p) (stateOf values memory) ≡ afterAccess {Out = ℕ} 0 [] (stateOf values memory) (afterStore q (at b (p + 3)) (storeAt (at b (p + 3)) memory q x))
+  stores-so = ap₂ (λ (u v : ℕ). afterAccess {Out = ℕ} 0 [] (stateOf values memory) (afterStore v (at b (p + 3)) (storeAt (at b (p + 3)) memory v u))) (sym ex) (sym eq)
 
   pub store-falls : r ≡ true → Performs (storeOp b p) values memory values memory′ Falls
   store-falls t = falls-to (storeOp b p) values memory values memory′ (stores-so ∙ go (storeAt (at b (p + 3)) memory q x) (sym (e .0) ∙ t) (e .1))
     where
       go : (o : Option (List ℕ)) → servedOf o ≡ true → memory′ ≡ leftOf memory o
-          → afterAccess 0 [] (stateOf values memory) (afterStore q (at b (p + 3)) o) ≡ falls (stateOf values memory′)
+          → afterAccess {Out = ℕ} 0 [] (stateOf values memory) (afterStore q (at b (p + 3)) o) ≡ falls (stateOf values memory′)
       go none s l = absurd (false≢true s)
       go (some m) s l = ap (λ (n : List ℕ). falls (stateOf values n)) (sym l)
 
@@ -118,7 +118,7 @@ module _ (b values memory : List ℕ) (p : ℕ) {x q : ℕ} {memory′ : List �
       (stays (storeOp b p) values memory (Stops (Faults true q (at b (p + 3)))) (stores-so ∙ g .1))
     where
       go : (o : Option (List ℕ)) → servedOf o ≡ false → memory′ ≡ leftOf memory o
-          → (memory′ ≡ memory) × (afterAccess 0 [] (stateOf values memory) (afterStore q (at b (p + 3)) o) ≡ stops (fault (faultOf true q (at b (p + 3)))))
+          → (memory′ ≡ memory) × (afterAccess {Out = ℕ} 0 [] (stateOf values memory) (afterStore q (at b (p + 3)) o) ≡ stops (fault (faultOf true q (at b (p + 3)))))
       go none s l = (l, refl)
       go (some m) s l = absurd (false≢true (sym s))
 
@@ -136,7 +136,7 @@ constant-falls b values values′ p {x} e s =
 module _ {b : List ℕ} {p k : ℕ} (c : Computed b p k) (values : List ℕ) (r : Stated) (e : statesAt b p k (reads (envOf values) (inputsAt b p k)) ≡ valuesOf r) where
   acts : (m : List ℕ) → effect 0 (viewOf (recordAt b p)) (stateOf values m) ≡ afterCalc 0 (at b (p + 1) ∷ []) (stateOf values m) (valuesOf r)
   acts m =
-      ap (λ (w : View ℕ (List ℕ) Fault). effect 0 w (stateOf values m)) (pure-view (c .stands) (c .role-is))
+      ap (λ (w : View ℕ (List ℕ) ℕ Fault). effect 0 w (stateOf values m)) (pure-view (c .stands) (c .role-is))
       ∙ ap (afterCalc 0 (at b (p + 1) ∷ []) (stateOf values m)) e
 
   pub compute-falls : {x : ℕ} {values′ : List ℕ} → r ≡ StatedValue x → SetAt values (at b (p + 1)) x values′ → PerformsAlone (viewOf (recordAt b p)) values values′ Falls
@@ -158,9 +158,9 @@ module _ {b : List ℕ} {p k : ℕ} (c : Computed b p k) (values : List ℕ) (r 
 
 -- the ops that change nothing
 module _ {b : List ℕ} {p k : ℕ} (s : Stands b p k) (values memory : List ℕ) where
-  alone : (v : View ℕ (List ℕ) Fault) (o : Outcome) → viewOf (recordAt b p) ≡ v → effect 0 v (stateOf values memory) ≡ effectOf o (stateOf values memory)
+  alone : (v : View ℕ (List ℕ) ℕ Fault) (o : Outcome) → viewOf (recordAt b p) ≡ v → effect 0 v (stateOf values memory) ≡ effectOf o (stateOf values memory)
       → Performs (viewOf (recordAt b p)) values memory values memory o
-  alone v o e q = stays (viewOf (recordAt b p)) values memory o (ap (λ (w : View ℕ (List ℕ) Fault). effect 0 w (stateOf values memory)) e ∙ q)
+  alone v o e q = stays (viewOf (recordAt b p)) values memory o (ap (λ (w : View ℕ (List ℕ) ℕ Fault). effect 0 w (stateOf values memory)) e ∙ q)
 
   pub step-label : roleOf k ≡ SetsLabel → Performs (viewOf (recordAt b p)) values memory values memory Falls
   step-label e = alone (label (at b (p + 1))) Falls (label-view s e) refl

@@ -12,10 +12,10 @@ use borrow.Author.Tests.{eq-eqb}
 use native.Mathlib.Nat.{zero-add, sub-zero, add-zero, mod-eq-of-lt}
 use native.Mathlib.Numerals.{add-one}
 use Rattle.theory.specs.Checker.{checks}
-use Rattle.theory.specs.Machine.{Touch, faults, gives, View, calc, access, label, jump, branch, leave, fell, Effect, falls}
-use Rattle.theory.specs.Machine.{jumps, stops, reads, afterCalc, afterAccess, effect, St, Result, cost, seek, moved, counted, after, run, runs}
+use Rattle.theory.specs.Machine.{View, fell, Effect, falls}
+use Rattle.theory.specs.Machine.{jumps, stops, effect, St, Result, cost, seek, moved, counted, after, run, runs}
 use Rattle.theory.specs.Sets.{empty}
-use Rattle.theory.proofs.Ends.{isJump}
+use Rattle.theory.proofs.Simulation.{isJump, Says, says}
 use Rattle.ops.specs.Kinds.{bodyLength}
 use Rattle.ops.specs.Ops.{Fault, viewOf, tcg}
 use Rattle.ops.proofs.Sizes.{body-short}
@@ -45,25 +45,8 @@ abbrev pub sooner : ℕ → Result tcg → Result tcg
 sooner n r = record { end = r .end; state = r .state; count = n + r .count; left = r .left }
 
 -- an effect that jumps is a jump's
-effect-jumps : (w : View ℕ (List ℕ) Fault) (s : St tcg) (l : ℕ) → effect 0 w s ≡ jumps l → isJump l w ≡ true
-effect-jumps (calc outs ins f) s l e = no (f (reads (s .env) ins)) e
-  where
-    no : (o : Option (List ℕ)) → afterCalc {Val = ℕ} {Mem = List ℕ} {Flt = Fault} 0 outs s o ≡ jumps l → false ≡ true
-    no none q = let z : _≡_ {A = ℕ} 0 1 = cc in absurd (omega arith)
-    no (some vs) q = let z : _≡_ {A = ℕ} 0 1 = cc in absurd (omega arith)
-effect-jumps (access outs ins f) s l e = no (f (s .mem) (reads (s .env) ins)) e
-  where
-    no : (t : Touch ℕ (List ℕ) Fault) → afterAccess {Val = ℕ} {Mem = List ℕ} {Flt = Fault} 0 outs s t ≡ jumps l → false ≡ true
-    no (faults x) q = let z : _≡_ {A = ℕ} 0 1 = cc in absurd (omega arith)
-    no (gives vs m) q = let z : _≡_ {A = ℕ} 0 1 = cc in absurd (omega arith)
-effect-jumps (label m) s l e = let z : _≡_ {A = ℕ} 0 1 = cc in absurd (omega arith)
-effect-jumps (jump m) s l e = let q : m ≡ l = cc in eq-eqb m l q
-effect-jumps (branch ins f m) s l e = go (f (reads (s .env) ins)) e
-  where
-    go : (t : Bool) → cond {A = Effect ℕ (List ℕ) Fault} t (jumps m) (falls s) ≡ jumps l → eqb m l ≡ true
-    go true q = let z : m ≡ l = cc in eq-eqb m l z
-    go false q = let z : _≡_ {A = ℕ} 0 1 = cc in absurd (omega arith)
-effect-jumps (leave x) s l e = let z : _≡_ {A = ℕ} 0 1 = cc in absurd (omega arith)
+effect-jumps : (w : View ℕ (List ℕ) ℕ Fault) (s : St tcg) (l : ℕ) → effect 0 w s ≡ jumps l → isJump l w ≡ true
+effect-jumps w s l e = subst (Says w) e (says 0 w s)
 
 -- a record has at most ten bytes
 span-small : (b : List ℕ) (p j : ℕ) (os : List (List ℕ)) → recordsAt b p ≡ os → j ≤ length os → spanOf j os ≤ 10 * j
@@ -168,7 +151,7 @@ module _ {b values₀ memory₀ values memory : List ℕ} {op place count : ℕ}
     turned =
         u .goes-on ∙ ap (λ (f : ℕ). sooner count (run tcg (seek tcg) f (drop op (opsOf b)) (stateOf values memory))) more
         ∙ ap (λ (l : List (List ℕ)). sooner count (run tcg (seek tcg) (suc (u .fuel - 1)) l (stateOf values memory))) first
-        ∙ ap (λ (x : Effect ℕ (List ℕ) Fault). sooner count (after tcg (run tcg (seek tcg) (u .fuel - 1)) (getD (opsOf b) op [] ∷ onward) (stateOf values memory) (moved tcg (seek tcg) onward (stateOf values memory) x))) told
+        ∙ ap (λ (x : Effect ℕ (List ℕ) ℕ Fault). sooner count (after tcg (run tcg (seek tcg) (u .fuel - 1)) (getD (opsOf b) op [] ∷ onward) (stateOf values memory) (moved tcg (seek tcg) onward (stateOf values memory) x))) told
         ∙ ap (λ (l : List (List ℕ)). sooner count (after tcg (run tcg (seek tcg) (u .fuel - 1)) l (stateOf values memory) (moved tcg (seek tcg) onward (stateOf values memory) (effectOf o (stateOf values′ memory′))))) (sym first)
 
     counts : (q : Result tcg) → sooner count (counted tcg q) ≡ sooner (count + 1) q
@@ -179,7 +162,7 @@ module _ {b values₀ memory₀ values memory : List ℕ} {op place count : ℕ}
     run-stops {e} k a =
         let q : effectOf o (stateOf values′ memory′) ≡ stops (endOf e) = ap (λ (x : Outcome). effectOf x (stateOf values′ memory′)) k in
         let t : runs tcg (opsOf b) (stateOf values₀ memory₀) ≡ record { end = endOf e; state = stateOf values memory; count = count + cost (endOf e); left = drop op (opsOf b) } =
-        turned ∙ ap (λ (x : Effect ℕ (List ℕ) Fault). sooner count (after tcg (run tcg (seek tcg) (u .fuel - 1)) (drop op (opsOf b)) (stateOf values memory) (moved tcg (seek tcg) onward (stateOf values memory) x))) q in
+        turned ∙ ap (λ (x : Effect ℕ (List ℕ) ℕ Fault). sooner count (after tcg (run tcg (seek tcg) (u .fuel - 1)) (drop op (opsOf b)) (stateOf values memory) (moved tcg (seek tcg) onward (stateOf values memory) x))) q in
         let n : op ≡ length (opsOf b) - length (drop op (opsOf b)) = omega (arith, length-drop op (opsOf b)) in
         record {
           answers = a ∙ ap (λ (i : ℕ). answerOf (endOf e) i (count + cost (endOf e))) n ∙ sym (ap (λ (x : Result tcg). answerOf (x .end) (length (opsOf b) - length (x .left)) (x .count)) t);

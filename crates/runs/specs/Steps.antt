@@ -6,13 +6,13 @@ use mathlib.Core.List.{List, [], _∷_, map}
 use Prim.Native.Nat.{ℕ, _+_, _-_}
 use lib.Dec.{eqb, leb}
 use lib.ListN.{length, take}
-use Rattle.theory.specs.Machine.{View, calc, access, branch, End, exit, fault, unstated, Effect, falls, jumps, stops, effect, St, runs}
+use Rattle.theory.specs.Machine.{View, calc, access, End, exit, fault, unstated, Effect, falls, jumps, stops, effect, St, runs}
 use Rattle.word.specs.Condition.{condW}
 use Rattle.memory.specs.Access.{loadAt, storeAt}
 use Rattle.memory.specs.Answer.{accessWidth}
 use Rattle.memory.specs.Bytes.{lowFirst}
 use Rattle.ops.specs.Kinds.{at}
-use Rattle.ops.specs.Ops.{atWidths, Fault, faultOf, afterLoad, afterStore, tcg}
+use Rattle.ops.specs.Ops.{branch, atWidths, Fault, faultOf, afterLoad, afterStore, tcg}
 use Rattle.block.specs.Records.{recordsOf, opsFrom, widthOf}
 use Rattle.block.specs.Scan.{Approved}
 use Rattle.runs.specs.Evaluates.{envOf}
@@ -33,24 +33,24 @@ endOf (Leaves v) = exit v
 endOf (Faults store address flags) = fault (faultOf store address flags)
 endOf Unstated = unstated
 
-abbrev pub effectOf : Outcome → St tcg → Effect ℕ (List ℕ) Fault
+abbrev pub effectOf : Outcome → St tcg → Effect ℕ (List ℕ) ℕ Fault
 effectOf Falls t = falls t
 effectOf (JumpsTo l) t = jumps l
 effectOf (Stops e) t = stops (endOf e)
 
 -- the state after an effect: only an op that leaves one to the next changes it
-abbrev pub afterState : St tcg → Effect ℕ (List ℕ) Fault → St tcg
+abbrev pub afterState : St tcg → Effect ℕ (List ℕ) ℕ Fault → St tcg
 afterState s (falls t) = t
 afterState s (jumps l) = s
 afterState s (stops e) = s
 
 -- an op with this view is run: its outcome, and what it leaves in the values and the memory
-pub record Performs (w : View ℕ (List ℕ) Fault) (values memory values′ memory′ : List ℕ) (outcome : Outcome) : Type 0 where
+pub record Performs (w : View ℕ (List ℕ) ℕ Fault) (values memory values′ memory′ : List ℕ) (outcome : Outcome) : Type 0 where
   pub tells : effectOf outcome (stateOf values′ memory′) ≡ effect 0 w (stateOf values memory)
   pub leaves-so : stateOf values′ memory′ ≡ afterState (stateOf values memory) (effect 0 w (stateOf values memory))
 
 -- the same where the op leaves every memory as it is
-pub record PerformsAlone (w : View ℕ (List ℕ) Fault) (values values′ : List ℕ) (outcome : Outcome) : Type 0 where
+pub record PerformsAlone (w : View ℕ (List ℕ) ℕ Fault) (values values′ : List ℕ) (outcome : Outcome) : Type 0 where
   pub under : (m : List ℕ) → Performs w values m values′ m outcome
 
 -- the scan has accepted the block, and kept where its ops and labels are
@@ -76,20 +76,20 @@ abbrev pub lentOk : List ℕ → ℕ → ℕ → List ℕ → List ℕ → Bool
 lentOk types n declared globals memory = eqb (length globals) declared && globalsFit (map widthOf (take n types)) globals && leb (length memory) 65536
 
 -- the views of the ops that a step takes apart, from the bytes of the block after the place
-abbrev pub branchOp : List ℕ → ℕ → Bool → View ℕ (List ℕ) Fault
+abbrev pub branchOp : List ℕ → ℕ → Bool → View ℕ (List ℕ) ℕ Fault
 branchOp b p wide =
     let w = accessWidth wide in
     branch (at b (p + 1) ∷ at b (p + 2) ∷ []) (λ vs. let xs = atWidths (w ∷ w ∷ []) vs in condW w (at b (p + 3)) (at xs 0) (at xs 1)) (at b (p + 4))
 
-abbrev pub loadOp : List ℕ → ℕ → Bool → View ℕ (List ℕ) Fault
+abbrev pub loadOp : List ℕ → ℕ → Bool → View ℕ (List ℕ) ℕ Fault
 loadOp b p wide =
     let f = at b (p + 3) in
     access (at b (p + 1) ∷ []) (at b (p + 2) ∷ []) (λ m vs. let q = at vs 0 in afterLoad m q f (loadAt (accessWidth wide) f m q))
 
-abbrev pub storeOp : List ℕ → ℕ → View ℕ (List ℕ) Fault
+abbrev pub storeOp : List ℕ → ℕ → View ℕ (List ℕ) ℕ Fault
 storeOp b p =
     let f = at b (p + 3) in
     access [] (at b (p + 1) ∷ at b (p + 2) ∷ []) (λ m vs. let q = at vs 1 in afterStore q f (storeAt f m q (at vs 0)))
 
-abbrev pub constantOp : List ℕ → ℕ → View ℕ (List ℕ) Fault
+abbrev pub constantOp : List ℕ → ℕ → View ℕ (List ℕ) ℕ Fault
 constantOp b p = calc (at b (p + 1) ∷ []) [] (λ vs. some (lowFirst b (p + 2) 8 ∷ []))

@@ -4,11 +4,11 @@ use mathlib.Core.Bool.{Bool, true, false}
 use mathlib.Core.List.{[], _∷_}
 use mathlib.Core.Logic.{_⊎_, inl, inr}
 use Rattle.theory.specs.Checker.{Checker, checks}
-use Rattle.theory.specs.Fold.{Known, nothing, Rewrite, put, omit, cut, Mode, on, off, isCalc, learned, anyLabel, Rule, emit, resume, ruleAt, fold}
+use Rattle.theory.specs.Fold.{Known, nothing, Rewrite, put, omit, cut, Mode, on, off, learned, Rule, emit, resume, ruleAt, fold}
 use Rattle.theory.specs.Fold.{pass}
-use Rattle.theory.specs.Machine.{View, calc, access, label, jump, branch, leave, Lang, Prog}
+use Rattle.theory.specs.Machine.{Lang, outputs, pure, anyLabel, Prog}
 use Rattle.theory.specs.Prune.{dead, pruneBy, live}
-use Rattle.theory.specs.Sets.{Vars}
+use Rattle.theory.specs.Sets.{Vars, noneIn}
 use Rattle.theory.proofs.Sets.{and-l, and-r, and-i, tell}
 
 -- Le x y: whatever is accepted after x is accepted after y
@@ -20,7 +20,7 @@ pub record Lenient (L : Lang) (C : Checker L) : Type 1 where
   pub next-le : (x y : C .Seen) (o : L .Op) → Le x y → Le (C .next x o) (C .next y o)
   pub fin-le : (x y : C .Seen) → Le x y → C .fin x ≡ true → C .fin y ≡ true
   -- a pure op may go
-  pub drop-ok : (x : C .Seen) (o : L .Op) → isCalc (L .view o) ≡ true → Le (C .next x o) x
+  pub drop-ok : (x : C .Seen) (o : L .Op) → pure (L .view o) ≡ true → Le (C .next x o) x
 
 -- what a rule of fold has to show of what it puts in place; Good: what is known of the known values
 pub record Admits (L : Lang) (C : Checker L) (N : Lenient L C) (rule : Rule L) : Type 1 where
@@ -35,14 +35,6 @@ pub record Admits (L : Lang) (C : Checker L) (N : Lenient L C) (rule : Rule L) :
   pub skip-ok : (x : C .Seen) (o : L .Op) → Skips → anyLabel (L .view o) ≡ false → N .Le (C .next x o) x
 
 module _ (L : Lang) (C : Checker L) (N : Lenient L C) where
-  dead-calc : (w : View (L .Val) (L .Mem) (L .Flt)) (l : Vars) → dead w l ≡ true → isCalc w ≡ true
-  dead-calc (calc outs ins f) l h = refl
-  dead-calc (access outs ins f) l h = h
-  dead-calc (label k) l h = h
-  dead-calc (jump k) l h = h
-  dead-calc (branch ins f k) l h = h
-  dead-calc (leave x) l h = h
-
   pub prune-checks : (note : Prog L → Vars) (r : Prog L) (x y : C .Seen) → N .Le x y → checks L C x r ≡ true → checks L C y (pruneBy L note r) ≡ true
   prune-checks note [] x y h c = N .fin-le x y h c
   prune-checks note (o ∷ r) x y h c =
@@ -50,7 +42,7 @@ module _ (L : Lang) (C : Checker L) (N : Lenient L C) where
     where
       go : (dead (L .view o) (note r) ≡ true) ⊎ (dead (L .view o) (note r) ≡ false)
           → ((u : C .Seen) → N .Le (C .next x o) u → checks L C u (pruneBy L note r) ≡ true) → checks L C y (pruneBy L note (o ∷ r)) ≡ true
-      go (inl d) ih = rw d (ih y (N .le-trans (C .next x o) x y (N .drop-ok x o (dead-calc (L .view o) (note r) d)) h))
+      go (inl d) ih = rw d (ih y (N .le-trans (C .next x o) x y (N .drop-ok x o (and-l (pure (L .view o)) (noneIn (outputs (L .view o)) (note r)) d)) h))
       go (inr d) ih =
           rw d
           (and-i (C .ok y o) (checks L C (C .next y o) (pruneBy L note r)) (N .ok-le x y o h (and-l (C .ok x o) (checks L C (C .next x o) r) c))

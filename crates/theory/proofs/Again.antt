@@ -1,18 +1,20 @@
 -- The pass done again changes nothing: no op of its result folds, and none is dead. Assumes nothing.
 use mathlib.Core.Path.{_≡_, refl, ap, _∙_}
-use mathlib.Core.Bool.{true, false, not, false≢true}
+use mathlib.Core.Bool.{Bool, true, false, cond}
 use mathlib.Core.Option.{none}
 use mathlib.Core.List.{[], _∷_}
 use mathlib.Core.Logic.{_⊎_, inl, inr}
 use Prim.Native.Nat.{ℕ}
-use Rattle.theory.specs.Fold.{Known, nothing, Rewrite, put, omit, cut, on, off, gain, inputs, learned, anyLabel, Rule, emit, resume, ruleAt, fold}
+use Rattle.theory.specs.Fold.{Known, nothing, Rewrite, put, omit, cut, on, off, gain, learned, Rule, emit, resume, ruleAt, fold}
 use Rattle.theory.specs.Fold.{pass}
-use Rattle.theory.specs.Machine.{View, calc, access, label, jump, branch, leave, Lang, reads, Prog}
-use Rattle.theory.specs.Prune.{dead, before, live, prune, liveAll, AllUsed}
-use Rattle.theory.specs.Sets.{Vars, has, without, both}
+use Rattle.theory.specs.Machine.{Lang, reads, writes, inputs, outputs, computes, pure, closes, anyLabel, Prog, Viewed}
+use Rattle.theory.specs.Prune.{dead, pruneBy, live, prune, liveAll, AllUsed}
+use Rattle.theory.specs.Sets.{Vars, noneIn}
 use Rattle.theory.proofs.Fold.{any-learned}
-use Rattle.theory.proofs.Liveness.{inputs-live}
-use Rattle.theory.proofs.Sets.{or-r, and-i, tell, dead-out, writes-other, writes-both, reads-same}
+use Rattle.theory.proofs.Liveness.{base-keeps}
+use Rattle.theory.proofs.PruneBy.{Keeps}
+use Rattle.theory.proofs.Sets.{and-l, and-r, tell, dead-out, writes-other, writes-both, reads-same}
+use Rattle.theory.proofs.Views.{pure-open}
 
 module _ (L : Lang) (glob kept : Vars) where
   -- with the dropped ops gone, what is live is what prune worked out
@@ -79,52 +81,45 @@ module _ (L : Lang) (rule : Rule L) where
     pub fold-still : (r : Prog L) → Still (fold L rule r (on nothing)) nothing
     fold-still r = (fold-both r) .0 nothing
 
-  module _ (glob kept : Vars) where
-    learned-live : (w : View (L .Val) (L .Mem) (L .Flt)) (l : Vars) (k k′ : Known (L .Val)) → ((v : ℕ) → before glob kept w l v ≡ true → k v ≡ k′ v)
-        → (v : ℕ) → l v ≡ true → learned k w v ≡ learned k′ w v
-    learned-live (calc outs ins f) l k k′ h v q =
-        writes-both none k k′ outs (gain ins f) v (λ e. h v (or-r (has ins v) (without l outs v) (and-i (not (has outs v)) (l v) (ap not e) q)))
-    learned-live (access outs ins f) l k k′ h v q =
-        writes-both none k k′ outs [] v
-        (λ e. h v (or-r (has ins v) (both glob (without l outs) v) (or-r (glob v) (without l outs v) (and-i (not (has outs v)) (l v) (ap not e) q))))
-    learned-live (label j) l k k′ h v q = refl
-    learned-live (jump j) l k k′ h v q = refl
-    learned-live (branch ins f j) l k k′ h v q = refl
-    learned-live (leave x) l k k′ h v q = refl
-
-    learned-dead : (w : View (L .Val) (L .Mem) (L .Flt)) (l : Vars) (k : Known (L .Val)) (v : ℕ) → dead w l ≡ true → l v ≡ true → learned k w v ≡ k v
-    learned-dead (calc outs ins f) l k v d q = writes-other none k outs (gain ins f) v (dead-out outs l v d q)
-    learned-dead (access outs ins f) l k v d q = absurd (false≢true d)
-    learned-dead (label j) l k v d q = absurd (false≢true d)
-    learned-dead (jump j) l k v d q = absurd (false≢true d)
-    learned-dead (branch ins f j) l k v d q = absurd (false≢true d)
-    learned-dead (leave x) l k v d q = absurd (false≢true d)
-
-    pub still-prune : (r : Prog L) (k k′ : Known (L .Val)) → Still r k → ((v : ℕ) → live L glob kept r v ≡ true → k v ≡ k′ v) → Still (prune L glob kept r) k′
-    still-prune [] k k′ h a = tt
-    still-prune (o ∷ r) k k′ h a = go (tell (dead w l)) (λ j. still-prune r (learned k w) j (h .1))
+  -- a prune drops no op that fold learns from for a kept one
+  module _ (note : Prog L → Vars) (keeps : Keeps L note) where
+    learned-live : (o : L .Op) (r : Prog L) (k k′ : Known (L .Val)) → dead (L .view o) (note r) ≡ false → ((v : ℕ) → note (o ∷ r) v ≡ true → k v ≡ k′ v)
+        → (v : ℕ) → note r v ≡ true → learned k (L .view o) v ≡ learned k′ (L .view o) v
+    learned-live o r k k′ d h v q = go (closes w) refl
       where
-        w : View (L .Val) (L .Mem) (L .Flt)
+        w : Viewed L
         w = L .view o
 
-        l : Vars
-        l = live L glob kept r
+        go : (b : Bool) → closes w ≡ b
+            → cond b nothing (writes none k (outputs w) (gain (inputs w) (computes w))) v ≡ cond b nothing (writes none k′ (outputs w) (gain (inputs w) (computes w))) v
+        go true e = refl
+        go false e = writes-both none k k′ (outputs w) (gain (inputs w) (computes w)) v (λ x. h v (keeps .on-live o r v d e x q))
 
-        go : (dead w l ≡ true) ⊎ (dead w l ≡ false)
-            → ((j : Known (L .Val)) → ((v : ℕ) → l v ≡ true → learned k w v ≡ j v) → Still (prune L glob kept r) j)
-            → Still (prune L glob kept (o ∷ r)) k′
-        go (inl d) ih =
-            let a₁ : (v : ℕ) → l v ≡ true → k v ≡ k′ v = rw d at a in
-            rw d (ih k′ (λ v q. learned-dead w l k v d q ∙ a₁ v q))
+    learned-dead : (w : Viewed L) (l : Vars) (k : Known (L .Val)) (v : ℕ) → dead w l ≡ true → l v ≡ true → learned k w v ≡ k v
+    learned-dead w l k v d q =
+        rw (pure-open w (and-l (pure w) (noneIn (outputs w) l) d))
+        (writes-other none k (outputs w) (gain (inputs w) (computes w)) v (dead-out (outputs w) l v (and-r (pure w) (noneIn (outputs w) l) d) q))
+
+    pub still-prune : (r : Prog L) (k k′ : Known (L .Val)) → Still r k → ((v : ℕ) → note r v ≡ true → k v ≡ k′ v) → Still (pruneBy L note r) k′
+    still-prune [] k k′ h a = tt
+    still-prune (o ∷ r) k k′ h a = go (tell (dead w (note r))) (λ j. still-prune r (learned k w) j (h .1))
+      where
+        w : Viewed L
+        w = L .view o
+
+        go : (dead w (note r) ≡ true) ⊎ (dead w (note r) ≡ false)
+            → ((j : Known (L .Val)) → ((v : ℕ) → note r v ≡ true → learned k w v ≡ j v) → Still (pruneBy L note r) j)
+            → Still (pruneBy L note (o ∷ r)) k′
+        go (inl d) ih = rw d (ih k′ (λ v q. learned-dead w (note r) k v d q ∙ a v (keeps .drop-live o r v d q)))
         go (inr d) ih =
-            let a₁ : (v : ℕ) → before glob kept w l v ≡ true → k v ≡ k′ v = rw d at a in
-            let e : reads k (inputs w) ≡ reads k′ (inputs w) = reads-same k k′ (inputs w) (λ v q. a₁ v (inputs-live glob kept w l v q)) in
-            rw d (rw e at (h .0), ih (learned k′ w) (learned-live w l k k′ a₁))
+            let e : reads k (inputs w) ≡ reads k′ (inputs w) = reads-same k k′ (inputs w) (λ v q. a v (keeps .in-live o r v d q)) in
+            rw d (rw e at (h .0), ih (learned k′ w) (learned-live o r k k′ d a))
 
+  module _ (glob kept : Vars) where
     module _ (good : Settles) where
       -- no op of the pass's result folds
       pub pass-still : (b : Prog L) → Still (pass L rule glob kept b) nothing
-      pass-still b = still-prune (fold L rule b (on nothing)) nothing nothing (fold-still good b) (λ v q. refl)
+      pass-still b = still-prune (live L glob kept) (base-keeps L glob kept) (fold L rule b (on nothing)) nothing nothing (fold-still good b) (λ v q. refl)
 
       -- no pure op of it has dead outputs
       pub pass-used : (b : Prog L) → AllUsed L glob kept (pass L rule glob kept b)

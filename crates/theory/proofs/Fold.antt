@@ -1,29 +1,28 @@
 -- What fold makes of a block does what the block did. Assumes nothing.
 use mathlib.Core.Path.{_≡_, refl, sym, ap, _∙_}
-use mathlib.Core.Bool.{Bool, true, false, cond, false≢true, true≢false}
+use mathlib.Core.Bool.{Bool, true, false, cond}
 use mathlib.Core.Option.{Option, none, some}
 use mathlib.Core.List.{List, [], _∷_}
 use mathlib.Core.Logic.{_⊎_, inl, inr}
 use Prim.Native.Nat.{ℕ}
 use lib.Dec.{eqb}
-use Rattle.theory.specs.Fold.{Known, nothing, Rewrite, put, omit, cut, Mode, on, off, somes, given, learned, anyLabel, Rule, emit, ruleAt, fold}
-use Rattle.theory.specs.Machine.{Touch, faults, gives, View, calc, access, label, jump, branch, leave, Lang, unstated, State, Effect, falls, jumps}
-use Rattle.theory.specs.Machine.{stops, headOr, tailOf, upd, reads, writes, afterCalc, afterAccess, effect, isLabel, St, Prog, All, seek, Dest, moved}
-use Rattle.theory.specs.Machine.{run}
+use Rattle.theory.specs.Fold.{Known, nothing, Rewrite, put, omit, cut, Mode, on, off, somes, given, gain, learned, Rule, emit}
+use Rattle.theory.specs.Fold.{ruleAt, fold}
+use Rattle.theory.specs.Machine.{Touch, faults, gives, always, when, Way, to, out, View, calc, access, label, flow, Lang}
+use Rattle.theory.specs.Machine.{unstated, State, Effect, falls, jumps, stops, headOr, tailOf, upd, reads, writes, anyLabel}
+use Rattle.theory.specs.Machine.{isLabel, afterCalc, afterAccess, sent, effect, St, Prog, Effects, All, seek, Dest, moved, run}
 use Rattle.theory.proofs.Sets.{tell}
 use Rattle.theory.proofs.Simulation.{definite, Follows, drops, moves, ends, open-end, Matches, simulates}
+use Rattle.theory.proofs.Views.{no-some, label-is, label-any, any-none}
 
 module _ {Val : Type 0} where
   -- what is known is so
   abbrev pub Right : Known Val → (ℕ → Val) → Type 0
   Right k e = (v : ℕ) (x : Val) → k v ≡ some x → e v ≡ x
 
-abbrev isSome : {A : Type 0} → Option A → Bool
-isSome none = false
-isSome (some a) = true
-
-pub no-some {ℓ} : {A : Type 0} {B : Type ℓ} {a : A} → none ≡ some a → B
-no-some e = absurd (false≢true (ap isSome e))
+pub gain-none : {Val : Type 0} (ins : List ℕ) → gain {Val = Val} ins (λ xs. none) ≡ []
+gain-none [] = refl
+gain-none (i ∷ is) = refl
 
 module _ {Val : Type 0} (z : Val) where
   right-upd : (k : Known Val) (e : ℕ → Val) (o : ℕ) (x : Option Val) (y : Val) → Right k e → ((a : Val) → x ≡ some a → y ≡ a)
@@ -46,14 +45,14 @@ module _ {Val : Type 0} (z : Val) where
   right-nothing : (e : ℕ → Val) → Right nothing e
   right-nothing e v x q = no-some q
 
-  module _ {Mem Flt : Type 0} where
+  module _ {Mem Out Flt : Type 0} where
     -- the state in which an effect leaves the next op, if it falls through
-    abbrev pub Leaves : (State Val Mem → Type 0) → Effect Val Mem Flt → Type 0
+    abbrev pub Leaves : (State Val Mem → Type 0) → Effect Val Mem Out Flt → Type 0
     Leaves P (falls t) = P t
     Leaves P (jumps j) = Unit {0}
     Leaves P (stops x) = Unit {0}
 
-    right-learned : (w : View Val Mem Flt) (k : Known Val) (s : State Val Mem) → Right k (s .env) → Leaves (λ t. Right (learned k w) (t .env)) (effect z w s)
+    right-learned : (w : View Val Mem Out Flt) (k : Known Val) (s : State Val Mem) → Right k (s .env) → Leaves (λ t. Right (learned k w) (t .env)) (effect z w s)
     right-learned (calc outs [] f) k s r = go (f [])
       where
         go : (x : Option (List Val)) → Leaves (λ t. Right (writes none k outs (given x)) (t .env)) (afterCalc z outs s x)
@@ -66,26 +65,22 @@ module _ {Val : Type 0} (z : Val) where
         go (some vs) = right-none outs vs k (s .env) r
     right-learned (access outs ins f) k s r = go (f (s .mem) (reads (s .env) ins))
       where
-        go : (x : Touch Val Mem Flt) → Leaves (λ t. Right (writes none k outs []) (t .env)) (afterAccess z outs s x)
+        go : (x : Touch Val Mem Flt) → Leaves (λ t. Right (writes none k outs (gain ins (λ xs. none))) (t .env)) (afterAccess z outs s x)
         go (faults x) = tt
-        go (gives vs m) = right-none outs vs k (s .env) r
+        go (gives vs m) = rw (gain-none ins) (right-none outs vs k (s .env) r)
     right-learned (label j) k s r = right-nothing (s .env)
-    right-learned (jump j) k s r = tt
-    right-learned (branch ins f j) k s r = go (f (reads (s .env) ins))
+    right-learned (flow ins always (to j)) k s r = tt
+    right-learned (flow ins always (out g)) k s r = tt
+    right-learned (flow ins (when f) y) k s r = go (f (s .mem) (reads (s .env) ins)) y
       where
-        go : (x : Bool) → Leaves (λ t. Right nothing (t .env)) (cond x (jumps j) (falls s))
-        go true = tt
-        go false = right-nothing (s .env)
-    right-learned (leave x) k s r = tt
+        go : (x : Bool) (y : Way Val Out) → Leaves (λ t. Right nothing (t .env)) (cond x (sent y (reads (s .env) ins)) (falls s))
+        go true (to j) = tt
+        go true (out g) = tt
+        go false y = right-nothing (s .env)
 
 -- at a label nothing is known
-pub any-learned : {Val Mem Flt : Type 0} (k : Known Val) (w : View Val Mem Flt) → anyLabel w ≡ true → learned k w ≡ nothing
-any-learned k (calc outs ins f) e = absurd (false≢true e)
-any-learned k (access outs ins f) e = absurd (false≢true e)
-any-learned k (label l) e = refl
-any-learned k (jump l) e = absurd (false≢true e)
-any-learned k (branch ins f l) e = absurd (false≢true e)
-any-learned k (leave x) e = absurd (false≢true e)
+pub any-learned : {Val Mem Out Flt : Type 0} (k : Known Val) (w : View Val Mem Out Flt) → anyLabel w ≡ true → learned k w ≡ nothing
+any-learned k w e = let p = label-is w e in rw (p .1)
 
 pub seek-all : (L : Lang) (P : L .Op → Type 0) (k : ℕ) (r : Prog L) → All P r → All P (seek L k r)
 seek-all L P k [] h = h
@@ -111,22 +106,6 @@ pub record Sound (L : Lang) (rule : Rule L) (Ok : L .Op → Type 0) (Fit : (ℕ 
   pub cut-plain : (k : Known (L .Val)) (o o′ : L .Op) → ruleAt L rule k o ≡ cut o′ → anyLabel (L .view o′) ≡ false
 
 module _ (L : Lang) (rule : Rule L) (Ok : L .Op → Type 0) (Fit : (ℕ → L .Val) → Type 0) (good : Sound L rule Ok Fit) where
-  label-any : (k : ℕ) (w : View (L .Val) (L .Mem) (L .Flt)) → isLabel k w ≡ true → anyLabel w ≡ true
-  label-any k (calc outs ins f) e = e
-  label-any k (access outs ins f) e = e
-  label-any k (label l) e = refl
-  label-any k (jump l) e = e
-  label-any k (branch ins f l) e = e
-  label-any k (leave x) e = e
-
-  any-none : (k : ℕ) (w : View (L .Val) (L .Mem) (L .Flt)) → anyLabel w ≡ false → isLabel k w ≡ false
-  any-none k (calc outs ins f) e = refl
-  any-none k (access outs ins f) e = refl
-  any-none k (label l) e = absurd (true≢false e)
-  any-none k (jump l) e = refl
-  any-none k (branch ins f l) e = refl
-  any-none k (leave x) e = refl
-
   -- at a label fold starts anew, whatever it knew
   fold-label : (o : L .Op) (r : Prog L) (m : Mode (L .Val)) → anyLabel (L .view o) ≡ true → fold L rule (o ∷ r) m ≡ o ∷ fold L rule r (on nothing)
   fold-label o r (on k) e = rw (good .label-stays k o e, any-learned k (L .view o) e)
@@ -189,7 +168,7 @@ module _ (L : Lang) (rule : Rule L) (Ok : L .Op → Type 0) (Fit : (ℕ → L .V
         puts o′ (inl e) = open-end (ap (moved L d r s) e)
         puts o′ (inr e) = by (effect z (L .view o′) s) refl (right-learned z (L .view o′) k s h) (rw e (good .fits o s (c .0) f))
           where
-            by : (x : Effect (L .Val) (L .Mem) (L .Flt)) → effect z (L .view o′) s ≡ x → Leaves z (λ t. Right (learned k (L .view o′)) (t .env)) x → Leaves z (λ t. Fit (t .env)) x
+            by : (x : Effects L) → effect z (L .view o′) s ≡ x → Leaves z (λ t. Right (learned k (L .view o′)) (t .env)) x → Leaves z (λ t. Fit (t .env)) x
                 → Follows L d d′ Folded (λ a b. b ≡ a) (o ∷ r) s (o′ ∷ fold L rule r (on (learned k (L .view o′)))) s
             by (falls t) q l g =
                 moves (ap (moved L d r s) (sym e ∙ q)) (ap (moved L d′ (fold L rule r (on (learned k (L .view o′)))) s) q)

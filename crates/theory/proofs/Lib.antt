@@ -1,4 +1,5 @@
 pub mod Sets
+pub mod Views
 pub mod Simulation
 pub mod PruneBy
 pub mod Liveness

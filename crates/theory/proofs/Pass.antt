@@ -5,8 +5,8 @@ use mathlib.Core.List.{[], _∷_}
 use Prim.Native.Nat.{ℕ, suc, _+_, _-_, _≤_}
 use native.Mathlib.Omega.{arith}
 use lib.ListN.{length}
-use Rattle.theory.specs.Fold.{nothing, Rewrite, put, omit, cut, Mode, on, off, learned, anyLabel, Rule, emit, resume, ruleAt, fold, pass}
-use Rattle.theory.specs.Machine.{Lang, St, Prog, All, seek, Dest, run, runs}
+use Rattle.theory.specs.Fold.{nothing, Rewrite, put, omit, cut, Mode, on, off, learned, Rule, emit, resume, ruleAt, fold, pass}
+use Rattle.theory.specs.Machine.{Lang, anyLabel, St, Prog, All, seek, Dest, run, runs}
 use Rattle.theory.specs.Prune.{dead, live, prune, AllUsed}
 use Rattle.theory.specs.Scope.{scoped}
 use Rattle.theory.specs.Sets.{Vars, empty}
@@ -43,7 +43,7 @@ prune-length L glob kept (o ∷ r) = go (dead (L .view o) (live L glob kept r)) 
 
 module _ (L : Lang) (glob kept : Vars) (wide : (v : ℕ) → glob v ≡ true → kept v ≡ true) (rule : Rule L) (Ok : L .Op → Type 0) (Fit : (ℕ → L .Val) → Type 0)
     (sound : Sound L rule Ok Fit) (settles : Settles L rule) (scopes : Scopes L kept rule) where
-  module _ (d d₁ d₂ : Dest L) (anew : Anew L rule Ok Fit sound d d₁) (lands : Lands L glob kept wide d₁ d₂) where
+  module _ (d d₁ d₂ : Dest L) (anew : Anew L rule Ok Fit sound d d₁) (lands : Lands L glob kept wide (live L glob kept) d₁ d₂) where
     pub matches-within : (n : ℕ) (b : Prog L) (s : St L) → All Ok b → Fit (s .env) → scoped L kept empty b ≡ true → definite ((run L d n b s) .end) ≡ true
         → Matches L (Agree (L .zeroV) glob) (run L d n b s) (run L d₂ n (pass L rule glob kept b) s)
     matches-within n b s a g c x =
@@ -58,7 +58,7 @@ module _ (L : Lang) (glob kept : Vars) (wide : (v : ℕ) → glob v ≡ true →
       → Matches L (Agree (L .zeroV) glob) (run L (λ k r. seek L k b) n b s) (run L (λ k r. seek L k (pass L rule glob kept b)) n (pass L rule glob kept b) s)
   looped b a c n s g x =
       matches-within (λ k r. seek L k b) (λ k r. seek L k (fold L rule b (on nothing))) (λ k r. seek L k (pass L rule glob kept b)) (anywhere-anew L rule Ok Fit sound b a)
-      (anywhere L glob kept wide (fold L rule b (on nothing)) (fold-scoped L kept rule scopes b (on nothing) empty empty (λ v q. q) c)) n b s a g c x
+      (anywhere L glob kept wide (live L glob kept) (fold L rule b (on nothing)) (fold-scoped L kept rule scopes b (on nothing) empty empty (λ v q. q) c)) n b s a g c x
 
   pub record Preserves (b : Prog L) : Type 0 where
     pub accepted : scoped L kept empty (pass L rule glob kept b) ≡ true
@@ -91,4 +91,4 @@ module _ (L : Lang) (glob kept : Vars) (wide : (v : ℕ) → glob v ≡ true →
       at : (s : St L) → Fit (s .env) → stated ((runs L b s) .end) ≡ true → Matches L (Agree (L .zeroV) glob) (runs L b s) (runs L r s)
       at s g h =
           let d : definite ((runs L b s) .end) ≡ true = and-i (unspent ((runs L b s) .end)) (stated ((runs L b s) .end)) (enough L (seek L) (seek-length L) (suc (length b)) b s (omega arith)) h in
-          rw same-fuel at (matches-within (seek L) (seek L) (seek L) (forward-anew L rule Ok Fit sound) (forward L glob kept wide) (suc (length b)) b s a g c d)
+          rw same-fuel at (matches-within (seek L) (seek L) (seek L) (forward-anew L rule Ok Fit sound) (forward L glob kept wide (live L glob kept)) (suc (length b)) b s a g c d)

@@ -5,14 +5,14 @@ use mathlib.Core.Option.{Option, none, some}
 use mathlib.Core.List.{List, [], _∷_}
 use mathlib.Core.Logic.{_⊎_, inl, inr}
 use Prim.Native.Nat.{ℕ}
-use lib.Dec.{eqb}
-use borrow.Author.Tests.{eq-eqb}
-use Rattle.theory.specs.Machine.{Touch, faults, gives, View, calc, access, label, jump, branch, leave, Lang, End, exit, fault, unstated, State, Effect}
-use Rattle.theory.specs.Machine.{falls, jumps, stops, reads, writes, afterCalc, afterAccess, effect, St, Prog, Dest, moved, step, run}
-use Rattle.theory.specs.Prune.{dead, pruneBy}
-use Rattle.theory.specs.Sets.{Vars, has, without, plus, both, noneIn}
+use Rattle.theory.specs.Machine.{Touch, faults, gives, always, when, Way, to, out, calc, access, label, flow, Lang, End, exit}
+use Rattle.theory.specs.Machine.{fault, unstated, State, falls, jumps, stops, reads, writes, inputs, outputs, closes, isLabel}
+use Rattle.theory.specs.Machine.{afterCalc, afterAccess, sent, effect, St, Prog, Viewed, Effects, seek, Dest, moved, step, run}
+use Rattle.theory.specs.Prune.{dead, there, need, pruneBy}
+use Rattle.theory.specs.Sets.{Vars, has, without, both}
 use Rattle.theory.proofs.Sets.{or-l, or-r, and-i, tell, dead-out, writes-other, writes-both, reads-same}
 use Rattle.theory.proofs.Simulation.{definite, Follows, drops, moves, ends, open-end, Matches, simulates}
+use Rattle.theory.proofs.Views.{label-stays}
 
 module _ {Val Mem : Type 0} (z : Val) where
   -- two states that agree on the variables of a set
@@ -33,21 +33,33 @@ module _ {Val Mem : Type 0} (z : Val) where
         mem = e;
       }
 
-module _ {Val Mem Flt : Type 0} (glob : Vars) where
-  -- what must be live before an op: l is live after it, t k where a jump to k goes
-  abbrev pub need : View Val Mem Flt → Vars → (ℕ → Vars) → Vars
-  need (calc outs ins f) l t = cond (noneIn outs l) l (plus (without l outs) ins)
-  need (access outs ins f) l t = plus (both glob (without l outs)) ins
-  need (label k) l t = l
-  need (jump k) l t = t k
-  need (branch ins f k) l t = plus (both (t k) l) ins
-  need (leave x) l t = plus glob (x ∷ [])
+-- prune keeps the labels
+pub seek-prune : (L : Lang) (note : Prog L → Vars) (k : ℕ) (r : Prog L) → seek L k (pruneBy L note r) ≡ pruneBy L note (seek L k r)
+seek-prune L note k [] = refl
+seek-prune L note k (o ∷ r) = go (tell (isLabel k (L .view o))) (tell (dead (L .view o) (note r))) (seek-prune L note k r)
+  where
+    go : (isLabel k (L .view o) ≡ true) ⊎ (isLabel k (L .view o) ≡ false) → (dead (L .view o) (note r) ≡ true) ⊎ (dead (L .view o) (note r) ≡ false)
+        → seek L k (pruneBy L note r) ≡ pruneBy L note (seek L k r) → seek L k (pruneBy L note (o ∷ r)) ≡ pruneBy L note (seek L k (o ∷ r))
+    go (inl e) x ih = let d : dead (L .view o) (note r) ≡ false = label-stays k (L .view o) (note r) e in rw (e, d, e)
+    go (inr e) (inl d) ih = rw (e, d) ih
+    go (inr e) (inr d) ih = rw (e, d, e) ih
+
+-- what a note of what is live has: the inputs of a kept op are live before it, and what is live after an op is live before it,
+-- unless a kept op writes it or ends the basic block
+pub record Keeps (L : Lang) (note : Prog L → Vars) : Type 0 where
+  pub in-live : (o : L .Op) (r : Prog L) (v : ℕ) → dead (L .view o) (note r) ≡ false → has (inputs (L .view o)) v ≡ true → note (o ∷ r) v ≡ true
+  pub on-live : (o : L .Op) (r : Prog L) (v : ℕ) → dead (L .view o) (note r) ≡ false → closes (L .view o) ≡ false → has (outputs (L .view o)) v ≡ false → note r v ≡ true → note (o ∷ r) v ≡ true
+  pub drop-live : (o : L .Op) (r : Prog L) (v : ℕ) → dead (L .view o) (note r) ≡ true → note r v ≡ true → note (o ∷ r) v ≡ true
 
 module _ (L : Lang) (glob : Vars) (note : Prog L → Vars) where
+  -- what must be live before an op: what it needs, and of a dropped one, what is live after it
+  abbrev pub asks : Dest L → L .Op → Prog L → Vars
+  asks d o r = cond (dead (L .view o) (note r)) (note r) (need glob (L .view o) (note r) (λ k. note (d k r)))
+
   -- P holds of each rest that a run can come to; d and d′ are where jumps go, in the block and in what is kept
   pub record Covers (P : Prog L → Type 0) (d d′ : Dest L) : Type 0 where
     pub stop : (v : ℕ) → glob v ≡ true → note [] v ≡ true
-    pub holds : (o : L .Op) (r : Prog L) → P (o ∷ r) → (v : ℕ) → need glob (L .view o) (note r) (λ k. note (d k r)) v ≡ true → note (o ∷ r) v ≡ true
+    pub holds : (o : L .Op) (r : Prog L) → P (o ∷ r) → (v : ℕ) → asks d o r v ≡ true → note (o ∷ r) v ≡ true
     pub rest : (o : L .Op) (r : Prog L) → P (o ∷ r) → P r
     pub dest : (o : L .Op) (r : Prog L) (k : ℕ) → P (o ∷ r) → P (d k r)
     pub dest-prune : (k : ℕ) (r : Prog L) → d′ k (pruneBy L note r) ≡ pruneBy L note (d k r)
@@ -62,7 +74,7 @@ module _ (L : Lang) (glob : Vars) (note : Prog L → Vars) where
       pub inv : P r
 
     -- the two states agree on what the op needs; what then
-    goal : L .Op → Prog L → St L → St L → Effect (L .Val) (L .Mem) (L .Flt) → Effect (L .Val) (L .Mem) (L .Flt) → Type 0
+    goal : L .Op → Prog L → St L → St L → Effects L → Effects L → Type 0
     goal o r s s′ e e′ = P (o ∷ r) → step L d (o ∷ r) s ≡ moved L d r s e → step L d′ (o ∷ pruneBy L note r) s′ ≡ moved L d′ (pruneBy L note r) s′ e′
         → Follows L d d′ Pruned (Agree (L .zeroV) glob) (o ∷ r) s (o ∷ pruneBy L note r) s′
 
@@ -74,7 +86,7 @@ module _ (L : Lang) (glob : Vars) (note : Prog L → Vars) where
     unfolding goal
     to-dest o r s s′ k a p e e′ = moves e e′ (record { prog = ok .dest-prune k r; agree = a; inv = ok .dest o r k p })
 
-    to-end : (o : L .Op) (r : Prog L) (s s′ : St L) (x : End (L .Val) (L .Flt)) → Agree (L .zeroV) glob s s′ → goal o r s s′ (stops x) (stops x)
+    to-end : (o : L .Op) (r : Prog L) (s s′ : St L) (x : End (L .Out) (L .Flt)) → Agree (L .zeroV) glob s s′ → goal o r s s′ (stops x) (stops x)
     unfolding goal
     to-end o r s s′ x a p e e′ = ends e e′ a
 
@@ -82,20 +94,22 @@ module _ (L : Lang) (glob : Vars) (note : Prog L → Vars) where
     unfolding goal
     to-open o r s s′ p e e′ = open-end e
 
-    keeps : (w : View (L .Val) (L .Mem) (L .Flt)) (o : L .Op) (r : Prog L) (s s′ : St L) → dead w (note r) ≡ false
-        → Agree (L .zeroV) (need glob w (note r) (λ k. note (d k r))) s s′ → goal o r s s′ (effect (L .zeroV) w s) (effect (L .zeroV) w s′)
-    keeps (calc outs ins f) o r s s′ x a =
-        rw (reads-same (s .env) (s′ .env) ins (λ v q. a₁ .vars v (or-l (has ins v) (without (note r) outs v) q))) (go (f (reads (s′ .env) ins)))
-      where
-        a₁ : Agree (L .zeroV) (plus (without (note r) outs) ins) s s′
-        a₁ = rw x at a
+    sends : (y : Way (L .Val) (L .Out)) (xs : List (L .Val)) (o : L .Op) (r : Prog L) (s s′ : St L) → Agree (L .zeroV) (there glob y (λ k. note (d k r))) s s′
+        → goal o r s s′ (sent y xs) (sent y xs)
+    sends (to k) xs o r s s′ a = to-dest o r s s′ k a
+    sends (out g) xs o r s s′ a = to-end o r s s′ (exit (g xs)) a
 
+    keeps : (w : Viewed L) (o : L .Op) (r : Prog L) (s s′ : St L) → Agree (L .zeroV) (need glob w (note r) (λ k. note (d k r))) s s′
+        → goal o r s s′ (effect (L .zeroV) w s) (effect (L .zeroV) w s′)
+    keeps (calc outs ins f) o r s s′ a =
+        rw (reads-same (s .env) (s′ .env) ins (λ v q. a .vars v (or-l (has ins v) (without (note r) outs v) q))) (go (f (reads (s′ .env) ins)))
+      where
         go : (y : Option (List (L .Val))) → goal o r s s′ (afterCalc (L .zeroV) outs s y) (afterCalc (L .zeroV) outs s′ y)
         go none = to-open o r s s′
         go (some vs) =
             to-next o r s s′ _ _
-            (agree-writes (L .zeroV) (note r) outs vs s s′ (s .mem) (s′ .mem) (a₁ .mem) (λ v q. a₁ .vars v (or-r (has ins v) (without (note r) outs v) q)))
-    keeps (access outs ins f) o r s s′ x a = rw same (go (f (s′ .mem) (reads (s′ .env) ins)))
+            (agree-writes (L .zeroV) (note r) outs vs s s′ (s .mem) (s′ .mem) (a .mem) (λ v q. a .vars v (or-r (has ins v) (without (note r) outs v) q)))
+    keeps (access outs ins f) o r s s′ a = rw same (go (f (s′ .mem) (reads (s′ .env) ins)))
       where
         same : f (s .mem) (reads (s .env) ins) ≡ f (s′ .mem) (reads (s′ .env) ins)
         same = ap₂ f (a .mem) (reads-same (s .env) (s′ .env) ins (λ v q. a .vars v (or-l (has ins v) (both glob (without (note r) outs) v) q)))
@@ -108,30 +122,31 @@ module _ (L : Lang) (glob : Vars) (note : Prog L → Vars) where
             to-next o r s s′ _ _
             (agree-writes (L .zeroV) (note r) outs vs s s′ m m refl
             (λ v q. a .vars v (or-r (has ins v) (both glob (without (note r) outs) v) (or-r (glob v) (without (note r) outs v) q))))
-    keeps (label k) o r s s′ x a = to-next o r s s′ s s′ a
-    keeps (jump k) o r s s′ x a = to-dest o r s s′ k a
-    keeps (branch ins f k) o r s s′ x a =
-        rw (reads-same (s .env) (s′ .env) ins (λ v q. a .vars v (or-l (has ins v) (both (note (d k r)) (note r) v) q))) (go (f (reads (s′ .env) ins)))
+    keeps (label k) o r s s′ a = to-next o r s s′ s s′ a
+    keeps (flow ins always y) o r s s′ a =
+        rw (reads-same (s .env) (s′ .env) ins (λ v q. a .vars v (or-l (has ins v) (there glob y t v) q)))
+        (sends y (reads (s′ .env) ins) o r s s′ (agree-less (L .zeroV) (there glob y t) a (λ v q. or-r (has ins v) (there glob y t v) q)))
       where
-        go : (y : Bool) → goal o r s s′ (cond y (jumps k) (falls s)) (cond y (jumps k) (falls s′))
-        go true =
-            to-dest o r s s′ k
-            (agree-less (L .zeroV) (note (d k r)) a (λ v q. or-r (has ins v) (both (note (d k r)) (note r) v) (or-l (note (d k r) v) (note r v) q)))
-        go false =
-            to-next o r s s′ s s′
-            (agree-less (L .zeroV) (note r) a (λ v q. or-r (has ins v) (both (note (d k r)) (note r) v) (or-r (note (d k r) v) (note r v) q)))
-    keeps (leave x) o r s s′ y a =
-        rw (a .vars x (or-l (has (x ∷ []) x) (glob x) (or-l (eqb x x) false (eq-eqb x x refl))))
-        (to-end o r s s′ (exit (s′ .env x)) (agree-less (L .zeroV) glob a (λ v q. or-r (has (x ∷ []) v) (glob v) q)))
+        t : ℕ → Vars
+        t k = note (d k r)
+    keeps (flow ins (when f) y) o r s s′ a =
+        rw (reads-same (s .env) (s′ .env) ins (λ v q. a .vars v (or-l (has ins v) (both (there glob y t) (note r) v) q)), ap (λ (m : L .Mem). f m (reads (s′ .env) ins)) (a .mem)) (go (f (s′ .mem) (reads (s′ .env) ins)))
+      where
+        t : ℕ → Vars
+        t k = note (d k r)
 
-    skips : (w : View (L .Val) (L .Mem) (L .Flt)) (o : L .Op) (r : Prog L) (s s′ : St L) → dead w (note r) ≡ true
-        → Agree (L .zeroV) (need glob w (note r) (λ k. note (d k r))) s s′ → P (o ∷ r) → step L d (o ∷ r) s ≡ moved L d r s (effect (L .zeroV) w s)
+        rest : Agree (L .zeroV) (both (there glob y t) (note r)) s s′
+        rest = agree-less (L .zeroV) (both (there glob y t) (note r)) a (λ v q. or-r (has ins v) (both (there glob y t) (note r) v) q)
+
+        go : (x : Bool) → goal o r s s′ (cond x (sent y (reads (s′ .env) ins)) (falls s)) (cond x (sent y (reads (s′ .env) ins)) (falls s′))
+        go true = sends y (reads (s′ .env) ins) o r s s′ (agree-less (L .zeroV) (there glob y t) rest (λ v q. or-l (there glob y t v) (note r v) q))
+        go false = to-next o r s s′ s s′ (agree-less (L .zeroV) (note r) rest (λ v q. or-r (there glob y t v) (note r v) q))
+
+    skips : (w : Viewed L) (o : L .Op) (r : Prog L) (s s′ : St L) → dead w (note r) ≡ true
+        → Agree (L .zeroV) (note r) s s′ → P (o ∷ r) → step L d (o ∷ r) s ≡ moved L d r s (effect (L .zeroV) w s)
         → Follows L d d′ Pruned (Agree (L .zeroV) glob) (o ∷ r) s (pruneBy L note r) s′
     skips (calc outs ins f) o r s s′ x a p e = go (f (reads (s .env) ins)) e
       where
-        a₁ : Agree (L .zeroV) (note r) s s′
-        a₁ = rw x at a
-
         go : (y : Option (List (L .Val))) → step L d (o ∷ r) s ≡ moved L d r s (afterCalc (L .zeroV) outs s y)
             → Follows L d d′ Pruned (Agree (L .zeroV) glob) (o ∷ r) s (pruneBy L note r) s′
         go none q = open-end q
@@ -139,26 +154,24 @@ module _ (L : Lang) (glob : Vars) (note : Prog L → Vars) where
             drops q
             (record {
               prog = refl;
-              agree = record { vars = λ v k. writes-other (L .zeroV) (s .env) outs vs v (dead-out outs (note r) v x k) ∙ a₁ .vars v k; mem = a₁ .mem };
+              agree = record { vars = λ v k. writes-other (L .zeroV) (s .env) outs vs v (dead-out outs (note r) v x k) ∙ a .vars v k; mem = a .mem };
               inv = ok .rest o r p;
             })
     skips (access outs ins f) o r s s′ x a p e = absurd (false≢true x)
     skips (label k) o r s s′ x a p e = absurd (false≢true x)
-    skips (jump k) o r s s′ x a p e = absurd (false≢true x)
-    skips (branch ins f k) o r s s′ x a p e = absurd (false≢true x)
-    skips (leave y) o r s s′ x a p e = absurd (false≢true x)
+    skips (flow ins c y) o r s s′ x a p e = absurd (false≢true x)
 
     at-prune : (r : Prog L) (s s′ : St L) → Agree (L .zeroV) (note r) s s′ → P r → Follows L d d′ Pruned (Agree (L .zeroV) glob) r s (pruneBy L note r) s′
     unfolding goal
     at-prune [] s s′ a p = ends refl refl (agree-less (L .zeroV) glob a (ok .stop))
     at-prune (o ∷ r) s s′ a p = go (tell (dead (L .view o) (note r)))
       where
-        a₁ : Agree (L .zeroV) (need glob (L .view o) (note r) (λ k. note (d k r))) s s′
-        a₁ = agree-less (L .zeroV) (need glob (L .view o) (note r) (λ k. note (d k r))) a (ok .holds o r p)
+        a₁ : Agree (L .zeroV) (asks d o r) s s′
+        a₁ = agree-less (L .zeroV) (asks d o r) a (ok .holds o r p)
 
         go : (dead (L .view o) (note r) ≡ true) ⊎ (dead (L .view o) (note r) ≡ false) → Follows L d d′ Pruned (Agree (L .zeroV) glob) (o ∷ r) s (pruneBy L note (o ∷ r)) s′
-        go (inl x) = rw x (skips (L .view o) o r s s′ x a₁ p refl)
-        go (inr x) = rw x (keeps (L .view o) o r s s′ x a₁ p refl refl)
+        go (inl x) = rw x (skips (L .view o) o r s s′ x (rw x at a₁) p refl)
+        go (inr x) = rw x (keeps (L .view o) o r s s′ (rw x at a₁) p refl refl)
 
     follows : (r : Prog L) (s : St L) (r′ : Prog L) (s′ : St L) → Pruned r s r′ s′ → Follows L d d′ Pruned (Agree (L .zeroV) glob) r s r′ s′
     follows r s r′ s′ x = rw (x .prog) (at-prune r s s′ (x .agree) (x .inv))

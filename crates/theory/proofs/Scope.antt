@@ -1,20 +1,22 @@
 -- The pass keeps the rule of temporaries: none is read before a write in its basic block. Assumes nothing.
-use mathlib.Core.Path.{_≡_, refl, subst}
-use mathlib.Core.Bool.{Bool, true, false, _||_, false≢true}
+use mathlib.Core.Path.{_≡_, refl}
+use mathlib.Core.Bool.{Bool, true, false, cond, _||_}
 use mathlib.Core.List.{List, [], _∷_}
 use mathlib.Core.Logic.{_⊎_, inl, inr}
 use Prim.Native.Nat.{ℕ}
 use lib.Dec.{eqb}
 use borrow.Author.Tests.{eq-eqb}
-use Rattle.theory.specs.Fold.{Known, nothing, Rewrite, put, omit, cut, Mode, on, off, inputs, learned, anyLabel, Rule, emit, resume, ruleAt, fold}
+use Rattle.theory.specs.Fold.{Known, nothing, Rewrite, put, omit, cut, Mode, on, off, learned, Rule, emit, resume, ruleAt, fold}
 use Rattle.theory.specs.Fold.{pass, Folding, baseRule}
-use Rattle.theory.specs.Machine.{View, calc, access, label, jump, branch, leave, Lang, reads, Prog}
-use Rattle.theory.specs.Prune.{dead, before, live, prune}
+use Rattle.theory.specs.Machine.{View, Lang, inputs, outputs, closes, anyLabel, Prog, Viewed}
+use Rattle.theory.specs.Prune.{dead, pruneBy, live}
 use Rattle.theory.specs.Scope.{mayRead, wrote, scoped}
-use Rattle.theory.specs.Sets.{Vars, empty, has, without, both, allIn}
-use Rattle.theory.proofs.Liveness.{inputs-live, live-scoped}
-use Rattle.theory.proofs.Rule.{Constants, Puts, same, folds, puts, IsPut, view-put}
+use Rattle.theory.specs.Sets.{Vars, empty, has, plus, allIn}
+use Rattle.theory.proofs.Liveness.{base-keeps, live-scoped}
+use Rattle.theory.proofs.PruneBy.{Keeps}
+use Rattle.theory.proofs.Rule.{Constants, Puts, same, folds, puts, no-omit, no-cut}
 use Rattle.theory.proofs.Sets.{or-l, or-r, and-l, and-r, and-i, tell}
+use Rattle.theory.proofs.Views.{computes-calc, label-is}
 
 or-mono : (a h u u′ : Bool) → ((a || u) ≡ true → (a || u′) ≡ true) → (a || (h || u)) ≡ true → (a || (h || u′)) ≡ true
 or-mono true h u u′ f p = refl
@@ -38,38 +40,13 @@ module _ (kept : Vars) where
   all-in (x ∷ xs) u h =
       and-i (kept x || u x) (allIn kept xs u) (h x (or-l (eqb x x) (has xs x) (eq-eqb x x refl))) (all-in xs u (λ v q. h v (or-r (eqb x v) (has xs v) q)))
 
-  module _ {Val Mem Flt : Type 0} where
-    read-more : (w : View Val Mem Flt) (u u′ : Vars) → Le u u′ → mayRead kept u w ≡ true → mayRead kept u′ w ≡ true
-    read-more (calc outs ins f) u u′ h p = all-more ins u u′ h p
-    read-more (access outs ins f) u u′ h p = all-more ins u u′ h p
-    read-more (label k) u u′ h p = refl
-    read-more (jump k) u u′ h p = refl
-    read-more (branch ins f k) u u′ h p = all-more ins u u′ h p
-    read-more (leave x) u u′ h p = all-more (x ∷ []) u u′ h p
-
-    wrote-more : (w : View Val Mem Flt) (u u′ : Vars) → Le u u′ → Le (wrote u w) (wrote u′ w)
-    wrote-more (calc outs ins f) u u′ h v p = or-mono (kept v) (has outs v) (u v) (u′ v) (h v) p
-    wrote-more (access outs ins f) u u′ h v p = or-mono (kept v) (has outs v) (u v) (u′ v) (h v) p
-    wrote-more (label k) u u′ h v p = p
-    wrote-more (jump k) u u′ h v p = p
-    wrote-more (branch ins f k) u u′ h v p = p
-    wrote-more (leave x) u u′ h v p = p
-
-    read-inputs : (w : View Val Mem Flt) (u : Vars) → ((v : ℕ) → has (inputs w) v ≡ true → (kept v || u v) ≡ true) → mayRead kept u w ≡ true
-    read-inputs (calc outs ins f) u h = all-in ins u h
-    read-inputs (access outs ins f) u h = all-in ins u h
-    read-inputs (label k) u h = refl
-    read-inputs (jump k) u h = refl
-    read-inputs (branch ins f k) u h = all-in ins u h
-    read-inputs (leave x) u h = all-in (x ∷ []) u h
-
-    at-label : (w : View Val Mem Flt) (u u′ : Vars) → anyLabel w ≡ true → (mayRead kept u′ w ≡ true) × Le (wrote u w) (wrote u′ w)
-    at-label (calc outs ins f) u u′ e = absurd (false≢true e)
-    at-label (access outs ins f) u u′ e = absurd (false≢true e)
-    at-label (label k) u u′ e = (refl, λ v p. p)
-    at-label (jump k) u u′ e = absurd (false≢true e)
-    at-label (branch ins f k) u u′ e = absurd (false≢true e)
-    at-label (leave x) u u′ e = absurd (false≢true e)
+  module _ {Val Mem Out Flt : Type 0} where
+    wrote-more : (w : View Val Mem Out Flt) (u u′ : Vars) → Le u u′ → Le (wrote u w) (wrote u′ w)
+    wrote-more w u u′ h v = go (closes w)
+      where
+        go : (b : Bool) → (kept v || cond b empty (plus u (outputs w)) v) ≡ true → (kept v || cond b empty (plus u′ (outputs w)) v) ≡ true
+        go true p = p
+        go false p = or-mono (kept v) (has (outputs w) v) (u v) (u′ v) (h v) p
 
 -- what a rule of fold has to show of what it puts in place
 pub record Scopes (L : Lang) (kept : Vars) (rule : Rule L) : Type 0 where
@@ -88,11 +65,11 @@ module _ (L : Lang) (kept : Vars) (rule : Rule L) (good : Scopes L kept rule) wh
   fold-scoped [] m u u′ h c = refl
   fold-scoped (o ∷ r) (on k) u u′ h c = go (ruleAt L rule k o) refl (λ m x h′. fold-scoped r m (wrote u w) x h′ (and-r (mayRead kept u w) (scoped L kept (wrote u w) r) c))
     where
-      w : View (L .Val) (L .Mem) (L .Flt)
+      w : Viewed L
       w = L .view o
 
       m₁ : mayRead kept u′ w ≡ true
-      m₁ = read-more kept w u u′ h (and-l (mayRead kept u w) (scoped L kept (wrote u w) r) c)
+      m₁ = all-more kept (inputs w) u u′ h (and-l (mayRead kept u w) (scoped L kept (wrote u w) r) c)
 
       go : (x : Rewrite (L .Op)) → ruleAt L rule k o ≡ x
           → ((m : Mode (L .Val)) (y : Vars) → Fits m (wrote u w) y → scoped L kept y (fold L rule r m) ≡ true)
@@ -107,76 +84,67 @@ module _ (L : Lang) (kept : Vars) (rule : Rule L) (good : Scopes L kept rule) wh
           (ih off (wrote u′ (L .view o′)) tt)
   fold-scoped (o ∷ r) off u u′ h c = go (anyLabel (L .view o)) refl (λ m x h′. fold-scoped r m (wrote u w) x h′ (and-r (mayRead kept u w) (scoped L kept (wrote u w) r) c))
     where
-      w : View (L .Val) (L .Mem) (L .Flt)
+      w : Viewed L
       w = L .view o
 
       go : (b : Bool) → anyLabel w ≡ b → ((m : Mode (L .Val)) (y : Vars) → Fits m (wrote u w) y → scoped L kept y (fold L rule r m) ≡ true)
           → scoped L kept u′ (resume L rule o (fold L rule r) b) ≡ true
       go true e ih =
-          let p = at-label kept w u u′ e in
-          and-i (mayRead kept u′ w) (scoped L kept (wrote u′ w) (fold L rule r (on nothing))) (p .0) (ih (on nothing) (wrote u′ w) (p .1))
+          let p = label-is w e in
+          and-i (mayRead kept u′ w) (scoped L kept (wrote u′ w) (fold L rule r (on nothing))) (rw (p .1)) (ih (on nothing) (wrote u′ w) (rw (p .1) (λ v q. q)))
       go false e ih = ih off u′ tt
 
-module _ (L : Lang) (glob kept : Vars) (wide : (v : ℕ) → glob v ≡ true → kept v ≡ true) where
-  -- what is live after a kept op was so before it, or is written by it
-  wrote-live : (w : View (L .Val) (L .Mem) (L .Flt)) (l u u′ : Vars) → ((v : ℕ) → before glob kept w l v ≡ true → (kept v || u′ v) ≡ true)
-      → ((v : ℕ) → l v ≡ true → (kept v || wrote u w v) ≡ true) → (v : ℕ) → l v ≡ true → (kept v || wrote u′ w v) ≡ true
-  wrote-live (calc outs ins f) l u u′ h s v q = go (tell (has outs v))
-    where
-      go : (has outs v ≡ true) ⊎ (has outs v ≡ false) → (kept v || (has outs v || u′ v)) ≡ true
-      go (inl e) = or-r (kept v) (has outs v || u′ v) (or-l (has outs v) (u′ v) e)
-      go (inr e) = rw e (h v (or-r (has ins v) (without l outs v) (rw e q)))
-  wrote-live (access outs ins f) l u u′ h s v q = go (tell (has outs v))
-    where
-      go : (has outs v ≡ true) ⊎ (has outs v ≡ false) → (kept v || (has outs v || u′ v)) ≡ true
-      go (inl e) = or-r (kept v) (has outs v || u′ v) (or-l (has outs v) (u′ v) e)
-      go (inr e) = rw e (h v (or-r (has ins v) (both glob (without l outs) v) (or-r (glob v) (without l outs v) (rw e q))))
-  wrote-live (label k) l u u′ h s v q = s v q
-  wrote-live (jump k) l u u′ h s v q = s v q
-  wrote-live (branch ins f k) l u u′ h s v q = s v q
-  wrote-live (leave x) l u u′ h s v q = s v q
-
-  pub prune-scoped : (r : Prog L) (u u′ : Vars) → scoped L kept u r ≡ true → ((v : ℕ) → live L glob kept r v ≡ true → (kept v || u′ v) ≡ true)
-      → scoped L kept u′ (prune L glob kept r) ≡ true
+-- so does a prune by a note of what is live, where a live temporary is one that is written
+module _ (L : Lang) (kept : Vars) (note : Prog L → Vars) (keeps : Keeps L note)
+    (within : (r : Prog L) (u : Vars) (v : ℕ) → scoped L kept u r ≡ true → note r v ≡ true → (kept v || u v) ≡ true) where
+  pub prune-scoped : (r : Prog L) (u u′ : Vars) → scoped L kept u r ≡ true → ((v : ℕ) → note r v ≡ true → (kept v || u′ v) ≡ true)
+      → scoped L kept u′ (pruneBy L note r) ≡ true
   prune-scoped [] u u′ c h = refl
   prune-scoped (o ∷ r) u u′ c h =
-      go (tell (dead w l)) (λ x. prune-scoped r (wrote u w) x c′)
+      go (tell (dead w (note r))) (λ x. prune-scoped r (wrote u w) x c′)
     where
-      w : View (L .Val) (L .Mem) (L .Flt)
+      w : Viewed L
       w = L .view o
-
-      l : Vars
-      l = live L glob kept r
 
       c′ : scoped L kept (wrote u w) r ≡ true
       c′ = and-r (mayRead kept u w) (scoped L kept (wrote u w) r) c
 
-      go : (dead w l ≡ true) ⊎ (dead w l ≡ false)
-          → ((x : Vars) → ((v : ℕ) → l v ≡ true → (kept v || x v) ≡ true) → scoped L kept x (prune L glob kept r) ≡ true)
-          → scoped L kept u′ (prune L glob kept (o ∷ r)) ≡ true
-      go (inl d) ih = rw d (ih u′ (rw d at h))
-      go (inr d) ih =
-          let h₁ : (v : ℕ) → before glob kept w l v ≡ true → (kept v || u′ v) ≡ true = rw d at h in
-          rw d
-          (and-i (mayRead kept u′ w) (scoped L kept (wrote u′ w) (prune L glob kept r)) (read-inputs kept w u′ (λ v q. h₁ v (inputs-live glob kept w l v q)))
-          (ih (wrote u′ w) (wrote-live w l u u′ h₁ (λ v. live-scoped L glob kept wide r (wrote u w) v c′))))
+      -- what is live after a kept op was so before it, or is written by it
+      past : dead w (note r) ≡ false → (v : ℕ) → note r v ≡ true → (b : Bool) → closes w ≡ b → (kept v || cond b empty (plus u (outputs w)) v) ≡ true
+          → (kept v || cond b empty (plus u′ (outputs w)) v) ≡ true
+      past d v q true e x = x
+      past d v q false e x = at (tell (has (outputs w) v))
+        where
+          at : (has (outputs w) v ≡ true) ⊎ (has (outputs w) v ≡ false) → (kept v || (has (outputs w) v || u′ v)) ≡ true
+          at (inl y) = or-r (kept v) (has (outputs w) v || u′ v) (or-l (has (outputs w) v) (u′ v) y)
+          at (inr y) = rw y (h v (keeps .on-live o r v d e y q))
 
+      go : (dead w (note r) ≡ true) ⊎ (dead w (note r) ≡ false)
+          → ((x : Vars) → ((v : ℕ) → note r v ≡ true → (kept v || x v) ≡ true) → scoped L kept x (pruneBy L note r) ≡ true)
+          → scoped L kept u′ (pruneBy L note (o ∷ r)) ≡ true
+      go (inl d) ih = rw d (ih u′ (λ v q. h v (keeps .drop-live o r v d q)))
+      go (inr d) ih =
+          rw d
+          (and-i (mayRead kept u′ w) (scoped L kept (wrote u′ w) (pruneBy L note r)) (all-in kept (inputs w) u′ (λ v q. h v (keeps .in-live o r v d q)))
+          (ih (wrote u′ w) (λ v q. past d v q (closes w) refl (within r (wrote u w) v c′ q))))
+
+module _ (L : Lang) (glob kept : Vars) (wide : (v : ℕ) → glob v ≡ true → kept v ≡ true) where
   module _ (rule : Rule L) (good : Scopes L kept rule) where
     pub pass-scoped : (b : Prog L) → scoped L kept empty b ≡ true → scoped L kept empty (pass L rule glob kept b) ≡ true
     pass-scoped b c =
         let f : scoped L kept empty (fold L rule b (on nothing)) ≡ true = fold-scoped L kept rule good b (on nothing) empty empty (λ v q. q) c in
-        prune-scoped (fold L rule b (on nothing)) empty empty f (λ v. live-scoped L glob kept wide (fold L rule b (on nothing)) empty v f)
+        prune-scoped L kept (live L glob kept) (base-keeps L glob kept) (live-scoped L glob kept wide) (fold L rule b (on nothing)) empty empty f (λ v. live-scoped L glob kept wide (fold L rule b (on nothing)) empty v f)
 
 module _ (L : Lang) (kept : Vars) (fo : Folding L) (law : Constants L fo) where
   pub base-scopes : Scopes L kept (baseRule L fo)
   base-scopes =
       record {
         put-scope = λ k o o′ u q m. at-put k o o′ u m (puts L fo law k o o′ q);
-        omit-scope = λ k o u q m. absurd (subst (IsPut L fo law) q (view-put L fo law o (L .view o) (reads k (inputs (L .view o)))));
-        cut-scope = λ k o o′ u q. absurd (subst (IsPut L fo law) q (view-put L fo law o (L .view o) (reads k (inputs (L .view o)))));
+        omit-scope = λ k o u q m. no-omit L fo law k o q;
+        cut-scope = λ k o o′ u q. no-cut L fo law k o o′ q;
       }
     where
       at-put : (k : Known (L .Val)) (o o′ : L .Op) (u : Vars) → mayRead kept u (L .view o) ≡ true → Puts L fo law k o o′
           → (mayRead kept u (L .view o′) ≡ true) × Le kept (wrote u (L .view o)) (wrote u (L .view o′))
       at-put k o o′ u m (same e) = rw (← e) (m, λ v q. q)
-      at-put k o o′ u m (folds outs ins f xs vs c e h g p d w) = rw (w, e, d) (refl, λ v q. q)
+      at-put k o o′ u m (folds xs vs c h g p w) = rw w (refl, rw (computes-calc (L .view o) xs vs g, law .one-out o xs vs c g) (λ v q. q))

@@ -100,3 +100,14 @@ or-mid false false c h k = h
 pub or-no : (a : Bool) → (a || false) ≡ true → a ≡ true
 or-no true h = refl
 or-no false h = h
+
+pub or-both : (a a′ b b′ : Bool) → (a ≡ true → a′ ≡ true) → (b ≡ true → b′ ≡ true) → (a || b) ≡ true → (a′ || b′) ≡ true
+or-both true a′ b b′ f g h = or-l a′ b′ (f refl)
+or-both false a′ b b′ f g h = or-r a′ b′ (g h)
+
+pub or-map : (a b b′ : Bool) → (b ≡ true → b′ ≡ true) → (a || b) ≡ true → (a || b′) ≡ true
+or-map a b b′ g h = or-both a a b b′ (λ q. q) g h
+
+pub and-map : (a b b′ : Bool) → (b ≡ true → b′ ≡ true) → (a && b) ≡ true → (a && b′) ≡ true
+and-map true b b′ g h = g h
+and-map false b b′ g h = h

@@ -5,63 +5,107 @@ use mathlib.Core.Option.{Option, none, some}
 use mathlib.Core.List.{List, [], _∷_}
 use Prim.Native.Nat.{ℕ, zero, suc, _+_, _≤_, _<_}
 use native.Mathlib.Omega.{arith}
+use lib.Dec.{eqb}
 use lib.ListN.{length}
 use native.Mathlib.Nat.{zero-add, suc-add}
-use Rattle.theory.specs.Machine.{Touch, faults, gives, View, calc, access, label, jump, branch, leave, Lang, End, exit, fault, unstated, fell, spent}
-use Rattle.theory.specs.Machine.{State, Effect, falls, jumps, stops, reads, afterCalc, afterAccess, effect, isLabel, St, Prog, Result, Move, goes}
-use Rattle.theory.specs.Machine.{halts, seek, Dest, moved, step, counted, after, run}
-use Rattle.theory.proofs.Sets.{and-l}
+use borrow.Author.Tests.{eq-eqb}
+use Rattle.theory.specs.Machine.{Touch, faults, gives, When, always, when, Way, to, out, View, calc, access, label, flow, Lang}
+use Rattle.theory.specs.Machine.{End, exit, fault, unstated, fell, spent, State, Effect, falls, jumps, stops, reads, isLabel}
+use Rattle.theory.specs.Machine.{afterCalc, afterAccess, effect, St, Prog, Viewed, Effects, Result, Move, goes, halts, seek}
+use Rattle.theory.specs.Machine.{Dest, moved, step, counted, after, run}
+use Rattle.theory.proofs.Sets.{and-l, and-r}
 
 -- the run did not use up its steps; it met no op without a stated result; neither
-abbrev pub unspent : {Val Flt : Type 0} → End Val Flt → Bool
+abbrev pub unspent : {Out Flt : Type 0} → End Out Flt → Bool
 unspent (exit v) = true
 unspent (fault f) = true
 unspent unstated = true
 unspent fell = true
 unspent spent = false
 
-abbrev pub stated : {Val Flt : Type 0} → End Val Flt → Bool
+abbrev pub stated : {Out Flt : Type 0} → End Out Flt → Bool
 stated (exit v) = true
 stated (fault f) = true
 stated unstated = false
 stated fell = true
 stated spent = true
 
-abbrev pub definite : {Val Flt : Type 0} → End Val Flt → Bool
+abbrev pub definite : {Out Flt : Type 0} → End Out Flt → Bool
 definite e = unspent e && stated e
 
 -- how a step of the first program is followed in the second
 pub data Follows (L : Lang) (d d′ : Dest L) (R : Prog L → St L → Prog L → St L → Type 0) (Same : St L → St L → Type 0) (r : Prog L) (s : St L) (r′ : Prog L) (s′ : St L) : Type 0 where
   drops : {q : Prog L} {t : St L} → step L d r s ≡ goes q t → R q t r′ s′ → Follows L d d′ R Same r s r′ s′
   moves : {q : Prog L} {t : St L} {q′ : Prog L} {t′ : St L} → step L d r s ≡ goes q t → step L d′ r′ s′ ≡ goes q′ t′ → R q t q′ t′ → Follows L d d′ R Same r s r′ s′
-  ends : {e : End (L .Val) (L .Flt)} → step L d r s ≡ halts e → step L d′ r′ s′ ≡ halts e → Same s s′ → Follows L d d′ R Same r s r′ s′
+  ends : {e : End (L .Out) (L .Flt)} → step L d r s ≡ halts e → step L d′ r′ s′ ≡ halts e → Same s s′ → Follows L d d′ R Same r s r′ s′
   open-end : step L d r s ≡ halts unstated → Follows L d d′ R Same r s r′ s′
 
-module _ {Val Mem Flt : Type 0} where
-  abbrev NotSpent : Effect Val Mem Flt → Type 0
-  NotSpent (falls t) = Unit {0}
-  NotSpent (jumps k) = Unit {0}
-  NotSpent (stops e) = unspent e ≡ true
+abbrev pub notFell : {Out Flt : Type 0} → End Out Flt → Bool
+notFell (exit v) = true
+notFell (fault f) = true
+notFell unstated = true
+notFell fell = false
+notFell spent = true
 
-  no-op-spends : (z : Val) (w : View Val Mem Flt) (s : State Val Mem) → NotSpent (effect z w s)
-  no-op-spends z (calc outs ins f) s = go (f (reads (s .env) ins))
+-- one of the three endings
+abbrev pub proper : {Out Flt : Type 0} → End Out Flt → Bool
+proper e = notFell e && unspent e
+
+abbrev pub leadsTo : {Val Out : Type 0} → ℕ → Way Val Out → Bool
+leadsTo k (to l) = eqb l k
+leadsTo k (out g) = false
+
+module _ {Val Mem Out Flt : Type 0} where
+  -- the op may go on with the next; it may jump to the label k
+  abbrev pub goesOn : View Val Mem Out Flt → Bool
+  goesOn (calc outs ins f) = true
+  goesOn (access outs ins f) = true
+  goesOn (label k) = true
+  goesOn (flow ins always y) = false
+  goesOn (flow ins (when f) y) = true
+
+  abbrev pub isJump : ℕ → View Val Mem Out Flt → Bool
+  isJump k (calc outs ins f) = false
+  isJump k (access outs ins f) = false
+  isJump k (label l) = false
+  isJump k (flow ins c y) = leadsTo k y
+
+  -- what an effect says of the op
+  abbrev pub Says : View Val Mem Out Flt → Effect Val Mem Out Flt → Type 0
+  Says w (falls t) = goesOn w ≡ true
+  Says w (jumps k) = isJump k w ≡ true
+  Says w (stops e) = proper e ≡ true
+
+  pub says : (z : Val) (w : View Val Mem Out Flt) (s : State Val Mem) → Says w (effect z w s)
+  says z (calc outs ins f) s = go (f (reads (s .env) ins))
     where
-      go : (x : Option (List Val)) → NotSpent (afterCalc z outs s x)
+      go : (x : Option (List Val)) → Says (calc outs ins f) (afterCalc z outs s x)
       go none = refl
-      go (some vs) = tt
-  no-op-spends z (access outs ins f) s = go (f (s .mem) (reads (s .env) ins))
+      go (some vs) = refl
+  says z (access outs ins f) s = go (f (s .mem) (reads (s .env) ins))
     where
-      go : (x : Touch Val Mem Flt) → NotSpent (afterAccess z outs s x)
+      go : (x : Touch Val Mem Flt) → Says (access outs ins f) (afterAccess z outs s x)
       go (faults x) = refl
-      go (gives vs m) = tt
-  no-op-spends z (label k) s = tt
-  no-op-spends z (jump k) s = tt
-  no-op-spends z (branch ins f k) s = go (f (reads (s .env) ins))
+      go (gives vs m) = refl
+  says z (label k) s = refl
+  says z (flow ins c (to k)) s = by c
     where
-      go : (x : Bool) → NotSpent (cond x (jumps k) (falls s))
-      go true = tt
-      go false = tt
-  no-op-spends z (leave x) s = refl
+      by : (c : When Val Mem) → Says (flow ins c (to k)) (effect z (flow ins c (to k)) s)
+      by always = eq-eqb k k refl
+      by (when f) = go (f (s .mem) (reads (s .env) ins))
+        where
+          go : (x : Bool) → Says (flow ins (when f) (to k)) (cond x (jumps k) (falls s))
+          go true = eq-eqb k k refl
+          go false = refl
+  says z (flow ins c (out g)) s = by c
+    where
+      by : (c : When Val Mem) → Says (flow ins c (out g)) (effect z (flow ins c (out g)) s)
+      by always = refl
+      by (when f) = go (f (s .mem) (reads (s .env) ins))
+        where
+          go : (x : Bool) → Says (flow ins (when f) (out g)) (cond x (stops (exit (g (reads (s .env) ins)))) (falls s))
+          go true = refl
+          go false = refl
 
 module _ (L : Lang) where
   pub record Matches (Same : St L → St L → Type 0) (a b : Result L) : Type 0 where
@@ -97,15 +141,15 @@ module _ (L : Lang) where
 
   -- jumps go forward, so fuel for each op is enough
   enough-after : (d : Dest L) (short : (k : ℕ) (r : Prog L) → length (d k r) ≤ length r) (n : ℕ) → ((q : Prog L) (t : St L) → length q < n → unspent ((run L d n q t) .end) ≡ true) → (r : Prog L) (s : St L) → length r < n
-      → (b : Prog L) (x : Effect (L .Val) (L .Mem) (L .Flt)) → NotSpent x → unspent ((after L (run L d n) b s (moved L d r s x)) .end) ≡ true
-  enough-after d short n ih r s h b (falls t) u = ih r t h
-  enough-after d short n ih r s h b (jumps k) u = ih (d k r) s (omega (arith, short k r))
-  enough-after d short n ih r s h b (stops e) u = u
+      → (b : Prog L) (w : Viewed L) (x : Effects L) → Says w x → unspent ((after L (run L d n) b s (moved L d r s x)) .end) ≡ true
+  enough-after d short n ih r s h b w (falls t) u = ih r t h
+  enough-after d short n ih r s h b w (jumps k) u = ih (d k r) s (omega (arith, short k r))
+  enough-after d short n ih r s h b w (stops e) u = and-r (notFell e) (unspent e) u
 
   pub enough : (d : Dest L) (short : (k : ℕ) (r : Prog L) → length (d k r) ≤ length r) (n : ℕ) (r : Prog L) (s : St L) → length r < n → unspent ((run L d n r s) .end) ≡ true
   enough d short zero r s h = absurd (omega arith)
   enough d short (suc n) [] s h = refl
-  enough d short (suc n) (o ∷ r) s h = enough-after d short n (enough d short n) r s (omega arith) (o ∷ r) (effect (L .zeroV) (L .view o) s) (no-op-spends (L .zeroV) (L .view o) s)
+  enough d short (suc n) (o ∷ r) s h = enough-after d short n (enough d short n) r s (omega arith) (o ∷ r) (L .view o) (effect (L .zeroV) (L .view o) s) (says (L .zeroV) (L .view o) s)
 
   module _ (d d′ : Dest L) (R : Prog L → St L → Prog L → St L → Type 0) (Same : St L → St L → Type 0)
       (local : (r : Prog L) (s : St L) (r′ : Prog L) (s′ : St L) → R r s r′ s′ → Follows L d d′ R Same r s r′ s′) where

@@ -4,7 +4,7 @@ use mathlib.Core.Path.{_≡_}
 use mathlib.Core.Bool.{Bool, true, false, cond, _&&_}
 use mathlib.Core.Option.{Option, none, some}
 use mathlib.Core.List.{List, [], _∷_}
-use Rattle.theory.specs.Machine.{View, calc, access, label, jump, branch, leave, Lang, Prog, writes, reads, headOr}
+use Rattle.theory.specs.Machine.{View, Lang, Prog, writes, reads, headOr, isSome, inputs, outputs, computes, closes, anyLabel}
 use Rattle.theory.specs.Sets.{Vars}
 use Rattle.theory.specs.Prune.{prune}
 
@@ -39,48 +39,11 @@ abbrev pub gain : {Val : Type 0} → List ℕ → (List Val → Option (List Val
 gain [] f = given (f [])
 gain (i ∷ is) f = []
 
-module _ {Val Mem Flt : Type 0} where
-  abbrev pub isCalc : View Val Mem Flt → Bool
-  isCalc (calc outs ins f) = true
-  isCalc (access outs ins f) = false
-  isCalc (label k) = false
-  isCalc (jump k) = false
-  isCalc (branch ins f k) = false
-  isCalc (leave x) = false
-
-  abbrev pub outputs : View Val Mem Flt → List ℕ
-  outputs (calc outs ins f) = outs
-  outputs (access outs ins f) = outs
-  outputs (label k) = []
-  outputs (jump k) = []
-  outputs (branch ins f k) = []
-  outputs (leave x) = []
-
-  abbrev pub inputs : View Val Mem Flt → List ℕ
-  inputs (calc outs ins f) = ins
-  inputs (access outs ins f) = ins
-  inputs (label k) = []
-  inputs (jump k) = []
-  inputs (branch ins f k) = ins
-  inputs (leave x) = x ∷ []
-
+module _ {Val Mem Out Flt : Type 0} where
   -- what is known after an op. "It knows the values written by movi or by folded ops in this basic block. The output of any op that is
   -- neither becomes unknown. Nothing is known at the start or after set_label, br, brcond or exit_tb."
-  abbrev pub learned : Known Val → View Val Mem Flt → Known Val
-  learned k (calc outs ins f) = writes none k outs (gain ins f)
-  learned k (access outs ins f) = writes none k outs []
-  learned k (label l) = nothing
-  learned k (jump l) = nothing
-  learned k (branch ins f l) = nothing
-  learned k (leave x) = nothing
-
-  abbrev pub anyLabel : View Val Mem Flt → Bool
-  anyLabel (calc outs ins f) = false
-  anyLabel (access outs ins f) = false
-  anyLabel (label k) = true
-  anyLabel (jump k) = false
-  anyLabel (branch ins f k) = false
-  anyLabel (leave x) = false
+  abbrev pub learned : Known Val → View Val Mem Out Flt → Known Val
+  learned k w = cond (closes w) nothing (writes none k (outputs w) (gain (inputs w) (computes w)))
 
 -- a rule gives, for an op and what is known of its inputs, what to put in its place
 abbrev pub Rule : Lang → Type 0
@@ -127,38 +90,21 @@ abbrev pub bindO : {Val : Type 0} → (List Val → Option (List Val)) → Optio
 bindO f none = none
 bindO f (some vs) = f vs
 
-abbrev pub isSome : {A : Type 0} → Option A → Bool
-isSome none = false
-isSome (some a) = true
-
 module _ (L : Lang) (fo : Folding L) where
   -- "An op whose inputs are all known and whose result is stated becomes a movi of the output's width."
   abbrev pub tried : L .Op → Option (List (L .Val)) → Rewrite (L .Op)
   tried o none = put o
   tried o (some vs) = put (fo .const o (headOr (L .zeroV) vs))
 
-  -- "Those [set_label, br, brcond, exit_tb], loads and stores stay as they are."
-  abbrev pub baseView : L .Op → View (L .Val) (L .Mem) (L .Flt) → List (Option (L .Val)) → Rewrite (L .Op)
-  baseView o (calc outs ins f) ks = cond (fo .foldable o) (tried o (bindO f (allKnown ks))) (put o)
-  baseView o (access outs ins f) ks = put o
-  baseView o (label k) ks = put o
-  baseView o (jump k) ks = put o
-  baseView o (branch ins f k) ks = put o
-  baseView o (leave x) ks = put o
-
+  -- loads, stores, set_label, br, brcond and exit_tb compute nothing: they "stay as they are"
   abbrev pub baseRule : Rule L
-  baseRule o ks = baseView o (L .view o) ks
+  baseRule o ks = cond (fo .foldable o) (tried o (bindO (computes (L .view o)) (allKnown ks))) (put o)
 
   -- fold would replace the op: it may fold, its inputs are known and its result is stated
-  abbrev pub replaces : Known (L .Val) → L .Op → View (L .Val) (L .Mem) (L .Flt) → Bool
-  replaces k o (calc outs ins f) = fo .foldable o && isSome (bindO f (allKnown (reads k ins)))
-  replaces k o (access outs ins f) = false
-  replaces k o (label l) = false
-  replaces k o (jump l) = false
-  replaces k o (branch ins f l) = false
-  replaces k o (leave x) = false
+  abbrev pub replaces : Known (L .Val) → L .Op → Bool
+  replaces k o = fo .foldable o && isSome (bindO (computes (L .view o)) (allKnown (reads k (inputs (L .view o)))))
 
   -- "Folding could replace an op of the result if fold, reading the result from its first op, would do so."
   abbrev pub ReplacesNone : Prog L → Known (L .Val) → Type 0
   ReplacesNone [] k = Unit {0}
-  ReplacesNone (o ∷ r) k = (replaces k o (L .view o) ≡ false) × ReplacesNone r (learned k (L .view o))
+  ReplacesNone (o ∷ r) k = (replaces k o ≡ false) × ReplacesNone r (learned k (L .view o))

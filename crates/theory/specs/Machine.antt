@@ -1,6 +1,6 @@
 -- A machine for blocks. A program is a list of ops, each seen through its view; no op kind is named here. Assumes nothing.
 use Prim.Native.Nat.{ℕ, zero, suc}
-use mathlib.Core.Bool.{Bool, false, cond}
+use mathlib.Core.Bool.{Bool, true, false, cond}
 use mathlib.Core.Option.{Option, none, some}
 use mathlib.Core.List.{List, [], _∷_}
 use lib.Dec.{eqb}
@@ -11,42 +11,51 @@ pub data Touch (Val Mem Flt : Type 0) : Type 0 where
   faults : Flt → Touch Val Mem Flt
   gives : List Val → Mem → Touch Val Mem Flt
 
+-- whether a flow op goes its way: always, or when a test of the memory and its inputs' values holds; else it goes on with the next op
+pub data When (Val Mem : Type 0) : Type 0 where
+  always : When Val Mem
+  when : (Mem → List Val → Bool) → When Val Mem
+
+-- the way of a flow op: to a label, or out of the block
+pub data Way (Val Out : Type 0) : Type 0 where
+  to : ℕ → Way Val Out
+  out : (List Val → Out) → Way Val Out
+
 -- what the theory sees of an op: its outputs, its inputs, and what it does with the inputs' values.
--- calc: a pure op, none where no result is stated. access: a load or store. leave: the exit, with the variable that it gives
-pub data View (Val Mem Flt : Type 0) : Type 0 where
-  calc : List ℕ → List ℕ → (List Val → Option (List Val)) → View Val Mem Flt
-  access : List ℕ → List ℕ → (Mem → List Val → Touch Val Mem Flt) → View Val Mem Flt
-  label : ℕ → View Val Mem Flt
-  jump : ℕ → View Val Mem Flt
-  branch : List ℕ → (List Val → Bool) → ℕ → View Val Mem Flt
-  leave : ℕ → View Val Mem Flt
+-- calc: a pure op, none where no result is stated. access: a load or store. flow: br (always to), brcond (when to), exit_tb (always out)
+pub data View (Val Mem Out Flt : Type 0) : Type 0 where
+  calc : List ℕ → List ℕ → (List Val → Option (List Val)) → View Val Mem Out Flt
+  access : List ℕ → List ℕ → (Mem → List Val → Touch Val Mem Flt) → View Val Mem Out Flt
+  label : ℕ → View Val Mem Out Flt
+  flow : List ℕ → When Val Mem → Way Val Out → View Val Mem Out Flt
 
 pub record Lang : Type 1 where
   pub Op : Type 0
   pub Val : Type 0
   pub Mem : Type 0
+  pub Out : Type 0
   pub Flt : Type 0
   pub zeroV : Val
-  pub view : Op → View Val Mem Flt
+  pub view : Op → View Val Mem Out Flt
 
--- how a run ends: an exit with a value, a fault, an op without a stated result;
+-- how a run ends: an exit with what it gives, a fault, an op without a stated result;
 -- past the last op; or with its steps used up
-pub data End (Val Flt : Type 0) : Type 0 where
-  exit : Val → End Val Flt
-  fault : Flt → End Val Flt
-  unstated : End Val Flt
-  fell : End Val Flt
-  spent : End Val Flt
+pub data End (Out Flt : Type 0) : Type 0 where
+  exit : Out → End Out Flt
+  fault : Flt → End Out Flt
+  unstated : End Out Flt
+  fell : End Out Flt
+  spent : End Out Flt
 
 pub record State (Val Mem : Type 0) : Type 0 where
   pub env : ℕ → Val
   pub mem : Mem
 
 -- what one op does: it leaves a state to the next op, jumps, or ends the run (the last two change no state)
-pub data Effect (Val Mem Flt : Type 0) : Type 0 where
-  falls : State Val Mem → Effect Val Mem Flt
-  jumps : ℕ → Effect Val Mem Flt
-  stops : End Val Flt → Effect Val Mem Flt
+pub data Effect (Val Mem Out Flt : Type 0) : Type 0 where
+  falls : State Val Mem → Effect Val Mem Out Flt
+  jumps : ℕ → Effect Val Mem Out Flt
+  stops : End Out Flt → Effect Val Mem Out Flt
 
 abbrev pub headOr : {A : Type 0} → A → List A → A
 headOr z [] = z
@@ -70,30 +79,86 @@ abbrev pub writes : {A : Type 0} → A → (ℕ → A) → List ℕ → List A �
 writes z e [] vs = e
 writes z e (o ∷ os) vs = writes z (upd e o (headOr z vs)) os (tailOf vs)
 
-module _ {Val Mem Flt : Type 0} where
-  abbrev pub afterCalc : Val → List ℕ → State Val Mem → Option (List Val) → Effect Val Mem Flt
+abbrev pub isSome : {A : Type 0} → Option A → Bool
+isSome none = false
+isSome (some a) = true
+
+abbrev pub oneOf : ℕ → Option ℕ → Bool
+oneOf k none = false
+oneOf k (some l) = eqb l k
+
+module _ {Val Mem Out Flt : Type 0} where
+  abbrev pub inputs : View Val Mem Out Flt → List ℕ
+  inputs (calc outs ins f) = ins
+  inputs (access outs ins f) = ins
+  inputs (label k) = []
+  inputs (flow ins c y) = ins
+
+  abbrev pub outputs : View Val Mem Out Flt → List ℕ
+  outputs (calc outs ins f) = outs
+  outputs (access outs ins f) = outs
+  outputs (label k) = []
+  outputs (flow ins c y) = []
+
+  -- what a pure op computes
+  abbrev pub computes : View Val Mem Out Flt → List Val → Option (List Val)
+  computes (calc outs ins f) xs = f xs
+  computes (access outs ins f) xs = none
+  computes (label k) xs = none
+  computes (flow ins c y) xs = none
+
+  abbrev pub pure : View Val Mem Out Flt → Bool
+  pure (calc outs ins f) = true
+  pure (access outs ins f) = false
+  pure (label k) = false
+  pure (flow ins c y) = false
+
+  -- no temporary and no known value outlives the op.
+  -- "A basic block starts at the first op, at set_label, or after br, brcond or exit_tb"
+  abbrev pub closes : View Val Mem Out Flt → Bool
+  closes (calc outs ins f) = false
+  closes (access outs ins f) = false
+  closes (label k) = true
+  closes (flow ins c y) = true
+
+  -- the label to which it may jump
+  abbrev pub target : View Val Mem Out Flt → Option ℕ
+  target (calc outs ins f) = none
+  target (access outs ins f) = none
+  target (label k) = none
+  target (flow ins c (to k)) = some k
+  target (flow ins c (out g)) = none
+
+  abbrev pub labelOf : View Val Mem Out Flt → Option ℕ
+  labelOf (calc outs ins f) = none
+  labelOf (access outs ins f) = none
+  labelOf (label k) = some k
+  labelOf (flow ins c y) = none
+
+  abbrev pub anyLabel : View Val Mem Out Flt → Bool
+  anyLabel w = isSome (labelOf w)
+
+  abbrev pub isLabel : ℕ → View Val Mem Out Flt → Bool
+  isLabel k w = oneOf k (labelOf w)
+
+  abbrev pub afterCalc : Val → List ℕ → State Val Mem → Option (List Val) → Effect Val Mem Out Flt
   afterCalc z outs s none = stops unstated
   afterCalc z outs s (some vs) = falls (record { env = writes z (s .env) outs vs; mem = s .mem })
 
-  abbrev pub afterAccess : Val → List ℕ → State Val Mem → Touch Val Mem Flt → Effect Val Mem Flt
+  abbrev pub afterAccess : Val → List ℕ → State Val Mem → Touch Val Mem Flt → Effect Val Mem Out Flt
   afterAccess z outs s (faults f) = stops (fault f)
   afterAccess z outs s (gives vs m) = falls (record { env = writes z (s .env) outs vs; mem = m })
 
-  abbrev pub effect : Val → View Val Mem Flt → State Val Mem → Effect Val Mem Flt
+  abbrev pub sent : Way Val Out → List Val → Effect Val Mem Out Flt
+  sent (to k) xs = jumps k
+  sent (out g) xs = stops (exit (g xs))
+
+  abbrev pub effect : Val → View Val Mem Out Flt → State Val Mem → Effect Val Mem Out Flt
   effect z (calc outs ins f) s = afterCalc z outs s (f (reads (s .env) ins))
   effect z (access outs ins f) s = afterAccess z outs s (f (s .mem) (reads (s .env) ins))
   effect z (label l) s = falls s
-  effect z (jump l) s = jumps l
-  effect z (branch ins f l) s = cond (f (reads (s .env) ins)) (jumps l) (falls s)
-  effect z (leave x) s = stops (exit (s .env x))
-
-  abbrev pub isLabel : ℕ → View Val Mem Flt → Bool
-  isLabel k (calc outs ins f) = false
-  isLabel k (access outs ins f) = false
-  isLabel k (label l) = eqb l k
-  isLabel k (jump l) = false
-  isLabel k (branch ins f l) = false
-  isLabel k (leave x) = false
+  effect z (flow ins always y) s = sent y (reads (s .env) ins)
+  effect z (flow ins (when f) y) s = cond (f (s .mem) (reads (s .env) ins)) (sent y (reads (s .env) ins)) (falls s)
 
 module _ (L : Lang) where
   abbrev pub St : Type 0
@@ -102,6 +167,12 @@ module _ (L : Lang) where
   abbrev pub Prog : Type 0
   Prog = List (L .Op)
 
+  abbrev pub Viewed : Type 0
+  Viewed = View (L .Val) (L .Mem) (L .Out) (L .Flt)
+
+  abbrev pub Effects : Type 0
+  Effects = Effect (L .Val) (L .Mem) (L .Out) (L .Flt)
+
 -- each element of a list has a property
 abbrev pub All : {A : Type 0} → (A → Type 0) → List A → Type 0
 All P [] = Unit {0}
@@ -109,13 +180,13 @@ All P (x ∷ xs) = P x × All P xs
 
 -- a run's end, the state that the completed ops left, the number of ops run, and the ops from the one that ended it on
 pub record Result (L : Lang) : Type 0 where
-  pub end : End (L .Val) (L .Flt)
+  pub end : End (L .Out) (L .Flt)
   pub state : St L
   pub count : ℕ
   pub left : Prog L
 
 -- the op that exits or faults counts; the op without a stated result, and the one that is due when the steps are used up, do not
-abbrev pub cost : {Val Flt : Type 0} → End Val Flt → ℕ
+abbrev pub cost : {Out Flt : Type 0} → End Out Flt → ℕ
 cost (exit v) = 1
 cost (fault f) = 1
 cost unstated = 0
@@ -125,7 +196,7 @@ cost spent = 0
 -- what one step comes to: the ops still to run and the state, or an end
 pub data Move (L : Lang) : Type 0 where
   goes : Prog L → St L → Move L
-  halts : End (L .Val) (L .Flt) → Move L
+  halts : End (L .Out) (L .Flt) → Move L
 
 module _ (L : Lang) where
   -- from the label k on; nothing if there is none
@@ -137,7 +208,7 @@ module _ (L : Lang) where
   abbrev pub Dest : Type 0
   Dest = ℕ → Prog L → Prog L
 
-  abbrev pub moved : Dest → Prog L → St L → Effect (L .Val) (L .Mem) (L .Flt) → Move L
+  abbrev pub moved : Dest → Prog L → St L → Effects L → Move L
   moved d r s (falls t) = goes r t
   moved d r s (jumps k) = goes (d k r) s
   moved d r s (stops e) = halts e
@@ -146,7 +217,7 @@ module _ (L : Lang) where
   step d [] s = halts fell
   step d (o ∷ r) s = moved d r s (effect (L .zeroV) (L .view o) s)
 
-  abbrev pub ended : End (L .Val) (L .Flt) → Prog L → St L → Result L
+  abbrev pub ended : End (L .Out) (L .Flt) → Prog L → St L → Result L
   ended e r s = record { end = e; state = s; count = cost e; left = r }
 
   abbrev pub counted : Result L → Result L

@@ -1,32 +1,35 @@
 -- Liveness and prune. Assumes nothing.
-use mathlib.Core.Bool.{Bool, false, cond}
+use mathlib.Core.Bool.{Bool, false, cond, _&&_}
 use mathlib.Core.Path.{_≡_}
+use Prim.Native.Nat.{ℕ}
 use mathlib.Core.List.{[], _∷_}
-use Rattle.theory.specs.Machine.{View, calc, access, label, jump, branch, leave, Lang, Prog}
-use Rattle.theory.specs.Sets.{Vars, has, without, plus, both, noneIn}
+use Rattle.theory.specs.Machine.{always, when, Way, to, out, View, calc, access, label, flow, Lang, Prog, outputs, pure, closes}
+use Rattle.theory.specs.Sets.{Vars, without, plus, both, noneIn}
 
-module _ {Val Mem Flt : Type 0} where
+module _ {Val Mem Out Flt : Type 0} where
   -- "A pure op is dropped when its output is dead, that is, not live after it"
-  abbrev pub dead : View Val Mem Flt → Vars → Bool
-  dead (calc outs ins f) l = noneIn outs l
-  dead (access outs ins f) l = false
-  dead (label k) l = false
-  dead (jump k) l = false
-  dead (branch ins f k) l = false
-  dead (leave x) l = false
+  abbrev pub dead : View Val Mem Out Flt → Vars → Bool
+  dead w l = pure w && noneIn (outputs w) l
 
-module _ {Val Mem Flt : Type 0} (glob kept : Vars) where
-  -- what is live just before a kept op, from what is live after it; glob: the globals, kept: the globals and local temporaries.
-  -- "exit_tb: all globals, and its operand; br and set_label: all globals and local temporaries; brcond: those, and its operands;
-  -- load or store: what was live after it less a load's output, then all globals, then its inputs;
+-- what is live where a way leads: all globals (glob) where it leads out; t k: what is live at the label k
+abbrev pub there : {Val Out : Type 0} → Vars → Way Val Out → (ℕ → Vars) → Vars
+there glob (to k) t = t k
+there glob (out g) t = glob
+
+module _ {Val Mem Out Flt : Type 0} (glob : Vars) where
+  -- what is live just before a kept op, from what is live after it and at the labels: an access shows all globals.
+  -- "load or store: what was live after it less a load's output, then all globals, then its inputs;
   -- pure op: what was live after it less its output, then its inputs."
-  abbrev pub before : View Val Mem Flt → Vars → Vars
-  before (calc outs ins f) l = plus (without l outs) ins
-  before (access outs ins f) l = plus (both glob (without l outs)) ins
-  before (label k) l = kept
-  before (jump k) l = kept
-  before (branch ins f k) l = plus kept ins
-  before (leave x) l = plus glob (x ∷ [])
+  abbrev pub need : View Val Mem Out Flt → Vars → (ℕ → Vars) → Vars
+  need (calc outs ins f) l t = plus (without l outs) ins
+  need (access outs ins f) l t = plus (both glob (without l outs)) ins
+  need (label k) l t = l
+  need (flow ins always y) l t = plus (there glob y t) ins
+  need (flow ins (when f) y) l t = plus (both (there glob y t) l) ins
+
+  -- document 01's list: all globals and local temporaries (kept) are live at a label, and where a basic block ends
+  abbrev pub before : Vars → View Val Mem Out Flt → Vars → Vars
+  before kept w l = need w (cond (closes w) kept l) (λ k. kept)
 
 -- the ops that are not dead, by any note of what is live before the ops that are left
 abbrev pub pruneBy : (L : Lang) → (Prog L → Vars) → Prog L → Prog L

@@ -3,9 +3,12 @@ use mathlib.Core.Path.{sym, _∙_}
 use native.Mathlib.Omega.{arith}
 use lib.ListN.{take}
 use borrow.Author.Needs.{needs}
+use Prim.Native.Nat.{_+_}
+use Rattle.ops.specs.Ops.{bytesAt}
+use Rattle.block.specs.Rules.{keptIn}
 use Rattle.block.specs.Scan.{marked}
 use Rattle.block.proofs.Views.{inside, unknown-view, declare-view, label-view, jump-view, leave-view, branch-view, load-view, store-view, constant-view}
-use Rattle.passes.proofs.Before.{an-output, inputs-inside, before-computes, two-bytes}
+use Rattle.passes.proofs.Before.{an-output, inputs-inside, before-computes, two-bytes, both-self}
 use Rattle.prune.proofs.live_before.Statement.{statement}
 use Rattle.prune.proofs.live_before.Tie as tie
 
@@ -115,7 +118,7 @@ returns-5 : tie.Need-returns-5
 returns-5 c =
     let start = c .before .before .before .before .before .before in
     let role = sym (c .before .before .before .before .role-of .ensures) ∙ c .before .before .enum-told5 .given .1 in
-    rw (branch-view (start .pre .1) role, ← two-bytes (start .args .block .now) (start .args .at)) (c .branch-before .ensures)
+    rw (branch-view (start .pre .1) role, ← two-bytes (start .args .block .now) (start .args .at)) (c .branch-before .ensures ∙ both-self (keptIn (take (start .args .n) (start .args .classes .now))) (bytesAt (start .args .block .now) (start .args .at + 1) 2))
 
 returns-6 : tie.Need-returns-6
 returns-6 c =
