@@ -7,7 +7,7 @@ use native.Mathlib.Omega.{arith}
 use lib.Dec.{eqb, ltb, leb}
 use lib.ListN.{length, length-append}
 use borrow.Author.Tests.{ltb-true}
-use Rattle.theory.specs.Machine.{End, exit, fault, unstated, fell, spent, Result, runs}
+use Rattle.theory.specs.Machine.{End, exit, fault, unstated, fell, spent, Result}
 use Rattle.theory.proofs.Sets.{and-r}
 use Rattle.ops.specs.Ops.{kindOf, tcg}
 use Rattle.ops.proofs.Sizes.{body-short}
@@ -16,7 +16,7 @@ use Rattle.block.specs.Meaning.{Meets, EachMeets}
 use Rattle.block.specs.Records.{recordsOf, concat, isDeclaration, declarations, opsFrom, classOf, typeOf, classesOf}
 use Rattle.block.proofs.Meaning.{refused-means}
 use Rattle.block.proofs.Parts.{parts}
-use Rattle.runs.specs.Runs.{fits, entry, Ran, ranAs, answerOf, ranOf, runOps, runRefused, runChecked, runOf}
+use Rattle.runs.specs.Runs.{fits, entry, Ran, ranAs, answerOf, ranOf, opsRun, runOps, runRefused, runChecked, runOf}
 use Rattle.passes.specs.Passes.{passOps, resultOf, passRefused, written, passChecked, passOf}
 use Rattle.passes.proofs.Result.{parts-size, kept-parts, result-of}
 use Rattle.ngulo.specs.Numbers.{runNumber, reportOf, RunAnswer}
@@ -131,7 +131,7 @@ ending-by block globals memory (Refused number place) e = omega (arith, place-sm
 ending-by block globals memory Accepted e = go (fits (declarations (recordsOf block)) globals memory)
   where
     go : (b : Bool) → SmallEnding ((cond b (runOps (opsFrom (recordsOf block)) globals memory) (runRefused 11 0 globals memory)) .answer)
-    go true = ran-small (length (opsFrom (recordsOf block))) (length globals) (runs tcg (opsFrom (recordsOf block)) (entry globals memory))
+    go true = ran-small (length (opsFrom (recordsOf block))) (length globals) (opsRun (opsFrom (recordsOf block)) (entry globals memory))
     go false = omega arith
 
 pub ending-small : (block globals memory : List ℕ) (w : Ending) → w ≡ (runOf block globals memory) .answer → SmallEnding w

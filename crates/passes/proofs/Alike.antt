@@ -11,13 +11,14 @@ use Rattle.theory.specs.Machine.{End, exit, fault, unstated, fell, spent, Resul
 use Rattle.theory.specs.Scope.{scoped}
 use Rattle.theory.specs.Sets.{empty}
 use Rattle.theory.proofs.PruneBy.{Agree}
-use Rattle.theory.proofs.Sets.{and-l}
-use Rattle.theory.proofs.Simulation.{stated, Matches}
+use Rattle.theory.proofs.Sets.{and-l, and-r}
+use Rattle.theory.proofs.Simulation.{unspent, stated, definite, notFell, proper, Matches, same-run}
 use Rattle.ops.specs.Ops.{Fault, tcg}
 use Rattle.block.specs.Checks.{checkOf}
 use Rattle.block.specs.Records.{classesOf, widthsOf, globalCount}
 use Rattle.block.proofs.Parts.{Parts}
-use Rattle.runs.specs.Runs.{globalsFit, fits, entry, valuesFrom, Ran, answerOf, ranOf, runOps, runChecked, runOf}
+use Rattle.runs.specs.Runs.{globalsFit, fits, entry, valuesFrom, Ran, answerOf, ranOf, opsRun, runOps, runChecked, runOf}
+use Rattle.runs.proofs.Ends.{run-ends}
 use Rattle.passes.specs.Demand.{Fit, unstatedEnd, SameEnd, same-exit, same-fault, Alike}
 use Rattle.passes.specs.Passes.{passOps}
 use Rattle.passes.proofs.Result.{ops-preserved}
@@ -47,12 +48,12 @@ same-end unstated p q m n l h = absurd (true≢false h)
 same-end fell p q m n l h = absurd (true≢false h)
 same-end spent p q m n l h = absurd (true≢false h)
 
-stated-end : (end : End ℕ Fault) (p m : ℕ) → unstatedEnd (answerOf end p m) ≡ false → stated end ≡ true
-stated-end (exit v) p m h = refl
-stated-end (fault f) p m h = refl
-stated-end unstated p m h = absurd (true≢false h)
-stated-end fell p m h = absurd (true≢false h)
-stated-end spent p m h = absurd (true≢false h)
+definite-end : (end : End ℕ Fault) (p m : ℕ) → unstatedEnd (answerOf end p m) ≡ false → definite end ≡ true
+definite-end (exit v) p m h = refl
+definite-end (fault f) p m h = refl
+definite-end unstated p m h = absurd (true≢false h)
+definite-end fell p m h = absurd (true≢false h)
+definite-end spent p m h = absurd (true≢false h)
 
 -- two results that match give runs alike
 matches-alike : (classes : List ℕ) (a b n : ℕ) (r r′ : Result tcg) → n ≡ globalCount classes → Matches tcg (Agree 0 (globalsIn classes)) r r′
@@ -78,14 +79,22 @@ fit-count ds globals memory f =
     and-l (eqb (length globals) (globalCount (classesOf ds)) && globalsFit (widthsOf ds) globals) (leb (length memory) 65536) f in
     eqb-true (length globals) (globalCount (classesOf ds)) (and-l (eqb (length globals) (globalCount (classesOf ds))) (globalsFit (widthsOf ds) globals) a)
 
+-- neither run is out of steps: that of the result is the same with the block's limit as with its own
 runs-alike : (ds os : List (List ℕ)) (globals memory : List ℕ) → scoped tcg (keptIn (classesOf ds)) empty os ≡ true → fits ds globals memory ≡ true
+    → unspent ((opsRun (passOps (classesOf ds) os) (entry globals memory)) .end) ≡ true
     → unstatedEnd ((runOps os globals memory) .answer) ≡ false → Alike (runOps os globals memory) (runOps (passOps (classesOf ds) os) globals memory)
 unfolding runOps passOps
-runs-alike ds os globals memory c f h =
-    let r = runs tcg os (entry globals memory) in
-    matches-alike (classesOf ds) (length os) (length (passOps (classesOf ds) os)) (length globals) r (runs tcg (passOps (classesOf ds) os) (entry globals memory))
-    (fit-count ds globals memory f)
-    ((ops-preserved (classesOf ds) os c) .alike (entry globals memory) tt (stated-end (r .end) (length os - length (r .left)) (r .count) h)) h
+runs-alike ds os globals memory c f u h =
+    let os′ = passOps (classesOf ds) os in
+    let s = entry globals memory in
+    let r = opsRun os s in
+    let d : definite (r .end) ≡ true = definite-end (r .end) (length os - length (r .left)) (r .count) h in
+    let m = (ops-preserved (classesOf ds) os c) .alike (suc (length os)) s tt d in
+    let r′ = runs tcg (suc (length os)) os′ s in
+    let u′ : unspent (r′ .end) ≡ true = rw (m .end) (and-l (unspent (r .end)) (stated (r .end)) d) in
+    let e : r′ ≡ opsRun os′ s = same-run tcg os′ (suc (length os)) (suc (length os′)) os′ s u′ u in
+    matches-alike (classesOf ds) (length os) (length os′) (length globals) r (opsRun os′ s) (fit-count ds globals memory f)
+    (subst (Matches tcg (Agree 0 (globalsIn (classesOf ds))) r) e m) h
 
 pub blocks-alike : (block result : List ℕ) (ds os : List (List ℕ)) → checkOf block ≡ Accepted → Parts block ds os → checkOf result ≡ Accepted
     → Parts result ds (passOps (classesOf ds) os) → (globals memory : List ℕ) → Fit block globals memory → unstatedEnd ((runOf block globals memory) .answer) ≡ false
@@ -95,4 +104,6 @@ blocks-alike block result ds os h p h′ p′ globals memory f u =
     let e = run-accepted block ds os globals memory h p f₁ in
     let e′ = run-accepted result ds (passOps (classesOf ds) os) globals memory h′ p′ f₁ in
     let u₁ : unstatedEnd ((runOps os globals memory) .answer) ≡ false = sym (ap (λ (t : Ran). unstatedEnd (t .answer)) e) ∙ u in
-    subst₂ Alike (sym e) (sym e′) (runs-alike ds os globals memory (p .in-scope) f₁ u₁)
+    let v : proper ((opsRun (passOps (classesOf ds) os) (entry globals memory)) .end) ≡ true = rw (p′ .ops) at (run-ends result globals memory h′) in
+    let n : unspent ((opsRun (passOps (classesOf ds) os) (entry globals memory)) .end) ≡ true = and-r (notFell ((opsRun (passOps (classesOf ds) os) (entry globals memory)) .end)) _ v in
+    subst₂ Alike (sym e) (sym e′) (runs-alike ds os globals memory (p .in-scope) f₁ n u₁)

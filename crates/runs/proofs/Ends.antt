@@ -1,6 +1,6 @@
 -- Every run of an accepted block exits, faults or meets an op without a stated result. Assumes nothing.
-use mathlib.Core.Path.{_≡_, refl, sym, ap, subst}
-use mathlib.Core.Bool.{Bool, true, false, cond, not, _&&_, _||_, false≢true}
+use mathlib.Core.Path.{_≡_, refl, sym, ap, _∙_, subst}
+use mathlib.Core.Bool.{Bool, true, false, cond, not, _&&_, _||_, false≢true, true≢false}
 use mathlib.Core.List.{List, [], _∷_}
 use mathlib.Core.Logic.{_⊎_, inl, inr}
 use Prim.Native.Nat.{ℕ, zero, suc, _<_}
@@ -9,7 +9,7 @@ use lib.Dec.{eqb}
 use borrow.Author.Tests.{leb-true, eqb-true, eqb-false, not-true}
 use lib.Arith.{lt-of-le-ne}
 use Rattle.theory.specs.Checker.{checks}
-use Rattle.theory.specs.Machine.{View, calc, access, label, flow, to, out, isLabel, St, seek, runs}
+use Rattle.theory.specs.Machine.{View, calc, access, label, flow, to, out, isLabel, St, seek}
 use Rattle.theory.specs.Sets.{Vars}
 use Rattle.theory.proofs.Ends.{Grounded, ends-properly}
 use Rattle.theory.proofs.Simulation.{proper, goesOn, isJump}
@@ -23,23 +23,40 @@ use Rattle.block.proofs.Accepts.{allMet}
 use Rattle.block.proofs.Cut.{whole}
 use Rattle.block.proofs.Lenient.{exit-view}
 use Rattle.block.proofs.Parts.{parts}
-use Rattle.runs.specs.Runs.{entry}
+use Rattle.runs.specs.Runs.{entry, opsRun}
 use Rattle.block.proofs.Checker.{opOk, checker, declaredIn}
 use Rattle.block.specs.declared.Verdict.the-variants.{Accepted}
 
--- an op is due, and the check accepts what is left
-abbrev Due : List (List ℕ) → Type 0
-Due [] = ⊥
-Due (o ∷ r) = (s : Seen) × (checks tcg checker s (o ∷ r) ≡ true)
+-- a label that is not set yet is found in what is left
+abbrev pub Ahead : List (List ℕ) → Seen → List (List ℕ) → Type 0
+Ahead b s r = (l : ℕ) → s .labels l ≡ false → seek tcg l b ≡ seek tcg l r
+
+unset : (labels : Vars) (w : View ℕ (List ℕ) ℕ Fault) (l : ℕ) → nextLabels labels w l ≡ false → (labels l ≡ false) × (isLabel l w ≡ false)
+unset labels (calc outs ins f) l h = (h, refl)
+unset labels (access outs ins f) l h = (h, refl)
+unset labels (label m) l h = go (eqb m l) h
+  where
+    go : (x : Bool) → cond x true (labels l) ≡ false → (labels l ≡ false) × (x ≡ false)
+    go true q = absurd (true≢false q)
+    go false q = (q, refl)
+unset labels (flow ins c y) l h = (h, refl)
+
+pub ahead-next : (b : List (List ℕ)) (s : Seen) (o : List ℕ) (r : List (List ℕ)) → Ahead b s (o ∷ r) → Ahead b (passed s o) r
+ahead-next b s o r a l h = let p = unset (s .labels) (viewOf o) l h in a l (p .0) ∙ rw (p .1)
+
+-- an op is due, the check accepts what is left, and b is the block
+abbrev Due : List (List ℕ) → List (List ℕ) → Type 0
+Due b [] = ⊥
+Due b (o ∷ r) = (s : Seen) × (checks tcg checker s (o ∷ r) ≡ true) × Ahead b s (o ∷ r)
 
 -- the last op is an exit
 not-last : (s : Seen) (o : List ℕ) → allMet (endRules (passed s o)) ≡ true → goesOn (viewOf o) ≡ false
 unfolding rule10
 not-last s o h = ap goesOn (exit-view o (eqb-true (kindOf o) 0x04 (and-l (eqb (kindOf o) 0x04) _ h)))
 
-next-due : (o : List ℕ) (r : List (List ℕ)) → Due (o ∷ r) → goesOn (viewOf o) ≡ true → Due r
-next-due o [] d h = clash (goesOn (viewOf o)) h (not-last (d .0) o (and-r (opOk (d .0) o) (allMet (endRules (passed (d .0) o))) (d .1)))
-next-due o (q ∷ r) d h = (passed (d .0) o, and-r (opOk (d .0) o) (checks tcg checker (passed (d .0) o) (q ∷ r)) (d .1))
+next-due : (b : List (List ℕ)) (o : List ℕ) (r : List (List ℕ)) → Due b (o ∷ r) → goesOn (viewOf o) ≡ true → Due b r
+next-due b o [] d h = clash (goesOn (viewOf o)) h (not-last (d .0) o (and-r (opOk (d .0) o) (allMet (endRules (passed (d .0) o))) (d .1)))
+next-due b o (q ∷ r) d h = (passed (d .0) o, and-r (opOk (d .0) o) (checks tcg checker (passed (d .0) o) (q ∷ r)) (d .1), ahead-next b (d .0) o (q ∷ r) (d .2))
 
 -- a jump's label is below 32, is not yet set, and is then jumped to
 low-label : (row : Row) (d : Does) (r : List ℕ) (k : ℕ) → isJump k (viewBy row d r) ≡ true → restOk d (restBy row r) ≡ true → k < 32
@@ -99,13 +116,15 @@ unfolding rule7end
 end-set s k h l t =
     all-set (s .targets) (s .labels) 32 k (and-l (rule7end s) true (and-r (rule10 s) (rule7end s && true) h)) l t
 
-found : (r : List (List ℕ)) (s : Seen) (k : ℕ) → checks tcg checker s r ≡ true → k < 32 → s .labels k ≡ false → s .targets k ≡ true → Due (seek tcg k r)
-found [] s k c b l t = clash (s .labels k) (end-set s k c b t) l
-found (o ∷ r) s k c b l t = go (isLabel k (viewOf o)) refl
-    (λ n. let p = other-labels (s .labels) (s .targets) (viewOf o) k n l t in found r (passed s o) k (and-r (opOk s o) (checks tcg checker (passed s o) r) c) b (p .0) (p .1))
+found : (b r : List (List ℕ)) (s : Seen) (k : ℕ) → checks tcg checker s r ≡ true → Ahead b s r → k < 32 → s .labels k ≡ false → s .targets k ≡ true → Due b (seek tcg k r)
+found b [] s k c a m l t = clash (s .labels k) (end-set s k c m t) l
+found b (o ∷ r) s k c a m l t =
+    go (isLabel k (viewOf o)) refl
+    (λ n. let p = other-labels (s .labels) (s .targets) (viewOf o) k n l t in
+    found b r (passed s o) k (and-r (opOk s o) (checks tcg checker (passed s o) r) c) (ahead-next b s o r a) m (p .0) (p .1))
   where
-    go : (x : Bool) → isLabel k (viewOf o) ≡ x → (isLabel k (viewOf o) ≡ false → Due (seek tcg k r)) → Due (cond x (o ∷ r) (seek tcg k r))
-    go true e ih = (s, c)
+    go : (x : Bool) → isLabel k (viewOf o) ≡ x → (isLabel k (viewOf o) ≡ false → Due b (seek tcg k r)) → Due b (cond x (o ∷ r) (seek tcg k r))
+    go true e ih = (s, c, a)
     go false e ih = ih e
 
 pub op-parts : (s : Seen) (o : List ℕ) → opOk s o ≡ true → (rule6 s o ≡ true) × (rule7 s o ≡ true)
@@ -120,28 +139,33 @@ pub landed-labels : (s : Seen) (o : List ℕ) (k : ℕ) → isJump k (viewOf o) 
 unfolding rule7
 landed-labels s o k j h = jump-labels (s .labels) (s .targets) (viewOf o) k j h
 
-grounded : Grounded tcg Due
-grounded =
-    record {
-      some-op = λ d. d;
-      next-op = next-due;
-      landed = λ o r k d j.
-          let p = op-parts (d .0) o (and-l (opOk (d .0) o) (checks tcg checker (passed (d .0) o) r) (d .1)) in
-          let q = landed-labels (d .0) o k j (p .1) in
-          found r (passed (d .0) o) k (and-r (opOk (d .0) o) (checks tcg checker (passed (d .0) o) r) (d .1)) (jump-low (d .0) o k j (p .0)) (q .0) (q .1);
-    }
+module _ (b : List (List ℕ)) (o : List ℕ) (r : List (List ℕ)) (k : ℕ) (d : Due b (o ∷ r)) (j : isJump k (viewOf o) ≡ true) where
+  met : (rule6 (d .0) o ≡ true) × (rule7 (d .0) o ≡ true)
+  met = op-parts (d .0) o (and-l (opOk (d .0) o) (checks tcg checker (passed (d .0) o) r) (d .1))
+
+  forward : seek tcg k b ≡ seek tcg k r
+  forward = ahead-next b (d .0) o r (d .2) k ((landed-labels (d .0) o k j (met .1)) .0)
+
+  landed-due : Due b (seek tcg k b)
+  landed-due =
+      let q = landed-labels (d .0) o k j (met .1) in
+      rw forward
+      (found b r (passed (d .0) o) k (and-r (opOk (d .0) o) (checks tcg checker (passed (d .0) o) r) (d .1)) (ahead-next b (d .0) o r (d .2)) (jump-low (d .0) o k j (met .0)) (q .0) (q .1))
+
+grounded : (b : List (List ℕ)) → Grounded tcg b (Due b)
+grounded b = record { some-op = λ d. d; next-op = next-due b; landed = landed-due b }
 
 no-op : (s : Seen) → s .last ≡ 0 → rule10 s ≡ false
 unfolding rule10
 no-op s e = rw e
 
 -- accepted ops end in one of the three ways
-pub ops-end : (s : Seen) (os : List (List ℕ)) (t : St tcg) → s .last ≡ 0 → checks tcg checker s os ≡ true → proper ((runs tcg os t) .end) ≡ true
+pub ops-end : (s : Seen) (os : List (List ℕ)) (t : St tcg) → s .last ≡ 0 → checks tcg checker s os ≡ true → proper ((opsRun os t) .end) ≡ true
 ops-end s [] t e c = clash (rule10 s) (and-l (rule10 s) _ c) (no-op s e)
-ops-end s (o ∷ os) t e c = ends-properly tcg Due grounded (o ∷ os) t (s, c)
+ops-end s (o ∷ os) t e c = ends-properly tcg (o ∷ os) (Due (o ∷ os)) (grounded (o ∷ os)) (forward (o ∷ os)) t (s, c, λ l h. refl)
 
 -- "It ends in one of three ways": every run of an accepted block does
-pub run-ends : (block globals memory : List ℕ) → checkOf block ≡ Accepted → proper ((runs tcg (opsFrom (recordsOf block)) (entry globals memory)) .end) ≡ true
+pub run-ends : (block globals memory : List ℕ) → checkOf block ≡ Accepted → proper ((opsRun (opsFrom (recordsOf block)) (entry globals memory)) .end) ≡ true
 run-ends block globals memory h =
     let p = parts block h in
     ops-end (declaredIn start (declarations (recordsOf block))) (opsFrom (recordsOf block)) (entry globals memory) refl (p .checked)

@@ -2,10 +2,11 @@
 use mathlib.Core.Path.{_≡_, refl, sym, ap, _∙_, subst, subst₂}
 use mathlib.Core.Bool.{Bool, true, false, cond, not, false≢true}
 use mathlib.Core.List.{List, [], _∷_}
-use Prim.Native.Nat.{ℕ, zero, suc, _+_, _<_}
+use Prim.Native.Nat.{ℕ, zero, suc, _+_, _-_, _≤_, _<_}
 use native.Mathlib.Omega.{arith}
 use lib.Dec.{eqb}
-use lib.ListN.{length, getD, drop, set, replicate, length-set}
+use lib.ListN.{length, getD, drop, set, replicate, length-set, length-drop}
+use lib.Seq.{drop-cons, drop-drop}
 use borrow.Author.Tests.{leb-true, eqb-true, not-true, eq-eqb, ne-eqb}
 use native.Mathlib.Nat.{zero-add, add-zero}
 use Rattle.theory.specs.Checker.{checks}
@@ -19,7 +20,7 @@ use Rattle.block.specs.Rules.{Seen, rule6, labelFree, nextLabels, rule7, passed
 use Rattle.block.specs.Scan.{numbered, labelledBy, labelsFrom}
 use Rattle.block.proofs.Checker.{opOk, checker}
 use Rattle.block.proofs.MarkSets.{set-here, at-place, numbered-upd, numbered-none}
-use Rattle.runs.proofs.Ends.{jump-low, more-targets, other-labels, end-set, op-parts, landed-labels}
+use Rattle.runs.proofs.Ends.{Ahead, ahead-next, jump-low, more-targets, other-labels, end-set, op-parts, landed-labels}
 
 -- the numbers say which labels are set
 abbrev Says : List ℕ → Seen → Type 0
@@ -81,11 +82,11 @@ stays (o ∷ os) s L i l c h t =
     ∙ keeps-number L (s .labels) (viewOf o) i l (λ m e. omega (arith, set-low s o m e (p .0), h .0)) (free-label s o (p .1)) t
 
 -- the op that sets a label that is jumped to: so many ops on
-pub record Lands (os : List (List ℕ)) (l number i : ℕ) : Type 0 where
-  pub on : ℕ
-  pub here : seek tcg l os ≡ drop on os
-  pub inside : on < length os
-  pub numbered-so : number ≡ suc (i + on)
+record Found (os : List (List ℕ)) (l number i : ℕ) : Type 0 where
+  on : ℕ
+  here : seek tcg l os ≡ drop on os
+  inside : on < length os
+  numbered-so : number ≡ suc (i + on)
 
 label-view : (w : View ℕ (List ℕ) ℕ Fault) (l i : ℕ) (L : List ℕ) → isLabel l w ≡ true → l < length L → getD (labelledBy w i L) l 0 ≡ i + 1
 label-view (calc outs ins f) l i L e h = absurd (false≢true e)
@@ -93,13 +94,13 @@ label-view (access outs ins f) l i L e h = absurd (false≢true e)
 label-view (label m) l i L e h = at-place (set-here L m (i + 1) (omega (arith, eqb-true m l e))) l ∙ rw e
 label-view (flow ins c y) l i L e h = absurd (false≢true e)
 
-lands : (os : List (List ℕ)) (s : Seen) (L : List ℕ) (i l : ℕ) → checks tcg checker s os ≡ true → Says L s → l < 32 → s .labels l ≡ false → s .targets l ≡ true
-    → Lands os l (getD (labelsFrom i L os) l 0) i
+found : (os : List (List ℕ)) (s : Seen) (L : List ℕ) (i l : ℕ) → checks tcg checker s os ≡ true → Says L s → l < 32 → s .labels l ≡ false → s .targets l ≡ true
+    → Found os l (getD (labelsFrom i L os) l 0) i
 unfolding labelsFrom
-lands [] s L i l c h b f t = clash (s .labels l) (end-set s l c b t) f
-lands (o ∷ os) s L i l c h b f t =
+found [] s L i l c h b f t = clash (s .labels l) (end-set s l c b t) f
+found (o ∷ os) s L i l c h b f t =
     go (isLabel l (viewOf o)) refl
-    (λ e. let p = other-labels (s .labels) (s .targets) (viewOf o) l e f t in lands os (passed s o) (labelledBy (viewOf o) i L) (suc i) l c′ h′ b (p .0) (p .1))
+    (λ e. let p = other-labels (s .labels) (s .targets) (viewOf o) l e f t in found os (passed s o) (labelledBy (viewOf o) i L) (suc i) l c′ h′ b (p .0) (p .1))
   where
     k : opOk s o ≡ true
     k = and-l (opOk s o) (checks tcg checker (passed s o) os) c
@@ -111,8 +112,8 @@ lands (o ∷ os) s L i l c h b f t =
     h′ = says-next L s o i h k
 
     go : (x : Bool) → isLabel l (viewOf o) ≡ x
-        → (isLabel l (viewOf o) ≡ false → Lands os l (getD (labelsFrom (suc i) (labelledBy (viewOf o) i L) os) l 0) (suc i))
-        → Lands (o ∷ os) l (getD (labelsFrom (suc i) (labelledBy (viewOf o) i L) os) l 0) i
+        → (isLabel l (viewOf o) ≡ false → Found os l (getD (labelsFrom (suc i) (labelledBy (viewOf o) i L) os) l 0) (suc i))
+        → Found (o ∷ os) l (getD (labelsFrom (suc i) (labelledBy (viewOf o) i L) os) l 0) i
     go true e ih =
         let n : getD (labelledBy (viewOf o) i L) l 0 ≡ i + 1 = label-view (viewOf o) l i L e (omega (arith, h .0)) in
         let set : (passed s o) .labels l ≡ true = sym (h′ .1 l) ∙ ap (λ (x : ℕ). not (eqb x 0)) n ∙ rw (ne-eqb (i + 1) 0 (λ q. omega arith)) in
@@ -132,17 +133,18 @@ lands (o ∷ os) s L i l c h b f t =
         next : (i n : ℕ) → suc (suc i + n) ≡ suc (i + suc n)
         next i n = omega arith
 
--- the check at the i-th op
-record Reached (final : List ℕ) (os : List (List ℕ)) (i : ℕ) : Type 0 where
+-- the check at the i-th op of a block
+record Reached (b os : List (List ℕ)) (i : ℕ) : Type 0 where
   seen-so : Seen
   numbers : List ℕ
   checked : checks tcg checker seen-so os ≡ true
   says : Says numbers seen-so
-  same : final ≡ labelsFrom i numbers os
+  same : labelsFrom 0 (replicate 256 0) b ≡ labelsFrom i numbers os
+  ahead : Ahead b seen-so os
 
-reach-next : (final : List ℕ) (o : List ℕ) (os : List (List ℕ)) (i : ℕ) → Reached final (o ∷ os) i → Reached final os (suc i)
+reach-next : (b : List (List ℕ)) (o : List ℕ) (os : List (List ℕ)) (i : ℕ) → Reached b (o ∷ os) i → Reached b os (suc i)
 unfolding labelsFrom
-reach-next final o os i r =
+reach-next b o os i r =
     let s = r .seen-so in
     let k : opOk s o ≡ true = and-l (opOk s o) (checks tcg checker (passed s o) os) (r .checked) in
     record {
@@ -151,33 +153,50 @@ reach-next final o os i r =
       checked = and-r (opOk s o) (checks tcg checker (passed s o) os) (r .checked);
       says = says-next (r .numbers) s o i (r .says) k;
       same = r .same;
+      ahead = ahead-next b s o os (r .ahead);
     }
 
-reach : (final : List ℕ) (i j : ℕ) (os : List (List ℕ)) → Reached final os j → Reached final (drop i os) (j + i)
+reach : (b : List (List ℕ)) (i j : ℕ) (os : List (List ℕ)) → Reached b os j → Reached b (drop i os) (j + i)
 unfolding labelsFrom
-reach final zero j os r = rw (add-zero j) r
-reach final (suc i) j [] r = record { seen-so = r .seen-so; numbers = r .numbers; checked = r .checked; says = r .says; same = r .same }
-reach final (suc i) j (o ∷ os) r = let e : suc j + i ≡ j + suc i = omega arith in subst (λ (n : ℕ). Reached final (drop i os) n) e (reach final i (suc j) os (reach-next final o os j r))
+reach b zero j os r = rw (add-zero j) r
+reach b (suc i) j [] r = record { seen-so = r .seen-so; numbers = r .numbers; checked = r .checked; says = r .says; same = r .same; ahead = r .ahead }
+reach b (suc i) j (o ∷ os) r = let e : suc j + i ≡ j + suc i = omega arith in subst (λ (n : ℕ). Reached b (drop i os) n) e (reach b i (suc j) os (reach-next b o os j r))
 
--- a jump of the i-th op lands at the op whose number the scan keeps
-pub jump-lands : (s : Seen) (os : List (List ℕ)) (i l : ℕ) (o : List ℕ) (rest : List (List ℕ)) → checks tcg checker s os ≡ true → s .labels ≡ empty
-    → drop i os ≡ o ∷ rest → isJump l (viewOf o) ≡ true → Lands rest l (getD (labelsFrom 0 (replicate 256 0) os) l 0) (suc i)
+-- a jump of the i-th op lands further on, at the op whose number the scan keeps
+pub record Lands (os : List (List ℕ)) (l number i : ℕ) : Type 0 where
+  pub has-number : 1 ≤ number
+  pub further : i < number - 1
+  pub inside : number - 1 < length os
+  pub here : seek tcg l os ≡ drop (number - 1) os
+
+pub jump-lands : (s : Seen) (os : List (List ℕ)) (i l : ℕ) → checks tcg checker s os ≡ true → s .labels ≡ empty → i < length os → isJump l (viewOf (getD os i [])) ≡ true
+    → Lands os l (getD (labelsFrom 0 (replicate 256 0) os) l 0) i
 unfolding labelsFrom reach-next
-jump-lands s os i l o rest c e d j =
-    let r₀ : Reached (labelsFrom 0 (replicate 256 0) os) os 0 =
+jump-lands s os i l c e h j =
+    let o = getD os i [] in
+    let rest = drop (suc i) os in
+    let r₀ : Reached os os 0 =
     record {
       seen-so = s;
       numbers = replicate 256 0;
       checked = c;
       says = (refl, λ v. ap (λ (f : Vars). f v) (numbered-none 256 refl ∙ sym e));
       same = refl;
+      ahead = λ m q. refl;
     } in
-    let r₁ : Reached (labelsFrom 0 (replicate 256 0) os) (o ∷ rest) i =
-    subst₂ (Reached (labelsFrom 0 (replicate 256 0) os)) d (zero-add i) (reach (labelsFrom 0 (replicate 256 0) os) i 0 os r₀) in
+    let r₁ : Reached os (o ∷ rest) i = subst₂ (Reached os) (drop-cons os i [] h) (zero-add i) (reach os i 0 os r₀) in
     let t = r₁ .seen-so in
     let k : opOk t o ≡ true = and-l (opOk t o) (checks tcg checker (passed t o) rest) (r₁ .checked) in
     let p = op-parts t o k in
     let q = landed-labels t o l j (p .1) in
-    let r₂ = reach-next (labelsFrom 0 (replicate 256 0) os) o rest i r₁ in
-    subst (λ (n : List ℕ). Lands rest l (getD n l 0) (suc i)) (sym (r₂ .same))
-    (lands rest (passed t o) (r₂ .numbers) (suc i) l (r₂ .checked) (r₂ .says) (jump-low t o l j (p .0)) (q .0) (q .1))
+    let r₂ = reach-next os o rest i r₁ in
+    let f : Found rest l (getD (labelsFrom 0 (replicate 256 0) os) l 0) (suc i) =
+    subst (λ (n : List ℕ). Found rest l (getD n l 0) (suc i)) (sym (r₂ .same))
+    (found rest (passed t o) (r₂ .numbers) (suc i) l (r₂ .checked) (r₂ .says) (jump-low t o l j (p .0)) (q .0) (q .1)) in
+    let n : suc i + f .on ≡ getD (labelsFrom 0 (replicate 256 0) os) l 0 - 1 = omega (arith, f .numbered-so) in
+    record {
+      has-number = omega (arith, f .numbered-so);
+      further = omega (arith, f .numbered-so);
+      inside = omega (arith, f .numbered-so, f .inside, length-drop (suc i) os);
+      here = r₂ .ahead l (q .0) ∙ f .here ∙ drop-drop (f .on) (suc i) os ∙ ap (λ (x : ℕ). drop x os) n;
+    }

@@ -8,13 +8,13 @@ use lib.Dec.{eqb, leb}
 use lib.ListN.{length, take}
 use lib.Seq.{length-take-le}
 use borrow.Author.Tests.{eqb-true}
-use Rattle.theory.specs.Machine.{St, Result, runs}
+use Rattle.theory.specs.Machine.{St, Result}
 use Rattle.theory.proofs.Sets.{and-l}
 use Rattle.ops.specs.Ops.{tcg}
 use Rattle.block.specs.Records.{recordsOf, declarations, opsFrom, widthOf, classesOf, globalCount}
 use Rattle.block.specs.Scan.{Approved, Scanned, rejected, approved}
 use Rattle.block.proofs.Scanned.{refuse-by}
-use Rattle.runs.specs.Runs.{globalsFit, fits, valuesFrom, ranAs, answerOf, ranOf, runOps, runRefused, runChecked, runOf}
+use Rattle.runs.specs.Runs.{globalsFit, fits, valuesFrom, ranAs, answerOf, ranOf, opsRun, runOps, runRefused, runChecked, runOf}
 use Rattle.runs.specs.Evaluates.{envOf}
 use Rattle.runs.specs.Steps.{stateOf, Ready, Executed, lentOk}
 use Rattle.runs.specs.declared.Ending.{Ending}
@@ -26,12 +26,12 @@ pub ops-ran : {b values memory values′ memory′ : List ℕ} {ending : Ending}
 unfolding runOps
 ops-ran {b} {values} {memory} {values′} {memory′} {ending} globals globals′ e x g =
     let os = opsFrom (recordsOf b) in
-    let r : Result tcg = runs tcg os (stateOf values memory) in
+    let r : Result tcg = opsRun os (stateOf values memory) in
     let a : ending ≡ answerOf (r .end) (length os - length (r .left)) (r .count) = x .answers in
     let c : globals′ ≡ valuesFrom (r .state .env) 0 (length globals) = g ∙ ap (λ (s : St tcg). valuesFrom (s .env) 0 (length globals)) (x .state-is) in
     let m : memory′ ≡ r .state .mem = ap (λ (s : St tcg). s .mem) (x .state-is) in
     (λ i. ranAs (a i) (c i) (m i))
-    ∙ ap (λ (f : ℕ → ℕ). ranOf (length os) (length globals) (runs tcg os (record { env = f; mem = memory }))) e
+    ∙ ap (λ (f : ℕ → ℕ). ranOf (length os) (length globals) (opsRun os (record { env = f; mem = memory }))) e
 
 -- the globals are some of the variables
 global-few : (cs : List ℕ) → globalCount cs ≤ length cs

@@ -7,13 +7,13 @@ use Prim.Native.Nat.{ℕ, zero, suc, _+_, _-_, _*_, _%_, _≤_, _<_}
 use native.Mathlib.Omega.{arith}
 use lib.Dec.{eqb}
 use lib.ListN.{length, getD, drop, drop-of-length-le, length-drop}
-use lib.Seq.{drop-cons, drop-drop}
+use lib.Seq.{drop-cons}
 use borrow.Author.Tests.{eq-eqb}
 use native.Mathlib.Nat.{zero-add, sub-zero, add-zero, mod-eq-of-lt}
 use native.Mathlib.Numerals.{add-one}
 use Rattle.theory.specs.Checker.{checks}
 use Rattle.theory.specs.Machine.{View, fell, Effect, falls}
-use Rattle.theory.specs.Machine.{jumps, stops, effect, St, Result, cost, seek, moved, counted, after, run, runs}
+use Rattle.theory.specs.Machine.{jumps, stops, effect, St, Result, cost, seek, moved, counted, after, run}
 use Rattle.theory.specs.Sets.{empty}
 use Rattle.theory.proofs.Simulation.{isJump, Says, says}
 use Rattle.ops.specs.Kinds.{bodyLength}
@@ -24,7 +24,7 @@ use Rattle.block.specs.Scan.{recordAt, Stands, placesFrom, recordsAt}
 use Rattle.block.proofs.Parts.{parts}
 use Rattle.block.proofs.Places.{Standing, standing, spanOf, records-from, places-at}
 use Rattle.block.proofs.Steps.{record-length}
-use Rattle.runs.specs.Runs.{answerOf}
+use Rattle.runs.specs.Runs.{answerOf, opsRun}
 use Rattle.runs.specs.Steps.{stateOf, endOf, effectOf, afterState, Performs, Ready, Executed}
 use Rattle.runs.proofs.Landing.{Lands, jump-lands}
 use Rattle.block.proofs.Checker.{checker, declaredIn, few-ops}
@@ -85,7 +85,7 @@ pub record Running (b values₀ memory₀ values memory : List ℕ) (op place co
   pub early : count ≤ op
   pub within : op ≤ length (opsOf b)
   pub here : recordsAt b place ≡ drop op (opsOf b)
-  pub goes-on : runs tcg (opsOf b) (stateOf values₀ memory₀) ≡ sooner count (run tcg (seek tcg) fuel (drop op (opsOf b)) (stateOf values memory))
+  pub goes-on : opsRun (opsOf b) (stateOf values₀ memory₀) ≡ sooner count (run tcg (opsOf b) fuel (drop op (opsOf b)) (stateOf values memory))
 
 pub running-start : {b places labels : List ℕ} {start ops : ℕ} → Ready b places labels start ops → (values memory : List ℕ) → Running b values memory values memory 0 start 0
 running-start {b} r values memory =
@@ -95,7 +95,7 @@ running-start {b} r values memory =
       early = omega arith;
       within = omega arith;
       here = r .approved .ops-are;
-      goes-on = nothing-sooner (runs tcg (opsOf b) (stateOf values memory));
+      goes-on = nothing-sooner (opsRun (opsOf b) (stateOf values memory));
     }
   where
     nothing-sooner : (q : Result tcg) → q ≡ sooner 0 q
@@ -112,8 +112,8 @@ fell-past {b} {values₀} {memory₀} {values} {memory} {op} {place} {count} {op
     go : (f : ℕ) → u .fuel ≡ f → Executed b values₀ memory₀ values memory (NoResult ops count)
     go zero q = absurd (omega (arith, u .fuel-is, u .early, u .within))
     go (suc n) q =
-        let t : runs tcg (opsOf b) (stateOf values₀ memory₀) ≡ record { end = fell; state = stateOf values memory; count = count + 0; left = [] } =
-        u .goes-on ∙ ap₂ (λ (f : ℕ) (l : List (List ℕ)). sooner count (run tcg (seek tcg) f l (stateOf values memory))) q none-left in
+        let t : opsRun (opsOf b) (stateOf values₀ memory₀) ≡ record { end = fell; state = stateOf values memory; count = count + 0; left = [] } =
+        u .goes-on ∙ ap₂ (λ (f : ℕ) (l : List (List ℕ)). sooner count (run tcg (opsOf b) f l (stateOf values memory))) q none-left in
         record {
           answers = ap₂ NoResult (e ∙ sym (sub-zero (length (opsOf b)))) (sym (add-zero count)) ∙ sym (ap (λ (x : Result tcg). answerOf (x .end) (length (opsOf b) - length (x .left)) (x .count)) t);
           state-is = sym (ap (λ (x : Result tcg). x .state) t);
@@ -146,13 +146,13 @@ module _ {b values₀ memory₀ values memory : List ℕ} {op place count : ℕ}
     more = omega (arith, u .fuel-is, u .early)
 
     -- the run as one step and what follows it
-    turned : runs tcg (opsOf b) (stateOf values₀ memory₀)
-        ≡ sooner count (after tcg (run tcg (seek tcg) (u .fuel - 1)) (drop op (opsOf b)) (stateOf values memory) (moved tcg (seek tcg) onward (stateOf values memory) (effectOf o (stateOf values′ memory′))))
+    turned : opsRun (opsOf b) (stateOf values₀ memory₀)
+        ≡ sooner count (after tcg (run tcg (opsOf b) (u .fuel - 1)) (drop op (opsOf b)) (stateOf values memory) (moved tcg (opsOf b) onward (stateOf values memory) (effectOf o (stateOf values′ memory′))))
     turned =
-        u .goes-on ∙ ap (λ (f : ℕ). sooner count (run tcg (seek tcg) f (drop op (opsOf b)) (stateOf values memory))) more
-        ∙ ap (λ (l : List (List ℕ)). sooner count (run tcg (seek tcg) (suc (u .fuel - 1)) l (stateOf values memory))) first
-        ∙ ap (λ (x : Effect ℕ (List ℕ) ℕ Fault). sooner count (after tcg (run tcg (seek tcg) (u .fuel - 1)) (getD (opsOf b) op [] ∷ onward) (stateOf values memory) (moved tcg (seek tcg) onward (stateOf values memory) x))) told
-        ∙ ap (λ (l : List (List ℕ)). sooner count (after tcg (run tcg (seek tcg) (u .fuel - 1)) l (stateOf values memory) (moved tcg (seek tcg) onward (stateOf values memory) (effectOf o (stateOf values′ memory′))))) (sym first)
+        u .goes-on ∙ ap (λ (f : ℕ). sooner count (run tcg (opsOf b) f (drop op (opsOf b)) (stateOf values memory))) more
+        ∙ ap (λ (l : List (List ℕ)). sooner count (run tcg (opsOf b) (suc (u .fuel - 1)) l (stateOf values memory))) first
+        ∙ ap (λ (x : Effect ℕ (List ℕ) ℕ Fault). sooner count (after tcg (run tcg (opsOf b) (u .fuel - 1)) (getD (opsOf b) op [] ∷ onward) (stateOf values memory) (moved tcg (opsOf b) onward (stateOf values memory) x))) told
+        ∙ ap (λ (l : List (List ℕ)). sooner count (after tcg (run tcg (opsOf b) (u .fuel - 1)) l (stateOf values memory) (moved tcg (opsOf b) onward (stateOf values memory) (effectOf o (stateOf values′ memory′))))) (sym first)
 
     counts : (q : Result tcg) → sooner count (counted tcg q) ≡ sooner (count + 1) q
     counts q = let e : count + suc (q .count) ≡ count + 1 + q .count = omega arith in ap (λ (n : ℕ). record { end = q .end; state = q .state; count = n; left = q .left }) e
@@ -161,8 +161,8 @@ module _ {b values₀ memory₀ values memory : List ℕ} {op place count : ℕ}
     pub run-stops : {e : Stop} → o ≡ Stops e → {ending : Ending} → ending ≡ answerOf (endOf e) op (count + cost (endOf e)) → Executed b values₀ memory₀ values′ memory′ ending
     run-stops {e} k a =
         let q : effectOf o (stateOf values′ memory′) ≡ stops (endOf e) = ap (λ (x : Outcome). effectOf x (stateOf values′ memory′)) k in
-        let t : runs tcg (opsOf b) (stateOf values₀ memory₀) ≡ record { end = endOf e; state = stateOf values memory; count = count + cost (endOf e); left = drop op (opsOf b) } =
-        turned ∙ ap (λ (x : Effect ℕ (List ℕ) ℕ Fault). sooner count (after tcg (run tcg (seek tcg) (u .fuel - 1)) (drop op (opsOf b)) (stateOf values memory) (moved tcg (seek tcg) onward (stateOf values memory) x))) q in
+        let t : opsRun (opsOf b) (stateOf values₀ memory₀) ≡ record { end = endOf e; state = stateOf values memory; count = count + cost (endOf e); left = drop op (opsOf b) } =
+        turned ∙ ap (λ (x : Effect ℕ (List ℕ) ℕ Fault). sooner count (after tcg (run tcg (opsOf b) (u .fuel - 1)) (drop op (opsOf b)) (stateOf values memory) (moved tcg (opsOf b) onward (stateOf values memory) x))) q in
         let n : op ≡ length (opsOf b) - length (drop op (opsOf b)) = omega (arith, length-drop op (opsOf b)) in
         record {
           answers = a ∙ ap (λ (i : ℕ). answerOf (endOf e) i (count + cost (endOf e))) n ∙ sym (ap (λ (x : Result tcg). answerOf (x .end) (length (opsOf b) - length (x .left)) (x .count)) t);
@@ -181,8 +181,8 @@ module _ {b values₀ memory₀ values memory : List ℕ} {op place count : ℕ}
           within = omega arith;
           here = ap (recordsAt b) next-place ∙ stood .others ∙ ap (λ (i : ℕ). drop i (opsOf b)) (sym (add-one op));
           goes-on =
-              turned p ∙ counts p (run tcg (seek tcg) (u .fuel - 1) onward (stateOf values′ memory′))
-              ∙ ap (λ (i : ℕ). sooner (count + 1) (run tcg (seek tcg) (u .fuel - 1) (drop i (opsOf b)) (stateOf values′ memory′))) (sym (add-one op));
+              turned p ∙ counts p (run tcg (opsOf b) (u .fuel - 1) onward (stateOf values′ memory′))
+              ∙ ap (λ (i : ℕ). sooner (count + 1) (run tcg (opsOf b) (u .fuel - 1) (drop i (opsOf b)) (stateOf values′ memory′))) (sym (add-one op));
         }
       where
         next-place : place + (1 + n) ≡ place + suc (bodyLength (getD b place 0))
@@ -190,42 +190,27 @@ module _ {b values₀ memory₀ values memory : List ℕ} {op place count : ℕ}
 
     -- a jump
     module _ {places labels : List ℕ} {start ops : ℕ} (r : Ready b places labels start ops) {l : ℕ} (p : Performs (viewOf (recordAt b place)) values memory values′ memory′ (JumpsTo l)) where
-      pub landing : Lands (drop (suc op) (opsOf b)) l (getD labels l 0) (suc op)
+      pub landing : Lands (opsOf b) l (getD labels l 0) op
       landing =
-          subst (λ (x : List ℕ). Lands (drop (suc op) (opsOf b)) l (getD x l 0) (suc op)) (sym (r .approved .labels-are))
-          (jump-lands (declaredIn seenFirst (declarations (recordsOf b))) (opsOf b) op l (getD (opsOf b) op []) onward (checked r) no-labels first
+          subst (λ (x : List ℕ). Lands (opsOf b) l (getD x l 0) op) (sym (r .approved .labels-are))
+          (jump-lands (declaredIn seenFirst (declarations (recordsOf b))) (opsOf b) op l (checked r) no-labels h
           (effect-jumps (viewOf (getD (opsOf b) op [])) (stateOf values memory) l (told p)))
         where
           no-labels : (declaredIn seenFirst (declarations (recordsOf b))) .labels ≡ empty
           no-labels = refl
-
-      -- its label has a number, of an op further on
-      pub has-number : 1 ≤ getD labels l 0
-      has-number = omega (arith, landing .numbered-so)
-
-      pub lands-on : op < getD labels l 0 - 1
-      lands-on = omega (arith, landing .numbered-so)
-
-      pub lands-inside : getD labels l 0 - 1 < length (opsOf b)
-      lands-inside = omega (arith, landing .numbered-so, landing .inside, length-drop (suc op) (opsOf b))
 
       pub run-jumps : Running b values₀ memory₀ values′ memory′ (getD labels l 0 - 1) (getD places (getD labels l 0 - 1) 0) (count + 1)
       run-jumps =
           record {
             fuel = u .fuel - 1;
             fuel-is = omega (arith, u .fuel-is, u .early);
-            early = omega (arith, u .early, lands-on);
-            within = omega (arith, lands-inside);
-            here = place-of r (getD labels l 0 - 1) lands-inside;
+            early = omega (arith, u .early, landing .further);
+            within = omega (arith, landing .inside);
+            here = place-of r (getD labels l 0 - 1) (landing .inside);
             goes-on =
-                turned p ∙ counts p (run tcg (seek tcg) (u .fuel - 1) (seek tcg l onward) (stateOf values memory))
-                ∙ ap₂ (λ (q : List (List ℕ)) (s : St tcg). sooner (count + 1) (run tcg (seek tcg) (u .fuel - 1) q s)) target (sym (changed p));
+                turned p ∙ counts p (run tcg (opsOf b) (u .fuel - 1) (seek tcg l (opsOf b)) (stateOf values memory))
+                ∙ ap₂ (λ (q : List (List ℕ)) (s : St tcg). sooner (count + 1) (run tcg (opsOf b) (u .fuel - 1) q s)) (landing .here) (sym (changed p));
           }
-        where
-          target : seek tcg l onward ≡ drop (getD labels l 0 - 1) (opsOf b)
-          target =
-              let e : suc op + landing .on ≡ getD labels l 0 - 1 = omega (arith, landing .numbered-so) in
-              landing .here ∙ drop-drop (landing .on) (suc op) (opsOf b) ∙ ap (λ (i : ℕ). drop i (opsOf b)) e
 
 -- the same, as the loop finds it
 pub ends-past : {b values₀ memory₀ values memory places labels : List ℕ} {op place count start ops : ℕ} → Ready b places labels start ops
@@ -272,16 +257,16 @@ module _ {b values₀ memory₀ values memory places labels : List ℕ} {op plac
       number = em ∙ ap (λ (x : ℕ). getD labels x 0) ei
 
       pub number-now : 1 ≤ m
-      number-now = omega (arith, number, has-number (t .running) due (t .ready) (so e))
+      number-now = omega (arith, number, (landing (t .running) due (t .ready) (so e)) .has-number)
 
       pub target-now : m - 1 < 256
-      target-now = omega (arith, number, lands-inside (t .running) due (t .ready) (so e), few (t .ready))
+      target-now = omega (arith, number, (landing (t .running) due (t .ready) (so e)) .inside, few (t .ready))
 
       pub jumps-on : {op′ q place′ : ℕ} → q ≡ getD places (m - 1) 0 → op′ ≡ m - 1 → place′ ≡ q → (op < op′) × Running b values₀ memory₀ values′ memory′ op′ place′ (count + 1)
       jumps-on {op′} {q} {place′} eq eo ep =
           let n : op′ ≡ getD labels l 0 - 1 = eo ∙ ap (λ (x : ℕ). x - 1) number in
           let w : place′ ≡ getD places (getD labels l 0 - 1) 0 = ep ∙ eq ∙ ap (λ (x : ℕ). getD places (x - 1) 0) number in
-          (omega (arith, n, lands-on (t .running) due (t .ready) (so e)), subst₂ (λ (x y : ℕ). Running b values₀ memory₀ values′ memory′ x y (count + 1)) (sym n) (sym w) (run-jumps (t .running) due (t .ready) (so e)))
+          (omega (arith, n, (landing (t .running) due (t .ready) (so e)) .further), subst₂ (λ (x y : ℕ). Running b values₀ memory₀ values′ memory′ x y (count + 1)) (sym n) (sym w) (run-jumps (t .running) due (t .ready) (so e)))
 
 -- the answer of the op that ends the run
 pub ended-so : (op count : ℕ) {s t : Stop} → s ≡ t → answerOf (endOf t) op (count + cost (endOf t)) ≡ answerOf (endOf s) op (count + cost (endOf s))

@@ -60,8 +60,12 @@ ranOf ops globals r =
       memory = r .state .mem;
     }
 
+-- a run of a block's ops, of at most one step more than there are ops: "Jumps go forward only", so no run is out of steps (proofs/Ends)
+abbrev pub opsRun : List (List ℕ) → St tcg → Result tcg
+opsRun ops s = runs tcg (suc (length ops)) ops s
+
 unfoldable pub runOps : List (List ℕ) → List ℕ → List ℕ → Ran
-runOps ops globals memory = ranOf (length ops) (length globals) (runs tcg ops (entry globals memory))
+runOps ops globals memory = ranOf (length ops) (length globals) (opsRun ops (entry globals memory))
 
 -- "A refusal changes no lent buffer and carries only its number and place."
 abbrev pub runRefused : ℕ → ℕ → List ℕ → List ℕ → Ran

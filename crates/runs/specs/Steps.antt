@@ -6,7 +6,7 @@ use mathlib.Core.List.{List, [], _∷_, map}
 use Prim.Native.Nat.{ℕ, _+_, _-_}
 use lib.Dec.{eqb, leb}
 use lib.ListN.{length, take}
-use Rattle.theory.specs.Machine.{View, calc, access, End, exit, fault, unstated, Effect, falls, jumps, stops, effect, St, runs}
+use Rattle.theory.specs.Machine.{View, calc, access, End, exit, fault, unstated, Effect, falls, jumps, stops, effect, St}
 use Rattle.word.specs.Condition.{condW}
 use Rattle.memory.specs.Access.{loadAt, storeAt}
 use Rattle.memory.specs.Answer.{accessWidth}
@@ -16,7 +16,7 @@ use Rattle.ops.specs.Ops.{branch, atWidths, Fault, faultOf, afterLoad, afterSto
 use Rattle.block.specs.Records.{recordsOf, opsFrom, widthOf}
 use Rattle.block.specs.Scan.{Approved}
 use Rattle.runs.specs.Evaluates.{envOf}
-use Rattle.runs.specs.Runs.{globalsFit, answerOf}
+use Rattle.runs.specs.Runs.{globalsFit, answerOf, opsRun}
 use Rattle.runs.specs.declared.Ending.{Ending}
 use Rattle.runs.specs.declared.Outcome.{Outcome}
 use Rattle.runs.specs.declared.Outcome.the-variants.{Falls, JumpsTo, Stops}
@@ -67,9 +67,9 @@ pub record Ready (block places labels : List ℕ) (start ops : ℕ) : Type 0 whe
 pub record Executed (block values memory values′ memory′ : List ℕ) (ending : Ending) : Type 0 where
   pub answers :
       let ops = opsFrom (recordsOf block) in
-      let r = runs tcg ops (stateOf values memory) in
+      let r = opsRun ops (stateOf values memory) in
       ending ≡ answerOf (r .end) (length ops - length (r .left)) (r .count)
-  pub state-is : stateOf values′ memory′ ≡ (runs tcg (opsFrom (recordsOf block)) (stateOf values memory)) .state
+  pub state-is : stateOf values′ memory′ ≡ (opsRun (opsFrom (recordsOf block)) (stateOf values memory)) .state
 
 -- rule 11, where n variables have these types and so many of them are globals
 abbrev pub lentOk : List ℕ → ℕ → ℕ → List ℕ → List ℕ → Bool

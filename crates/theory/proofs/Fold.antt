@@ -10,10 +10,10 @@ use Rattle.theory.specs.Fold.{Known, nothing, Rewrite, put, omit, cut, M
 use Rattle.theory.specs.Fold.{ruleAt, fold}
 use Rattle.theory.specs.Machine.{Touch, faults, gives, always, when, Way, to, out, View, calc, access, label, flow, Lang}
 use Rattle.theory.specs.Machine.{unstated, State, Effect, falls, jumps, stops, headOr, tailOf, upd, reads, writes, anyLabel}
-use Rattle.theory.specs.Machine.{isLabel, afterCalc, afterAccess, sent, effect, St, Prog, Effects, All, seek, Dest, moved, run}
+use Rattle.theory.specs.Machine.{isLabel, afterCalc, afterAccess, sent, effect, St, Prog, Effects, All, seek, moved, runs}
 use Rattle.theory.proofs.Sets.{tell}
 use Rattle.theory.proofs.Simulation.{definite, Follows, drops, moves, ends, open-end, Matches, simulates}
-use Rattle.theory.proofs.Views.{no-some, label-is, label-any, any-none}
+use Rattle.theory.proofs.Views.{label-closes, no-some, label-any, any-none}
 
 module _ {Val : Type 0} where
   -- what is known is so
@@ -80,7 +80,7 @@ module _ {Val : Type 0} (z : Val) where
 
 -- at a label nothing is known
 pub any-learned : {Val Mem Out Flt : Type 0} (k : Known Val) (w : View Val Mem Out Flt) → anyLabel w ≡ true → learned k w ≡ nothing
-any-learned k w e = let p = label-is w e in rw (p .1)
+any-learned k w e = rw (label-closes w e)
 
 pub seek-all : (L : Lang) (P : L .Op → Type 0) (k : ℕ) (r : Prog L) → All P r → All P (seek L k r)
 seek-all L P k [] h = h
@@ -143,20 +143,12 @@ module _ (L : Lang) (rule : Rule L) (Ok : L .Op → Type 0) (Fit : (ℕ → L .V
     pub fit : Fit (s .env)
     pub same : s′ ≡ s
 
-  -- where a jump goes, fold starts anew
-  pub record Anew (d d′ : Dest L) : Type 0 where
-    pub dest-fold : (k : ℕ) (r : Prog L) (m : Mode (L .Val)) → d′ k (fold L rule r m) ≡ fold L rule (d k r) (on nothing)
-    pub dest-oks : (k : ℕ) (r : Prog L) → All Ok r → All Ok (d k r)
+  module _ (b : Prog L) (all : All Ok b) where
+    abbrev made : Prog L
+    made = fold L rule b (on nothing)
 
-  pub forward-anew : Anew (seek L) (seek L)
-  forward-anew = record { dest-fold = seek-fold; dest-oks = seek-all L Ok }
-
-  pub anywhere-anew : (b : Prog L) → All Ok b → Anew (λ k r. seek L k b) (λ k r. seek L k (fold L rule b (on nothing)))
-  anywhere-anew b h = record { dest-fold = λ k r m. seek-fold k b (on nothing); dest-oks = λ k r _. seek-all L Ok k b h }
-
-  module _ (d d′ : Dest L) (at : Anew d d′) where
     at-fold : (r : Prog L) (s : St L) (k : Known (L .Val)) → Right k (s .env) → All Ok r → Fit (s .env)
-        → Follows L d d′ Folded (λ a b. b ≡ a) r s (fold L rule r (on k)) s
+        → Follows L b made Folded (λ x y. y ≡ x) r s (fold L rule r (on k)) s
     at-fold [] s k h c f = ends refl refl refl
     at-fold (o ∷ r) s k h c f = go (ruleAt L rule k o) refl
       where
@@ -164,43 +156,42 @@ module _ (L : Lang) (rule : Rule L) (Ok : L .Op → Type 0) (Fit : (ℕ → L .V
         z = L .zeroV
 
         puts : (o′ : L .Op) → (effect z (L .view o) s ≡ stops unstated) ⊎ (effect z (L .view o′) s ≡ effect z (L .view o) s)
-            → Follows L d d′ Folded (λ a b. b ≡ a) (o ∷ r) s (o′ ∷ fold L rule r (on (learned k (L .view o′)))) s
-        puts o′ (inl e) = open-end (ap (moved L d r s) e)
+            → Follows L b made Folded (λ x y. y ≡ x) (o ∷ r) s (o′ ∷ fold L rule r (on (learned k (L .view o′)))) s
+        puts o′ (inl e) = open-end (ap (moved L b r s) e)
         puts o′ (inr e) = by (effect z (L .view o′) s) refl (right-learned z (L .view o′) k s h) (rw e (good .fits o s (c .0) f))
           where
             by : (x : Effects L) → effect z (L .view o′) s ≡ x → Leaves z (λ t. Right (learned k (L .view o′)) (t .env)) x → Leaves z (λ t. Fit (t .env)) x
-                → Follows L d d′ Folded (λ a b. b ≡ a) (o ∷ r) s (o′ ∷ fold L rule r (on (learned k (L .view o′)))) s
+                → Follows L b made Folded (λ x y. y ≡ x) (o ∷ r) s (o′ ∷ fold L rule r (on (learned k (L .view o′)))) s
             by (falls t) q l g =
-                moves (ap (moved L d r s) (sym e ∙ q)) (ap (moved L d′ (fold L rule r (on (learned k (L .view o′)))) s) q)
+                moves (ap (moved L b r s) (sym e ∙ q)) (ap (moved L made (fold L rule r (on (learned k (L .view o′)))) s) q)
                 (record { k = learned k (L .view o′); prog = refl; right = l; oks = c .1; fit = g; same = refl })
             by (jumps j) q l g =
-                moves (ap (moved L d r s) (sym e ∙ q)) (ap (moved L d′ (fold L rule r (on (learned k (L .view o′)))) s) q)
-                (record { k = nothing; prog = at .dest-fold j r (on (learned k (L .view o′))); right = right-nothing z (s .env); oks = at .dest-oks j r (c .1); fit = f; same = refl })
-            by (stops x) q l g = ends (ap (moved L d r s) (sym e ∙ q)) (ap (moved L d′ (fold L rule r (on (learned k (L .view o′)))) s) q) refl
+                moves (ap (moved L b r s) (sym e ∙ q)) (ap (moved L made (fold L rule r (on (learned k (L .view o′)))) s) q)
+                (record { k = nothing; prog = seek-fold j b (on nothing); right = right-nothing z (s .env); oks = seek-all L Ok j b all; fit = f; same = refl })
+            by (stops x) q l g = ends (ap (moved L b r s) (sym e ∙ q)) (ap (moved L made (fold L rule r (on (learned k (L .view o′)))) s) q) refl
 
         omits : (effect z (L .view o) s ≡ stops unstated) ⊎ (effect z (L .view o) s ≡ falls s)
-            → Follows L d d′ Folded (λ a b. b ≡ a) (o ∷ r) s (fold L rule r (on k)) s
-        omits (inl e) = open-end (ap (moved L d r s) e)
-        omits (inr e) = drops (ap (moved L d r s) e) (record { k = k; prog = refl; right = h; oks = c .1; fit = f; same = refl })
+            → Follows L b made Folded (λ x y. y ≡ x) (o ∷ r) s (fold L rule r (on k)) s
+        omits (inl e) = open-end (ap (moved L b r s) e)
+        omits (inr e) = drops (ap (moved L b r s) e) (record { k = k; prog = refl; right = h; oks = c .1; fit = f; same = refl })
 
         cuts : (o′ : L .Op) → (j : ℕ) × (effect z (L .view o) s ≡ jumps j) × (effect z (L .view o′) s ≡ jumps j)
-            → Follows L d d′ Folded (λ a b. b ≡ a) (o ∷ r) s (o′ ∷ fold L rule r off) s
+            → Follows L b made Folded (λ x y. y ≡ x) (o ∷ r) s (o′ ∷ fold L rule r off) s
         cuts o′ p =
-            moves (ap (moved L d r s) (p .1)) (ap (moved L d′ (fold L rule r off) s) (p .2))
-            (record { k = nothing; prog = at .dest-fold (p .0) r off; right = right-nothing z (s .env); oks = at .dest-oks (p .0) r (c .1); fit = f; same = refl })
+            moves (ap (moved L b r s) (p .1)) (ap (moved L made (fold L rule r off) s) (p .2))
+            (record { k = nothing; prog = seek-fold (p .0) b (on nothing); right = right-nothing z (s .env); oks = seek-all L Ok (p .0) b all; fit = f; same = refl })
 
-        go : (x : Rewrite (L .Op)) → ruleAt L rule k o ≡ x → Follows L d d′ Folded (λ a b. b ≡ a) (o ∷ r) s (emit L rule k (fold L rule r) x) s
+        go : (x : Rewrite (L .Op)) → ruleAt L rule k o ≡ x → Follows L b made Folded (λ x y. y ≡ x) (o ∷ r) s (emit L rule k (fold L rule r) x) s
         go (put o′) q = puts o′ (good .put-right k o o′ s q h (c .0) f)
         go omit q = omits (good .omit-right k o s q h (c .0) f)
         go (cut o′) q = cuts o′ (good .cut-right k o o′ s q h (c .0) f)
 
-    folded-follows : (r : Prog L) (s : St L) (r′ : Prog L) (s′ : St L) → Folded r s r′ s′ → Follows L d d′ Folded (λ a b. b ≡ a) r s r′ s′
+    folded-follows : (r : Prog L) (s : St L) (r′ : Prog L) (s′ : St L) → Folded r s r′ s′ → Follows L b made Folded (λ x y. y ≡ x) r s r′ s′
     folded-follows r s r′ s′ x = rw (x .prog, x .same) (at-fold r s (x .k) (x .right) (x .oks) (x .fit))
 
     -- what fold makes ends as the block did, in the same state and in no more ops
-    pub fold-right : (n : ℕ) (r : Prog L) (s : St L) → All Ok r → Fit (s .env) → definite ((run L d n r s) .end) ≡ true
-        → Matches L (λ a b. b ≡ a) (run L d n r s) (run L d′ n (fold L rule r (on nothing)) s)
-    fold-right n r s c g f =
-        simulates L d d′ Folded (λ a b. b ≡ a) folded-follows n r s (fold L rule r (on nothing)) s
-        (record { k = nothing; prog = refl; right = right-nothing (L .zeroV) (s .env); oks = c; fit = g; same = refl })
+    pub fold-right : (n : ℕ) (s : St L) → Fit (s .env) → definite ((runs L n b s) .end) ≡ true → Matches L (λ x y. y ≡ x) (runs L n b s) (runs L n made s)
+    fold-right n s g f =
+        simulates L b made Folded (λ x y. y ≡ x) folded-follows n b s made s
+        (record { k = nothing; prog = refl; right = right-nothing (L .zeroV) (s .env); oks = all; fit = g; same = refl })
         f

@@ -4,11 +4,11 @@ use mathlib.Core.Bool.{Bool, true, false, cond, _||_}
 use mathlib.Core.List.{[], _∷_}
 use mathlib.Core.Logic.{_⊎_, inl, inr}
 use Prim.Native.Nat.{ℕ}
-use Rattle.theory.specs.Machine.{Lang, outputs, pure, closes, isLabel, St, Prog, Viewed, seek, Dest, run}
-use Rattle.theory.specs.Prune.{dead, pruneBy, live, prune}
+use Rattle.theory.specs.Machine.{Lang, outputs, pure, closes, isLabel, St, Prog, Viewed, seek, runs}
+use Rattle.theory.specs.Prune.{dead, live, prune}
 use Rattle.theory.specs.Scope.{mayRead, wrote, scoped}
 use Rattle.theory.specs.Sets.{Vars, empty, has, noneIn}
-use Rattle.theory.proofs.PruneBy.{Agree, seek-prune, Keeps, asks, Covers, prune-by-right}
+use Rattle.theory.proofs.PruneBy.{Agree, Keeps, asks, Covers, prune-by-right}
 use Rattle.theory.proofs.Sets.{or-l, and-l, and-r, tell, dead-out, or-mid, or-no}
 use Rattle.theory.proofs.Simulation.{definite, Matches}
 use Rattle.theory.proofs.Views.{pure-open, label-is, label-any, need-mono, inputs-need, passes, need-scoped}
@@ -49,7 +49,7 @@ module _ (L : Lang) (glob kept : Vars) (wide : (v : ℕ) → glob v ≡ true →
           need-scoped glob kept wide w (cond (closes w) kept l) u (λ k. kept) v (and-l (mayRead kept u w) (scoped L kept (wrote u w) r) c) (past (closes w) refl ih) (λ k q. q)
           (rw d at h)
 
-  seek-scoped : (k : ℕ) (r : Prog L) (u : Vars) → scoped L kept u r ≡ true → scoped L kept empty (seek L k r) ≡ true
+  pub seek-scoped : (k : ℕ) (r : Prog L) (u : Vars) → scoped L kept u r ≡ true → scoped L kept empty (seek L k r) ≡ true
   seek-scoped k [] u h = refl
   seek-scoped k (o ∷ r) u h = go (tell (isLabel k (L .view o))) (seek-scoped k r (wrote u (L .view o)) q)
     where
@@ -61,23 +61,6 @@ module _ (L : Lang) (glob kept : Vars) (wide : (v : ℕ) → glob v ≡ true →
       go (inl e) ih = let p = label-is (L .view o) (label-any k (L .view o) e) in rw (e, p .1) (rw (p .1) at q)
       go (inr e) ih = rw e ih
 
-  -- what is live where a jump goes outlives the basic block
-  seek-live : (k : ℕ) (r : Prog L) (u : Vars) (v : ℕ) → scoped L kept u r ≡ true → live L glob kept (seek L k r) v ≡ true → kept v ≡ true
-  seek-live k r u v c h = or-no (kept v) (live-scoped (seek L k r) empty v (seek-scoped k r u c) h)
-
-  -- where jumps go, in the block and in what a prune keeps of it
-  pub record Lands (note : Prog L → Vars) (d d′ : Dest L) : Type 0 where
-    pub dest-prune : (k : ℕ) (r : Prog L) → d′ k (pruneBy L note r) ≡ pruneBy L note (d k r)
-    pub dest-scoped : (k : ℕ) (r : Prog L) (u : Vars) → scoped L kept u r ≡ true → scoped L kept empty (d k r) ≡ true
-
-  -- jumps forward
-  pub forward : (note : Prog L → Vars) → Lands note (seek L) (seek L)
-  forward note = record { dest-prune = seek-prune L note; dest-scoped = seek-scoped }
-
-  -- jumps in the whole block, forward or backward
-  pub anywhere : (note : Prog L → Vars) (b : Prog L) → scoped L kept empty b ≡ true → Lands note (λ k r. seek L k b) (λ k r. seek L k (pruneBy L note b))
-  anywhere note b c = record { dest-prune = λ k r. seek-prune L note k b; dest-scoped = λ k r u h. seek-scoped k b empty c }
-
   -- the rests of a block that keeps the rule of temporaries
   abbrev pub In : Prog L → Type 0
   In r = (u : Vars) × (scoped L kept u r ≡ true)
@@ -85,8 +68,8 @@ module _ (L : Lang) (glob kept : Vars) (wide : (v : ℕ) → glob v ≡ true →
   pub inside : (o : L .Op) (r : Prog L) (p : In (o ∷ r)) → scoped L kept (wrote (p .0) (L .view o)) r ≡ true
   inside o r p = and-r (mayRead kept (p .0) (L .view o)) (scoped L kept (wrote (p .0) (L .view o)) r) (p .1)
 
-  module _ (d d′ : Dest L) (at : Lands (live L glob kept) d d′) where
-    base-holds : (o : L .Op) (r : Prog L) → In (o ∷ r) → (v : ℕ) → asks L glob (live L glob kept) d o r v ≡ true → live L glob kept (o ∷ r) v ≡ true
+  module _ (b : Prog L) (c : scoped L kept empty b ≡ true) where
+    base-holds : (o : L .Op) (r : Prog L) → In (o ∷ r) → (v : ℕ) → asks L glob (live L glob kept) b o r v ≡ true → live L glob kept (o ∷ r) v ≡ true
     base-holds o r p v h = go (tell (dead w l))
       where
         w : Viewed L
@@ -103,21 +86,19 @@ module _ (L : Lang) (glob kept : Vars) (wide : (v : ℕ) → glob v ≡ true →
         go (inl x) = rw x (rw x at h)
         go (inr x) =
             rw x
-            (need-mono glob w l (cond (closes w) kept l) (λ k. live L glob kept (d k r)) (λ k. kept) v (past (closes w) refl)
-            (λ k q. or-no (kept v) (live-scoped (d k r) empty v (at .dest-scoped k r (wrote (p .0) w) (inside o r p)) q))
+            (need-mono glob w l (cond (closes w) kept l) (λ k. live L glob kept (seek L k b)) (λ k. kept) v (past (closes w) refl)
+            (λ k q. or-no (kept v) (live-scoped (seek L k b) empty v (seek-scoped k b empty c) q))
             (rw x at h))
 
-    pub base-covers : Covers L glob (live L glob kept) In d d′
+    pub base-covers : Covers L glob (live L glob kept) b In
     base-covers =
         record {
           stop = λ v q. q;
           holds = base-holds;
           rest = λ o r p. (wrote (p .0) (L .view o), inside o r p);
-          dest = λ o r k p. (empty, at .dest-scoped k r (wrote (p .0) (L .view o)) (inside o r p));
-          dest-prune = at .dest-prune;
+          dest = λ k. (empty, seek-scoped k b empty c);
         }
 
     -- what prune keeps ends as the block did, with the same globals and memory, in no more ops
-    pub prune-right : (n : ℕ) (r : Prog L) (s : St L) → scoped L kept empty r ≡ true → definite ((run L d n r s) .end) ≡ true
-        → Matches L (Agree (L .zeroV) glob) (run L d n r s) (run L d′ n (prune L glob kept r) s)
-    prune-right n r s c x = prune-by-right L glob (live L glob kept) In d d′ base-covers n r s (empty, c) x
+    pub prune-right : (n : ℕ) (s : St L) → definite ((runs L n b s) .end) ≡ true → Matches L (Agree (L .zeroV) glob) (runs L n b s) (runs L n (prune L glob kept b) s)
+    prune-right n s x = prune-by-right L glob (live L glob kept) b In base-covers n s (empty, c) x

@@ -1,19 +1,15 @@
 -- A run of one program follows a run of another. Assumes nothing.
-use mathlib.Core.Path.{_≡_, refl, ap, _∙_}
+use mathlib.Core.Path.{_≡_, refl, ap}
 use mathlib.Core.Bool.{Bool, true, false, cond, _&&_, false≢true}
 use mathlib.Core.Option.{Option, none, some}
-use mathlib.Core.List.{List, [], _∷_}
-use Prim.Native.Nat.{ℕ, zero, suc, _+_, _≤_, _<_}
+use mathlib.Core.List.{List}
+use Prim.Native.Nat.{ℕ, zero, suc, _≤_}
 use native.Mathlib.Omega.{arith}
-use lib.Dec.{eqb}
-use lib.ListN.{length}
-use native.Mathlib.Nat.{zero-add, suc-add}
 use borrow.Author.Tests.{eq-eqb}
-use Rattle.theory.specs.Machine.{Touch, faults, gives, When, always, when, Way, to, out, View, calc, access, label, flow, Lang}
-use Rattle.theory.specs.Machine.{End, exit, fault, unstated, fell, spent, State, Effect, falls, jumps, stops, reads, isLabel}
-use Rattle.theory.specs.Machine.{afterCalc, afterAccess, effect, St, Prog, Viewed, Effects, Result, Move, goes, halts, seek}
-use Rattle.theory.specs.Machine.{Dest, moved, step, counted, after, run}
-use Rattle.theory.proofs.Sets.{and-l, and-r}
+use Rattle.theory.specs.Machine.{Touch, faults, gives, When, always, when, to, out, View, calc, access, label, flow, Lang}
+use Rattle.theory.specs.Machine.{End, exit, fault, unstated, fell, spent, State, Effect, falls, jumps, stops, reads, oneOf, target}
+use Rattle.theory.specs.Machine.{afterCalc, afterAccess, effect, St, Prog, Result, Move, goes, halts, step, counted, after, run}
+use Rattle.theory.proofs.Sets.{and-l}
 
 -- the run did not use up its steps; it met no op without a stated result; neither
 abbrev pub unspent : {Out Flt : Type 0} → End Out Flt → Bool
@@ -34,11 +30,11 @@ abbrev pub definite : {Out Flt : Type 0} → End Out Flt → Bool
 definite e = unspent e && stated e
 
 -- how a step of the first program is followed in the second
-pub data Follows (L : Lang) (d d′ : Dest L) (R : Prog L → St L → Prog L → St L → Type 0) (Same : St L → St L → Type 0) (r : Prog L) (s : St L) (r′ : Prog L) (s′ : St L) : Type 0 where
-  drops : {q : Prog L} {t : St L} → step L d r s ≡ goes q t → R q t r′ s′ → Follows L d d′ R Same r s r′ s′
-  moves : {q : Prog L} {t : St L} {q′ : Prog L} {t′ : St L} → step L d r s ≡ goes q t → step L d′ r′ s′ ≡ goes q′ t′ → R q t q′ t′ → Follows L d d′ R Same r s r′ s′
-  ends : {e : End (L .Out) (L .Flt)} → step L d r s ≡ halts e → step L d′ r′ s′ ≡ halts e → Same s s′ → Follows L d d′ R Same r s r′ s′
-  open-end : step L d r s ≡ halts unstated → Follows L d d′ R Same r s r′ s′
+pub data Follows (L : Lang) (b b′ : Prog L) (R : Prog L → St L → Prog L → St L → Type 0) (Same : St L → St L → Type 0) (r : Prog L) (s : St L) (r′ : Prog L) (s′ : St L) : Type 0 where
+  drops : {q : Prog L} {t : St L} → step L b r s ≡ goes q t → R q t r′ s′ → Follows L b b′ R Same r s r′ s′
+  moves : {q : Prog L} {t : St L} {q′ : Prog L} {t′ : St L} → step L b r s ≡ goes q t → step L b′ r′ s′ ≡ goes q′ t′ → R q t q′ t′ → Follows L b b′ R Same r s r′ s′
+  ends : {e : End (L .Out) (L .Flt)} → step L b r s ≡ halts e → step L b′ r′ s′ ≡ halts e → Same s s′ → Follows L b b′ R Same r s r′ s′
+  open-end : step L b r s ≡ halts unstated → Follows L b b′ R Same r s r′ s′
 
 abbrev pub notFell : {Out Flt : Type 0} → End Out Flt → Bool
 notFell (exit v) = true
@@ -51,10 +47,6 @@ notFell spent = true
 abbrev pub proper : {Out Flt : Type 0} → End Out Flt → Bool
 proper e = notFell e && unspent e
 
-abbrev pub leadsTo : {Val Out : Type 0} → ℕ → Way Val Out → Bool
-leadsTo k (to l) = eqb l k
-leadsTo k (out g) = false
-
 module _ {Val Mem Out Flt : Type 0} where
   -- the op may go on with the next; it may jump to the label k
   abbrev pub goesOn : View Val Mem Out Flt → Bool
@@ -65,10 +57,7 @@ module _ {Val Mem Out Flt : Type 0} where
   goesOn (flow ins (when f) y) = true
 
   abbrev pub isJump : ℕ → View Val Mem Out Flt → Bool
-  isJump k (calc outs ins f) = false
-  isJump k (access outs ins f) = false
-  isJump k (label l) = false
-  isJump k (flow ins c y) = leadsTo k y
+  isJump k w = oneOf k (target w)
 
   -- what an effect says of the op
   abbrev pub Says : View Val Mem Out Flt → Effect Val Mem Out Flt → Type 0
@@ -114,63 +103,48 @@ module _ (L : Lang) where
     pub count : b .count ≤ a .count
 
   -- more fuel changes no definite run
-  more-after : (d : Dest L) (n : ℕ) → ((q : Prog L) (t : St L) → unspent ((run L d n q t) .end) ≡ true → run L d (suc n) q t ≡ run L d n q t)
-      → (r : Prog L) (s : St L) (m : Move L) → unspent ((after L (run L d n) r s m) .end) ≡ true
-      → after L (run L d (suc n)) r s m ≡ after L (run L d n) r s m
-  more-after d n ih r s (goes q t) h = ap (counted L) (ih q t h)
-  more-after d n ih r s (halts e) h = refl
+  more-after : (b : Prog L) (n : ℕ) → ((q : Prog L) (t : St L) → unspent ((run L b n q t) .end) ≡ true → run L b (suc n) q t ≡ run L b n q t)
+      → (r : Prog L) (s : St L) (m : Move L) → unspent ((after L (run L b n) r s m) .end) ≡ true
+      → after L (run L b (suc n)) r s m ≡ after L (run L b n) r s m
+  more-after b n ih r s (goes q t) h = ap (counted L) (ih q t h)
+  more-after b n ih r s (halts e) h = refl
 
-  pub more : (d : Dest L) (n : ℕ) (r : Prog L) (s : St L) → unspent ((run L d n r s) .end) ≡ true → run L d (suc n) r s ≡ run L d n r s
-  more d zero r s h = absurd (false≢true h)
-  more d (suc n) r s h = more-after d n (more d n) r s (step L d r s) h
+  pub more : (b : Prog L) (n : ℕ) (r : Prog L) (s : St L) → unspent ((run L b n r s) .end) ≡ true → run L b (suc n) r s ≡ run L b n r s
+  more b zero r s h = absurd (false≢true h)
+  more b (suc n) r s h = more-after b n (more b n) r s (step L b r s) h
 
-  -- a run within its fuel is the run with any more
-  pub more-by : (d : Dest L) (m n : ℕ) (r : Prog L) (s : St L) → unspent ((run L d n r s) .end) ≡ true → run L d (m + n) r s ≡ run L d n r s
-  more-by d zero n r s h = rw (zero-add n)
-  more-by d (suc m) n r s h =
-      let e : run L d (m + n) r s ≡ run L d n r s = more-by d m n r s h in
-      rw (suc-add m n) (more d (m + n) r s (rw e h) ∙ e)
+  -- two runs within their limits are the same
+  same-after : (b : Prog L) (m n : ℕ) → ((q : Prog L) (t : St L) → unspent ((run L b m q t) .end) ≡ true → unspent ((run L b n q t) .end) ≡ true → run L b m q t ≡ run L b n q t)
+      → (r : Prog L) (s : St L) (x : Move L) → unspent ((after L (run L b m) r s x) .end) ≡ true → unspent ((after L (run L b n) r s x) .end) ≡ true
+      → after L (run L b m) r s x ≡ after L (run L b n) r s x
+  same-after b m n ih r s (goes q t) h h′ = ap (counted L) (ih q t h h′)
+  same-after b m n ih r s (halts e) h h′ = refl
 
-  pub seek-length : (k : ℕ) (r : Prog L) → length (seek L k r) ≤ length r
-  seek-length k [] = omega arith
-  seek-length k (o ∷ r) = go (isLabel k (L .view o)) (seek-length k r)
-    where
-      go : (b : Bool) → length (seek L k r) ≤ length r → length (cond b (o ∷ r) (seek L k r)) ≤ length (o ∷ r)
-      go true h = omega arith
-      go false h = omega arith
+  pub same-run : (b : Prog L) (m n : ℕ) (r : Prog L) (s : St L) → unspent ((run L b m r s) .end) ≡ true → unspent ((run L b n r s) .end) ≡ true → run L b m r s ≡ run L b n r s
+  same-run b zero n r s h h′ = absurd (false≢true h)
+  same-run b (suc m) zero r s h h′ = absurd (false≢true h′)
+  same-run b (suc m) (suc n) r s h h′ = same-after b m n (same-run b m n) r s (step L b r s) h h′
 
-  -- jumps go forward, so fuel for each op is enough
-  enough-after : (d : Dest L) (short : (k : ℕ) (r : Prog L) → length (d k r) ≤ length r) (n : ℕ) → ((q : Prog L) (t : St L) → length q < n → unspent ((run L d n q t) .end) ≡ true) → (r : Prog L) (s : St L) → length r < n
-      → (b : Prog L) (w : Viewed L) (x : Effects L) → Says w x → unspent ((after L (run L d n) b s (moved L d r s x)) .end) ≡ true
-  enough-after d short n ih r s h b w (falls t) u = ih r t h
-  enough-after d short n ih r s h b w (jumps k) u = ih (d k r) s (omega (arith, short k r))
-  enough-after d short n ih r s h b w (stops e) u = and-r (notFell e) (unspent e) u
-
-  pub enough : (d : Dest L) (short : (k : ℕ) (r : Prog L) → length (d k r) ≤ length r) (n : ℕ) (r : Prog L) (s : St L) → length r < n → unspent ((run L d n r s) .end) ≡ true
-  enough d short zero r s h = absurd (omega arith)
-  enough d short (suc n) [] s h = refl
-  enough d short (suc n) (o ∷ r) s h = enough-after d short n (enough d short n) r s (omega arith) (o ∷ r) (L .view o) (effect (L .zeroV) (L .view o) s) (says (L .zeroV) (L .view o) s)
-
-  module _ (d d′ : Dest L) (R : Prog L → St L → Prog L → St L → Type 0) (Same : St L → St L → Type 0)
-      (local : (r : Prog L) (s : St L) (r′ : Prog L) (s′ : St L) → R r s r′ s′ → Follows L d d′ R Same r s r′ s′) where
+  module _ (b b′ : Prog L) (R : Prog L → St L → Prog L → St L → Type 0) (Same : St L → St L → Type 0)
+      (local : (r : Prog L) (s : St L) (r′ : Prog L) (s′ : St L) → R r s r′ s′ → Follows L b b′ R Same r s r′ s′) where
     follow : (n : ℕ) (r : Prog L) (s : St L) (r′ : Prog L) (s′ : St L)
-        → ((q : Prog L) (t : St L) (q′ : Prog L) (t′ : St L) → R q t q′ t′ → definite ((run L d n q t) .end) ≡ true → Matches Same (run L d n q t) (run L d′ n q′ t′))
-        → Follows L d d′ R Same r s r′ s′ → definite ((run L d (suc n) r s) .end) ≡ true
-        → Matches Same (run L d (suc n) r s) (run L d′ (suc n) r′ s′)
+        → ((q : Prog L) (t : St L) (q′ : Prog L) (t′ : St L) → R q t q′ t′ → definite ((run L b n q t) .end) ≡ true → Matches Same (run L b n q t) (run L b′ n q′ t′))
+        → Follows L b b′ R Same r s r′ s′ → definite ((run L b (suc n) r s) .end) ≡ true
+        → Matches Same (run L b (suc n) r s) (run L b′ (suc n) r′ s′)
     follow n r s r′ s′ ih (drops {q = q} {t = t} e x) h =
-        let h₁ : definite ((run L d n q t) .end) ≡ true = rw e at h in
-        let m : Matches Same (run L d n q t) (run L d′ n r′ s′) = ih q t r′ s′ x h₁ in
-        let y : definite ((run L d′ n r′ s′) .end) ≡ true = rw (m .end) h₁ in
-        let k : run L d′ (suc n) r′ s′ ≡ run L d′ n r′ s′ = more d′ n r′ s′ (and-l (unspent ((run L d′ n r′ s′) .end)) (stated ((run L d′ n r′ s′) .end)) y) in
+        let h₁ : definite ((run L b n q t) .end) ≡ true = rw e at h in
+        let m : Matches Same (run L b n q t) (run L b′ n r′ s′) = ih q t r′ s′ x h₁ in
+        let y : definite ((run L b′ n r′ s′) .end) ≡ true = rw (m .end) h₁ in
+        let k : run L b′ (suc n) r′ s′ ≡ run L b′ n r′ s′ = more b′ n r′ s′ (and-l (unspent ((run L b′ n r′ s′) .end)) (stated ((run L b′ n r′ s′) .end)) y) in
         rw (k, e) (record { end = m .end; state = m .state; count = omega (arith, m .count) })
     follow n r s r′ s′ ih (moves {q = q} {t = t} {q′ = q′} {t′ = t′} e e′ x) h =
-        let h₁ : definite ((run L d n q t) .end) ≡ true = rw e at h in
-        let m : Matches Same (run L d n q t) (run L d′ n q′ t′) = ih q t q′ t′ x h₁ in
+        let h₁ : definite ((run L b n q t) .end) ≡ true = rw e at h in
+        let m : Matches Same (run L b n q t) (run L b′ n q′ t′) = ih q t q′ t′ x h₁ in
         rw (e, e′) (record { end = m .end; state = m .state; count = omega (arith, m .count) })
     follow n r s r′ s′ ih (ends e e′ x) h = rw (e, e′) (record { end = refl; state = x; count = omega arith })
     follow n r s r′ s′ ih (open-end e) h = let z : false ≡ true = rw e at h in absurd (false≢true z)
 
-    pub simulates : (n : ℕ) (r : Prog L) (s : St L) (r′ : Prog L) (s′ : St L) → R r s r′ s′ → definite ((run L d n r s) .end) ≡ true
-        → Matches Same (run L d n r s) (run L d′ n r′ s′)
+    pub simulates : (n : ℕ) (r : Prog L) (s : St L) (r′ : Prog L) (s′ : St L) → R r s r′ s′ → definite ((run L b n r s) .end) ≡ true
+        → Matches Same (run L b n r s) (run L b′ n r′ s′)
     simulates zero r s r′ s′ x h = absurd (false≢true h)
     simulates (suc n) r s r′ s′ x h = follow n r s r′ s′ (simulates n) (local r s r′ s′ x) h

@@ -6,7 +6,7 @@ use mathlib.Core.List.{List}
 use mathlib.Core.Logic.{_⊎_, inl, inr}
 use Prim.Native.Nat.{ℕ}
 use borrow.Author.Tests.{not-true}
-use Rattle.theory.specs.Machine.{always, when, Way, to, out, View, calc, access, label, flow, isSome, oneOf, inputs, outputs}
+use Rattle.theory.specs.Machine.{Touch, always, when, Way, to, out, View, calc, access, label, flow, isSome, oneOf, inputs, outputs}
 use Rattle.theory.specs.Machine.{computes, pure, closes, labelOf, anyLabel, isLabel}
 use Rattle.theory.specs.Prune.{dead, there, need}
 use Rattle.theory.specs.Scope.{mayRead, wrote}
@@ -26,7 +26,19 @@ module _ {Val Out : Type 0} (glob : Vars) where
   there-kept (to k) t kept v g h q = h k q
   there-kept (out x) t kept v g h q = g q
 
+-- an access may fault, and then shows all globals
+pub globals-shown : (Val Mem Out Flt : Type 0) (glob : Vars) (outs ins : List ℕ) (f : Mem → List Val → Touch Val Mem Flt) (l : Vars) (t : ℕ → Vars) (v : ℕ) → glob v ≡ true
+    → need {Out = Out} glob (access outs ins f) l t v ≡ true
+globals-shown Val Mem Out Flt glob outs ins f l t v h = or-r (has ins v) _ (or-l (glob v) _ h)
+
 module _ {Val Mem Out Flt : Type 0} where
+  -- a label ends a basic block
+  pub label-closes : (w : View Val Mem Out Flt) → anyLabel w ≡ true → closes w ≡ true
+  label-closes (calc outs ins f) h = h
+  label-closes (access outs ins f) h = h
+  label-closes (label k) h = refl
+  label-closes (flow ins c y) h = refl
+
   pub pure-open : (w : View Val Mem Out Flt) → pure w ≡ true → closes w ≡ false
   pure-open (calc outs ins f) h = refl
   pure-open (access outs ins f) h = refl

@@ -4,7 +4,6 @@ use mathlib.Core.Bool.{Bool, true, false, cond}
 use mathlib.Core.Option.{Option, none, some}
 use mathlib.Core.List.{List, [], _∷_}
 use lib.Dec.{eqb}
-use lib.ListN.{length}
 
 -- what an access does: it faults, or gives the values of its outputs and the next memory
 pub data Touch (Val Mem Flt : Type 0) : Type 0 where
@@ -204,18 +203,15 @@ module _ (L : Lang) where
   seek k [] = []
   seek k (o ∷ r) = cond (isLabel k (L .view o)) (o ∷ r) (seek k r)
 
-  -- where a jump goes on, from its label and the ops that follow it: `seek`, where jumps go forward only
-  abbrev pub Dest : Type 0
-  Dest = ℕ → Prog L → Prog L
+  -- b: the block, in which a jump lands
+  abbrev pub moved : Prog L → Prog L → St L → Effects L → Move L
+  moved b r s (falls t) = goes r t
+  moved b r s (jumps k) = goes (seek k b) s
+  moved b r s (stops e) = halts e
 
-  abbrev pub moved : Dest → Prog L → St L → Effects L → Move L
-  moved d r s (falls t) = goes r t
-  moved d r s (jumps k) = goes (d k r) s
-  moved d r s (stops e) = halts e
-
-  abbrev pub step : Dest → Prog L → St L → Move L
-  step d [] s = halts fell
-  step d (o ∷ r) s = moved d r s (effect (L .zeroV) (L .view o) s)
+  abbrev pub step : Prog L → Prog L → St L → Move L
+  step b [] s = halts fell
+  step b (o ∷ r) s = moved b r s (effect (L .zeroV) (L .view o) s)
 
   abbrev pub ended : End (L .Out) (L .Flt) → Prog L → St L → Result L
   ended e r s = record { end = e; state = s; count = cost e; left = r }
@@ -227,11 +223,11 @@ module _ (L : Lang) where
   after go r s (goes q t) = counted (go q t)
   after go r s (halts e) = ended e r s
 
-  -- a run of at most n steps
-  abbrev pub run : Dest → ℕ → Prog L → St L → Result L
-  run d zero r s = ended spent r s
-  run d (suc n) r s = after (run d n) r s (step d r s)
+  -- a run of at most n steps, from r on in the block b
+  abbrev pub run : Prog L → ℕ → Prog L → St L → Result L
+  run b zero r s = ended spent r s
+  run b (suc n) r s = after (run b n) r s (step b r s)
 
-  -- a whole run where jumps go forward: a step for each op is enough
-  abbrev pub runs : Prog L → St L → Result L
-  runs b s = run (seek) (suc (length b)) b s
+  -- a run of the whole block, of at most n steps
+  abbrev pub runs : ℕ → Prog L → St L → Result L
+  runs n b s = run b n b s
