@@ -1,5 +1,5 @@
 -- The check accepts what fold and prune leave of accepted ops, but for the rule of temporaries. Assumes nothing.
-use mathlib.Core.Path.{_≡_, refl, sym, ap, ap₂, _∙_, subst}
+use mathlib.Core.Path.{_≡_, refl, sym, ap, ap₂, _∙_}
 use mathlib.Core.Bool.{Bool, true, false, cond, not, _&&_, false≢true}
 use mathlib.Core.List.{List, [], _∷_, _++_}
 use Prim.Native.Nat.{ℕ, suc, _≤_}
@@ -8,16 +8,16 @@ use lib.Dec.{eqb, ltb}
 use lib.ListN.{length, getD}
 use borrow.Author.Tests.{ltb-true, eqb-true, lt-ltb, eq-eqb}
 use native.Mathlib.Nat.{le-trans, le-refl}
-use Rattle.theory.specs.Fold.{Known, baseRule}
-use Rattle.theory.specs.Machine.{View, calc, access, label, flow, pure}
+use Rattle.theory.specs.Fold.{Known, Rewrite, baseRule}
+use Rattle.theory.specs.Machine.{View, calc, access, label, flow, headOr, pure}
 use Rattle.theory.proofs.Views.{computes-calc}
 use Rattle.theory.specs.Sets.{Vars}
-use Rattle.theory.proofs.Accept.{Lenient, Admits}
-use Rattle.theory.proofs.Rule.{Puts, same, folds, puts, no-omit, no-cut}
+use Rattle.theory.proofs.Accept.{Lenient, Admitted, Admits}
+use Rattle.theory.proofs.Rule.{Puts, same, folds, puts}
 use Rattle.theory.proofs.Sets.{and-l, and-r, and-i, clash}
 use Rattle.ops.specs.Kinds.{at, one, rowOf, known, bodyLength}
 use Rattle.ops.specs.Ops.{leave, kindOf, rowAt, insBy, Fault, viewBy, viewOf, tcg, moviOf, folding}
-use Rattle.ops.proofs.Folding.{Movi, movi-facts, states, movi-for, constants}
+use Rattle.ops.proofs.Folding.{Movi, movi-facts, states, movi-for, const-view, constants}
 use Rattle.block.specs.Checks.{endRules}
 use Rattle.block.specs.Records.{isDeclaration}
 use Rattle.block.specs.Rules.{Seen, allBelow, operandsOf, rule4, haveWidths, rule5, rule6, labelFree, nextLabels, nextTargets, rule7, rule9, rule10}
@@ -177,16 +177,18 @@ module _ (x : Seen) (o : List ℕ) (w v : ℕ) (one : (rowAt o) .outs ≡ w ∷ 
       o′ = moviOf w (at o 1) v
 
 -- what fold puts in place
-put-ok : (x : Seen) (k : Known ℕ) (o o′ : List ℕ) → Puts tcg folding constants k o o′ → opOk x o ≡ true
-    → (opOk x o′ ≡ true) × Le (passed x o) (passed x o′) × Unit {0}
-put-ok x k o o′ (same e) h = rw (← e) (h, record { classes = refl; widths = refl; labels = refl; targets = refl; ops = omega arith; last = λ q. q }, tt)
-put-ok x k o o′ (folds xs vs t a g p w) h =
+admitted : (x : Seen) (k : Known ℕ) (o : List ℕ) (y : Rewrite (List ℕ)) → Puts tcg folding constants k o y → opOk x o ≡ true
+    → Admitted tcg checker lenient (λ j. Unit {0}) ⊥ x k o y
+unfolding lenient
+admitted x k o y same h = (h, record { classes = refl; widths = refl; labels = refl; targets = refl; ops = omega arith; last = λ q. q }, tt)
+admitted x k o y (folds xs vs t a g) h =
+    let o′ = folding .const o (headOr 0 vs) in
     let s = states o xs vs t g in
-    let q : o′ ≡ moviOf (s .width) (at o 1) (s .value) = p ∙ movi-for o vs s in
+    let q : o′ ≡ moviOf (s .width) (at o 1) (s .value) = movi-for o vs s in
     let m = movi-facts (s .width) (at o 1) (s .value) (s .wide) (s .fits) in
     let c : pure (viewOf o) ≡ true = ap pure (computes-calc (viewOf o) xs vs g) in
     let l = calc-labels (x .labels) (x .targets) (viewOf o) c in
-    let l′ = calc-labels (x .labels) (x .targets) (viewOf o′) (ap pure w) in (
+    let l′ = calc-labels (x .labels) (x .targets) (viewOf o′) (ap pure (const-view o xs vs t g)) in (
       ap (opOk x) q ∙ movi-ok x o (s .width) (s .value) (s .one-out) m h,
       record {
         classes = refl;
@@ -199,15 +201,7 @@ put-ok x k o o′ (folds xs vs t a g p w) h =
       tt,
     )
 
-pub admits : Admits tcg checker lenient (baseRule tcg folding)
-unfolding lenient
+-- document 01's rule never cuts
+pub admits : Admits tcg checker lenient (λ j. Unit {0}) ⊥ (baseRule tcg folding)
 admits =
-    record {
-      Good = λ k. Unit {0};
-      good-none = tt;
-      put-ok = λ x k o o′ u q h. put-ok x k o o′ (puts tcg folding constants k o o′ q) h;
-      omit-ok = λ x k o q. no-omit tcg folding constants k o q;
-      Skips = ⊥;
-      cut-ok = λ x k o o′ q. no-cut tcg folding constants k o o′ q;
-      skip-ok = λ x o n e. absurd n;
-    }
+    record { good-none = tt; skip-ok = λ x o n e. absurd n; admitted = λ x k o u h. admitted x k o (baseRule tcg folding k o) (puts tcg folding constants k o) h }

@@ -1,7 +1,7 @@
 -- The movi that fold puts in an op's place: what it does, and what the check finds in it. Assumes nothing.
 use mathlib.Core.Path.{_≡_, refl, sym, ap, _∙_}
-use mathlib.Core.Bool.{Bool, true, false, cond, not, _||_, false≢true}
-use mathlib.Core.Option.{Option, none, some}
+use mathlib.Core.Bool.{Bool, true, false, cond, not, _||_}
+use mathlib.Core.Option.{some}
 use mathlib.Core.List.{List, [], _∷_}
 use mathlib.Core.Logic.{inl, inr}
 use Prim.Native.Nat.{ℕ, suc, _+_, _^_, _<_}
@@ -17,7 +17,7 @@ use Rattle.memory.specs.Bytes.{lowFirst, bytesOf}
 use Rattle.memory.proofs.Numbers.{low-bytes, length-bytes}
 use Rattle.ops.specs.Kinds.{Does, unknown, declares, sets, jumpsTo, leaves, branches, loads, stores, computes, Row, at, narrowOk, movi, wideRow}
 use Rattle.ops.specs.Kinds.{rowOf, isKnown, isPure, known, bodyLength}
-use Rattle.ops.specs.Ops.{kindOf, rowAt, outsBy, insBy, restBy, atWidths, Fault, viewBy, viewOf, tcg, foldableRow, moviKind, moviOf, folding}
+use Rattle.ops.specs.Ops.{kindOf, rowAt, outsBy, insBy, restBy, viewBy, viewOf, tcg, foldableRow, moviKind, moviOf, folding}
 use Rattle.ops.specs.Ops.{restOk}
 use Rattle.ops.proofs.Fits.{Wide, SaneBy, sane}
 

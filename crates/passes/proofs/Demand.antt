@@ -3,21 +3,19 @@ use mathlib.Core.Path.{_≡_, refl, sym, ap, _∙_, subst, subst₂}
 use mathlib.Core.List.{List, _++_}
 use Prim.Native.Nat.{ℕ, _≤_}
 use lib.ListN.{length}
-use Rattle.theory.specs.Fold.{nothing, ReplacesNone}
+use Rattle.theory.specs.Fold.{nothing, Still}
 use Rattle.theory.specs.Machine.{Prog}
 use Rattle.theory.specs.Prune.{AllUsed}
-use Rattle.theory.proofs.Rule.{still-none}
 use Rattle.memory.proofs.Digits.{room}
 use Rattle.memory.proofs.Faults.{sized}
-use Rattle.ops.specs.Ops.{tcg, folding}
-use Rattle.ops.proofs.Folding.{constants}
+use Rattle.ops.specs.Ops.{tcg}
 use Rattle.block.specs.Checks.{checkOf}
 use Rattle.block.specs.Records.{recordsOf, concat, declarations, opsFrom, classesOf}
 use Rattle.block.proofs.Parts.{Parts, parts}
 use Rattle.passes.specs.Demand.{Room, Demand3, Demand}
 use Rattle.passes.specs.Passes.{passOps, resultOf, written}
 use Rattle.passes.proofs.Alike.{blocks-alike}
-use Rattle.passes.proofs.Result.{ops-preserved, parts-size, kept-parts, result-of, pass-answers}
+use Rattle.passes.proofs.Result.{rule, ops-preserved, parts-size, kept-parts, result-of, pass-answers}
 use Rattle.block.specs.Rules.{globalsIn, keptIn, declared}
 use Rattle.block.specs.declared.Verdict.the-variants.{Accepted}
 
@@ -37,9 +35,9 @@ module _ (block : List ℕ) (ds os : List (List ℕ)) (h : checkOf block ≡ Acc
   unfolding bytes kept
   q = kept-parts block ds os p
 
-  folded : ReplacesNone tcg folding (opsFrom (recordsOf bytes)) nothing
+  folded : Still tcg rule (opsFrom (recordsOf bytes)) nothing
   unfolding bytes kept passOps
-  folded = subst (λ (t : Prog tcg). ReplacesNone tcg folding t nothing) (sym (q .1 .ops)) (still-none tcg folding constants kept nothing ((ops-preserved (classesOf ds) os (p .in-scope)) .folded))
+  folded = subst (λ (t : Prog tcg). Still tcg rule t nothing) (sym (q .1 .ops)) ((ops-preserved (classesOf ds) os (p .in-scope)) .folded)
 
   used : AllUsed tcg (globalsIn (classesOf (declarations (recordsOf bytes)))) (keptIn (classesOf (declarations (recordsOf bytes)))) (opsFrom (recordsOf bytes))
   unfolding bytes kept passOps

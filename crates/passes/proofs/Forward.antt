@@ -10,7 +10,7 @@ use lib.ListN.{length, getD, drop, set, replicate, length-set, drop-of-length-le
 use lib.Seq.{drop-cons, getD-set-same, getD-set-other}
 use borrow.Author.Tests.{ltb-true, ltb-false}
 use native.Mathlib.Numerals.{add-one}
-use Rattle.theory.specs.Fold.{Known, nothing, put, on, learned, emit, ruleAt, fold as foldOps}
+use Rattle.theory.specs.Fold.{Known, nothing, put, on, learned, emit, fold as foldOps}
 use Rattle.theory.proofs.Sets.{tell}
 use Rattle.ops.specs.Ops.{kindOf, viewOf, tcg}
 use Rattle.ops.specs.Table.{roleOf}
@@ -102,8 +102,8 @@ module _ {b places folded consts folded′ consts′ known values known′ value
   folds-here : foldOps tcg rule (drop i os) (on (knownOf known values)) ≡ picked ∷ foldOps tcg rule (drop (suc i) os) (on (knownOf known′ values′))
   folds-here =
       let e : recordAt b (getD places i 0) ≡ o = t .here in
-      let r : ruleAt tcg rule (knownOf known values) o ≡ put picked =
-      subst (λ (q : List ℕ). ruleAt tcg rule (knownOf known values) q ≡ put (pickOp (getD folded′ i 0) (getD consts′ i 0) q)) e (a .rule-at) in
+      let r : rule (knownOf known values) o ≡ put picked =
+      subst (λ (q : List ℕ). rule (knownOf known values) q ≡ put (pickOp (getD folded′ i 0) (getD consts′ i 0) q)) e (a .rule-at) in
       let n : knownOf known′ values′ ≡ learned (knownOf known values) (viewOf picked) =
       subst (λ (q : List ℕ). knownOf known′ values′ ≡ learned (knownOf known values) (viewOf (pickOp (getD folded′ i 0) (getD consts′ i 0) q))) e (a .known-at) in
       ap (λ (q : List (List ℕ)). foldOps tcg rule q (on (knownOf known values))) cut-ops

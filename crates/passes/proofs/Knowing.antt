@@ -8,7 +8,7 @@ use native.Mathlib.Omega.{arith}
 use lib.Dec.{eqb, leb}
 use lib.ListN.{length, getD, replicate}
 use native.Mathlib.Nat.{sub-zero, add-zero}
-use Rattle.theory.specs.Fold.{Rewrite, nothing, put, learned, ruleAt, consO, allKnown, bindO, tried, baseRule}
+use Rattle.theory.specs.Fold.{Rewrite, nothing, put, learned, consO, allKnown, bindO, tried, baseRule}
 use Rattle.theory.specs.Machine.{View, calc, label, computes as stated, inputs, upd, reads}
 use Rattle.theory.specs.Sets.{Vars}
 use Rattle.theory.proofs.Sets.{and-l, and-r}
@@ -135,7 +135,7 @@ module _ {b : List ℕ} {p k : ℕ} (c : Computed b p k) (l : k < 256) where
 
   module _ (known values : List ℕ) where
     rule-is : (q : Option (List ℕ)) → bindO (statesAt b p k) (allKnown (reads (knownOf known values) (inputsAt b p k))) ≡ q
-        → ruleAt tcg (baseRule tcg folding) (knownOf known values) (recordAt b p) ≡ tried tcg folding (recordAt b p) q
+        → baseRule tcg folding (knownOf known values) (recordAt b p) ≡ tried tcg folding (recordAt b p) q
     rule-is q e =
         ap (λ (w : View ℕ (List ℕ) ℕ Fault). ruleOn (recordAt b p) w (reads (knownOf known values) (inputs w))) views
         ∙ ap (λ (t : Bool). cond t (tried tcg folding (recordAt b p) (bindO (statesAt b p k) (allKnown (reads (knownOf known values) (inputsAt b p k))))) (put (recordAt b p))) foldable-here

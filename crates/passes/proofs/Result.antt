@@ -12,8 +12,9 @@ use Rattle.theory.specs.Scope.{scoped}
 use Rattle.theory.specs.Sets.{empty}
 use Rattle.theory.proofs.Accept.{pass-checks}
 use Rattle.theory.proofs.Pass.{Preserves, preserves}
-use Rattle.theory.proofs.Rule.{base-sound, base-settles}
-use Rattle.theory.proofs.Scope.{base-scopes}
+use Rattle.theory.proofs.Fold.{any-fits}
+use Rattle.theory.proofs.Law.{Lawful}
+use Rattle.theory.proofs.Rule.{base-lawful}
 use Rattle.theory.proofs.Sets.{and-r}
 use Rattle.ops.specs.Kinds.{rowOf, known, bodyLength}
 use Rattle.ops.specs.Ops.{kindOf, tcg, folding}
@@ -35,13 +36,15 @@ globals-kept classes v h = rw (eqb-true (getD classes v 2) 0 h)
 abbrev pub rule : Rule tcg
 rule = baseRule tcg folding
 
+-- it has the laws, whatever the op and whatever the variables hold
+pub lawful : Lawful tcg (λ o. Unit {0}) (λ e. Unit {0}) rule
+lawful = base-lawful tcg folding constants (λ o. Unit {0}) (λ e. Unit {0}) (λ o xs vs t g c. tt)
+
 -- what fold and prune leave of ops that meet the rule of temporaries
 pub ops-preserved : (classes : List ℕ) (os : Prog tcg) → scoped tcg (keptIn classes) empty os ≡ true
-    → Preserves tcg (globalsIn classes) (keptIn classes) (globals-kept classes) rule (λ o. Unit {0}) (λ e. Unit {0})
-    (base-sound tcg folding constants) (base-settles tcg folding constants) (base-scopes tcg (keptIn classes) folding constants) os
+    → Preserves tcg (globalsIn classes) (keptIn classes) (globals-kept classes) rule (λ o. Unit {0}) (λ e. Unit {0}) (any-fits tcg) lawful os
 ops-preserved classes os c =
-    preserves tcg (globalsIn classes) (keptIn classes) (globals-kept classes) rule (λ o. Unit {0}) (λ e. Unit {0})
-    (base-sound tcg folding constants) (base-settles tcg folding constants) (base-scopes tcg (keptIn classes) folding constants) os (any-op os) c
+    preserves tcg (globalsIn classes) (keptIn classes) (globals-kept classes) rule (λ o. Unit {0}) (λ e. Unit {0}) (any-fits tcg) lawful os (any-op os) c
   where
     any-op : (os : Prog tcg) → All (λ (o : List ℕ). Unit {0}) os
     any-op [] = tt
@@ -89,7 +92,7 @@ pub kept-parts : (block : List ℕ) (ds os : List (List ℕ)) → Parts block ds
 unfolding passOps
 kept-parts block ds os p =
     joined ds (passOps (classesOf ds) os) (p .wholes .0) (p .all-declared) (p .met)
-    (pass-checks tcg checker lenient rule admits (globalsIn (classesOf ds)) (keptIn (classesOf ds)) os (declaredIn start ds) (p .checked))
+    (pass-checks tcg checker lenient (λ j. Unit {0}) ⊥ rule admits (globalsIn (classesOf ds)) (keptIn (classesOf ds)) os (declaredIn start ds) (p .checked))
     ((ops-preserved (classesOf ds) os (p .in-scope)) .accepted)
 
 -- a block's result, from its parts

@@ -7,7 +7,7 @@ use Prim.Native.Nat.{ℕ, _<_}
 use lib.ListN.{length, getD}
 use Rattle.theory.specs.Machine.{reads}
 use Rattle.theory.specs.Sets.{Vars}
-use Rattle.theory.specs.Fold.{Known, nothing, put, on, learned, ruleAt, fold, baseRule, bindO, allKnown}
+use Rattle.theory.specs.Fold.{Known, nothing, put, on, learned, fold, baseRule, bindO, allKnown}
 use Rattle.ops.specs.Ops.{viewOf, tcg, folding}
 use Rattle.ops.specs.Table.{roleOf}
 use Rattle.block.specs.Records.{recordsOf, opsFrom}
@@ -43,13 +43,13 @@ leftBy NoResult o = o
 
 -- fold at one op: what it leaves, and what is known after it
 pub record Folds (block : List ℕ) (place kind : ℕ) (known values known′ values′ : List ℕ) (r : Stated) : Type 0 where
-  pub rule-so : ruleAt tcg (baseRule tcg folding) (knownOf known values) (recordAt block place) ≡ put (leftBy r (recordAt block place))
+  pub rule-so : baseRule tcg folding (knownOf known values) (recordAt block place) ≡ put (leftBy r (recordAt block place))
   pub known-so : knownOf known′ values′ ≡ learned (knownOf known values) (viewOf (leftBy r (recordAt block place)))
   pub only-so : (x : ℕ) → r ≡ Value x → roleOf kind ≡ Computes
 
 -- the i-th byte and constant are set so that the op is what fold leaves
 pub record FoldsAt (block : List ℕ) (place i : ℕ) (known values known′ values′ folded consts folded′ consts′ : List ℕ) : Type 0 where
-  pub rule-at : ruleAt tcg (baseRule tcg folding) (knownOf known values) (recordAt block place) ≡ put (pickOp (getD folded′ i 0) (getD consts′ i 0) (recordAt block place))
+  pub rule-at : baseRule tcg folding (knownOf known values) (recordAt block place) ≡ put (pickOp (getD folded′ i 0) (getD consts′ i 0) (recordAt block place))
   pub known-at : knownOf known′ values′ ≡ learned (knownOf known values) (viewOf (pickOp (getD folded′ i 0) (getD consts′ i 0) (recordAt block place)))
   pub only-at : getD folded′ i 0 ≡ 1 → roleOf (getD block place 0) ≡ Computes
   pub others : (j : ℕ) → j < i → (getD folded′ j 0 ≡ getD folded j 0) × (getD consts′ j 0 ≡ getD consts j 0)

@@ -4,7 +4,7 @@ use mathlib.Core.Bool.{false}
 use mathlib.Core.List.{List}
 use Prim.Native.Nat.{ℕ, _≤_}
 use lib.ListN.{length, take, drop}
-use Rattle.theory.specs.Fold.{nothing, ReplacesNone}
+use Rattle.theory.specs.Fold.{nothing, baseRule, Still}
 use Rattle.theory.specs.Prune.{AllUsed}
 use Rattle.ops.specs.Ops.{tcg, folding}
 use Rattle.block.specs.Checks.{checkOf}
@@ -53,7 +53,7 @@ pub record Promise (block out : List ℕ) (answer : Written) (out′ : List ℕ)
       → Run block globals memory ending globals₁ memory₁ → Run result globals memory ending′ globals₂ memory₂
       → unstatedEnd ending ≡ false → SameEnd ending ending′ × (globals₂ ≡ globals₁) × (memory₂ ≡ memory₁)
   -- "nothing foldable and no dead pure op remains"
-  pub folded : ReplacesNone tcg folding (opsFrom (recordsOf result)) nothing
+  pub folded : Still tcg (baseRule tcg folding) (opsFrom (recordsOf result)) nothing
   pub used : AllUsed tcg (globalsIn (classesOf (declarations (recordsOf result)))) (keptIn (classesOf (declarations (recordsOf result)))) (opsFrom (recordsOf result))
   -- "doing the pass again gives the same bytes"
   pub again : (buffer : List ℕ) (answer′ : Written) (buffer′ : List ℕ) → Room result buffer → Optimised result buffer answer′ buffer′

@@ -1,18 +1,15 @@
 -- The run of a block's ops, turn by turn: the run of what is left is the run of the whole. Assumes nothing.
 use mathlib.Core.Path.{_≡_, refl, sym, ap, ap₂, _∙_, subst, subst₂}
-use mathlib.Core.Bool.{Bool, true, false, cond}
-use mathlib.Core.Option.{Option, none, some}
+use mathlib.Core.Bool.{true}
 use mathlib.Core.List.{List, [], _∷_}
 use Prim.Native.Nat.{ℕ, zero, suc, _+_, _-_, _*_, _%_, _≤_, _<_}
 use native.Mathlib.Omega.{arith}
-use lib.Dec.{eqb}
 use lib.ListN.{length, getD, drop, drop-of-length-le, length-drop}
 use lib.Seq.{drop-cons}
-use borrow.Author.Tests.{eq-eqb}
 use native.Mathlib.Nat.{zero-add, sub-zero, add-zero, mod-eq-of-lt}
 use native.Mathlib.Numerals.{add-one}
 use Rattle.theory.specs.Checker.{checks}
-use Rattle.theory.specs.Machine.{View, fell, Effect, falls}
+use Rattle.theory.specs.Machine.{View, fell, Effect}
 use Rattle.theory.specs.Machine.{jumps, stops, effect, St, Result, cost, seek, moved, counted, after, run}
 use Rattle.theory.specs.Sets.{empty}
 use Rattle.theory.proofs.Simulation.{isJump, Says, says}

@@ -1,14 +1,15 @@
 -- A check that reads the ops in order accepts what the pass makes of a block that it accepts, but for the rule of temporaries. Assumes nothing.
-use mathlib.Core.Path.{_≡_, refl}
+use mathlib.Core.Path.{_≡_, refl, ap}
 use mathlib.Core.Bool.{Bool, true, false}
 use mathlib.Core.List.{[], _∷_}
 use mathlib.Core.Logic.{_⊎_, inl, inr}
 use Rattle.theory.specs.Checker.{Checker, checks}
-use Rattle.theory.specs.Fold.{Known, nothing, Rewrite, put, omit, cut, Mode, on, off, learned, Rule, emit, resume, ruleAt, fold}
-use Rattle.theory.specs.Fold.{pass}
+use Rattle.theory.specs.Fold.{Known, nothing, Rewrite, put, omit, cut, Mode, on, off, learned, Rule, emit}
+use Rattle.theory.specs.Fold.{resume, fold, pass}
 use Rattle.theory.specs.Machine.{Lang, outputs, pure, anyLabel, Prog}
 use Rattle.theory.specs.Prune.{dead, pruneBy, live}
 use Rattle.theory.specs.Sets.{Vars, noneIn}
+use Rattle.theory.proofs.Law.{further, chain}
 use Rattle.theory.proofs.Sets.{and-l, and-r, and-i, tell}
 
 -- Le x y: whatever is accepted after x is accepted after y
@@ -22,17 +23,33 @@ pub record Lenient (L : Lang) (C : Checker L) : Type 1 where
   -- a pure op may go
   pub drop-ok : (x : C .Seen) (o : L .Op) → pure (L .view o) ≡ true → Le (C .next x o) x
 
--- what a rule of fold has to show of what it puts in place; Good: what is known of the known values
-pub record Admits (L : Lang) (C : Checker L) (N : Lenient L C) (rule : Rule L) : Type 1 where
-  pub Good : Known (L .Val) → Type 0
+-- what the check says of what a rule puts in place of an op; Good: what is known of the known values;
+-- Skips: what holds once a rule has cut, up to the next label; nothing where none cuts
+abbrev pub Admitted : (L : Lang) (C : Checker L) → Lenient L C → (Known (L .Val) → Type 0) → Type 0 → C .Seen → Known (L .Val) → L .Op → Rewrite (L .Op) → Type 0
+Admitted L C N Good Skips x k o (put o′) = (C .ok x o′ ≡ true) × N .Le (C .next x o) (C .next x o′) × Good (learned k (L .view o′))
+Admitted L C N Good Skips x k o omit = N .Le (C .next x o) x
+Admitted L C N Good Skips x k o (cut o′) = (C .ok x o′ ≡ true) × N .Le (C .next x o) (C .next x o′) × Skips
+
+pub record Admits (L : Lang) (C : Checker L) (N : Lenient L C) (Good : Known (L .Val) → Type 0) (Skips : Type 0) (rule : Rule L) : Type 1 where
   pub good-none : Good nothing
-  pub put-ok : (x : C .Seen) (k : Known (L .Val)) (o o′ : L .Op) → Good k → ruleAt L rule k o ≡ put o′ → C .ok x o ≡ true
-      → (C .ok x o′ ≡ true) × N .Le (C .next x o) (C .next x o′) × Good (learned k (L .view o′))
-  pub omit-ok : (x : C .Seen) (k : Known (L .Val)) (o : L .Op) → ruleAt L rule k o ≡ omit → N .Le (C .next x o) x
-  -- what holds once the rule has cut, up to the next label; nothing where it never cuts
-  pub Skips : Type 0
-  pub cut-ok : (x : C .Seen) (k : Known (L .Val)) (o o′ : L .Op) → ruleAt L rule k o ≡ cut o′ → (C .ok x o′ ≡ true) × N .Le (C .next x o) (C .next x o′) × Skips
   pub skip-ok : (x : C .Seen) (o : L .Op) → Skips → anyLabel (L .view o) ≡ false → N .Le (C .next x o) x
+  pub admitted : (x : C .Seen) (k : Known (L .Val)) (o : L .Op) → Good k → C .ok x o ≡ true → Admitted L C N Good Skips x k o (rule k o)
+
+-- one rule after another
+pub chain-admits : (L : Lang) (C : Checker L) (N : Lenient L C) (Good : Known (L .Val) → Type 0) (Skips : Type 0) (p q : Rule L)
+    → Admits L C N Good Skips p → Admits L C N Good Skips q → Admits L C N Good Skips (chain L p q)
+chain-admits L C N Good Skips p q ap aq =
+    record { good-none = ap .good-none; skip-ok = ap .skip-ok; admitted = λ x k o g h. by x k o g (p k o) (ap .admitted x k o g h) }
+  where
+    by : (x : C .Seen) (k : Known (L .Val)) (o : L .Op) → Good k → (y : Rewrite (L .Op)) → Admitted L C N Good Skips x k o y → Admitted L C N Good Skips x k o (further L q k y)
+    by x k o g (put o′) a = go (q k o′) (aq .admitted x k o′ g (a .0))
+      where
+        go : (y : Rewrite (L .Op)) → Admitted L C N Good Skips x k o′ y → Admitted L C N Good Skips x k o y
+        go (put e) d = (d .0, N .le-trans _ _ _ (a .1) (d .1), d .2)
+        go omit d = N .le-trans _ _ _ (a .1) d
+        go (cut e) d = (d .0, N .le-trans _ _ _ (a .1) (d .1), d .2)
+    by x k o g omit a = a
+    by x k o g (cut o′) a = a
 
 module _ (L : Lang) (C : Checker L) (N : Lenient L C) where
   pub prune-checks : (note : Prog L → Vars) (r : Prog L) (x y : C .Seen) → N .Le x y → checks L C x r ≡ true → checks L C y (pruneBy L note r) ≡ true
@@ -48,29 +65,27 @@ module _ (L : Lang) (C : Checker L) (N : Lenient L C) where
           (and-i (C .ok y o) (checks L C (C .next y o) (pruneBy L note r)) (N .ok-le x y o h (and-l (C .ok x o) (checks L C (C .next x o) r) c))
           (ih (C .next y o) (N .next-le x y o h)))
 
-  module _ (rule : Rule L) (A : Admits L C N rule) where
+  module _ (Good : Known (L .Val) → Type 0) (Skips : Type 0) (rule : Rule L) (A : Admits L C N Good Skips rule) where
     abbrev Fine : Mode (L .Val) → Type 0
-    Fine (on k) = A .Good k
-    Fine off = A .Skips
+    Fine (on k) = Good k
+    Fine off = Skips
 
     pub fold-checks : (r : Prog L) (m : Mode (L .Val)) (x y : C .Seen) → Fine m → N .Le x y → checks L C x r ≡ true → checks L C y (fold L rule r m) ≡ true
     fold-checks [] m x y g h c = N .fin-le x y h c
     fold-checks (o ∷ r) (on k) x y g h c =
-        go (ruleAt L rule k o) refl (λ n u f t. fold-checks r n (C .next x o) u f t (and-r (C .ok x o) (checks L C (C .next x o) r) c))
+        go (rule k o) (A .admitted y k o g oky) (λ n u f t. fold-checks r n (C .next x o) u f t (and-r (C .ok x o) (checks L C (C .next x o) r) c))
       where
         oky : C .ok y o ≡ true
         oky = N .ok-le x y o h (and-l (C .ok x o) (checks L C (C .next x o) r) c)
 
-        go : (z : Rewrite (L .Op)) → ruleAt L rule k o ≡ z
+        go : (z : Rewrite (L .Op)) → Admitted L C N Good Skips y k o z
             → ((n : Mode (L .Val)) (u : C .Seen) → Fine n → N .Le (C .next x o) u → checks L C u (fold L rule r n) ≡ true)
             → checks L C y (emit L rule k (fold L rule r) z) ≡ true
-        go (put o′) q ih =
-            let p = A .put-ok y k o o′ g q oky in
+        go (put o′) p ih =
             and-i (C .ok y o′) (checks L C (C .next y o′) (fold L rule r (on (learned k (L .view o′))))) (p .0)
             (ih (on (learned k (L .view o′))) (C .next y o′) (p .2) (N .le-trans (C .next x o) (C .next y o) (C .next y o′) (N .next-le x y o h) (p .1)))
-        go omit q ih = ih (on k) y g (N .le-trans (C .next x o) x y (A .omit-ok x k o q) h)
-        go (cut o′) q ih =
-            let p = A .cut-ok y k o o′ q in
+        go omit p ih = ih (on k) y g (N .le-trans (C .next x o) (C .next y o) y (N .next-le x y o h) p)
+        go (cut o′) p ih =
             and-i (C .ok y o′) (checks L C (C .next y o′) (fold L rule r off)) (p .0)
             (ih off (C .next y o′) (p .2) (N .le-trans (C .next x o) (C .next y o) (C .next y o′) (N .next-le x y o h) (p .1)))
     fold-checks (o ∷ r) off x y g h c =

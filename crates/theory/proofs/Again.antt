@@ -5,15 +5,15 @@ use mathlib.Core.Option.{none}
 use mathlib.Core.List.{[], _∷_}
 use mathlib.Core.Logic.{_⊎_, inl, inr}
 use Prim.Native.Nat.{ℕ}
-use Rattle.theory.specs.Fold.{Known, nothing, Rewrite, put, omit, cut, on, off, gain, learned, Rule, emit, resume, ruleAt, fold}
-use Rattle.theory.specs.Fold.{pass}
-use Rattle.theory.specs.Machine.{Lang, reads, writes, inputs, outputs, computes, pure, closes, anyLabel, Prog, Viewed}
+use Rattle.theory.specs.Fold.{Known, nothing, Rewrite, put, omit, cut, on, off, gain, learned, Rule, emit, resume, fold, pass, Still}
+use Rattle.theory.specs.Machine.{Lang, writes, inputs, outputs, computes, pure, closes, anyLabel, Prog, Viewed}
 use Rattle.theory.specs.Prune.{dead, pruneBy, live, prune, liveAll, AllUsed}
 use Rattle.theory.specs.Sets.{Vars, noneIn}
 use Rattle.theory.proofs.Fold.{any-learned}
+use Rattle.theory.proofs.Law.{Rests, Lawful}
 use Rattle.theory.proofs.Liveness.{base-keeps}
 use Rattle.theory.proofs.PruneBy.{Keeps}
-use Rattle.theory.proofs.Sets.{and-l, and-r, tell, dead-out, writes-other, writes-both, reads-same}
+use Rattle.theory.proofs.Sets.{and-l, and-r, tell, dead-out, writes-other, writes-both}
 use Rattle.theory.proofs.Views.{pure-open}
 
 module _ (L : Lang) (glob kept : Vars) where
@@ -44,42 +44,30 @@ module _ (L : Lang) (glob kept : Vars) where
   used-same [] h = refl
   used-same (o ∷ r) h = rw (used-live r (h .1), h .0) (ap (λ (q : Prog L). o ∷ q) (used-same r (h .1)))
 
-module _ (L : Lang) (rule : Rule L) where
-  -- what a rule has to show for the pass to settle: what it puts in place it leaves alone
-  pub record Settles : Type 0 where
-    pub put-stays : (k : Known (L .Val)) (o o′ : L .Op) → ruleAt L rule k o ≡ put o′ → ruleAt L rule k o′ ≡ put o′
-    pub cut-stays : (k : Known (L .Val)) (o o′ : L .Op) → ruleAt L rule k o ≡ cut o′ → ruleAt L rule k o′ ≡ put o′
-    pub any-stays : (k : Known (L .Val)) (o : L .Op) → anyLabel (L .view o) ≡ true → ruleAt L rule k o ≡ put o
-
-  -- fold, reading on from what it knows, would replace no op
-  abbrev pub Still : Prog L → Known (L .Val) → Type 0
-  Still [] k = Unit {0}
-  Still (o ∷ r) k = (ruleAt L rule k o ≡ put o) × Still r (learned k (L .view o))
-
-  pub still-same : (r : Prog L) (k : Known (L .Val)) → Still r k → fold L rule r (on k) ≡ r
+module _ (L : Lang) (Ok : L .Op → Type 0) (Fit : (ℕ → L .Val) → Type 0) (rule : Rule L) (good : Lawful L Ok Fit rule) where
+  pub still-same : (r : Prog L) (k : Known (L .Val)) → Still L rule r k → fold L rule r (on k) ≡ r
   still-same [] k h = refl
   still-same (o ∷ r) k h = rw (h .0) (ap (λ (q : Prog L). o ∷ q) (still-same r (learned k (L .view o)) (h .1)))
 
-  module _ (good : Settles) where
-    fold-both : (r : Prog L) → ((k : Known (L .Val)) → Still (fold L rule r (on k)) k) × ((k : Known (L .Val)) → Still (fold L rule r off) k)
-    fold-both [] = (λ k. tt, λ k. tt)
-    fold-both (o ∷ r) = both-cases (fold-both r)
-      where
-        both-cases : ((k : Known (L .Val)) → Still (fold L rule r (on k)) k) × ((k : Known (L .Val)) → Still (fold L rule r off) k)
-            → ((k : Known (L .Val)) → Still (fold L rule (o ∷ r) (on k)) k) × ((k : Known (L .Val)) → Still (fold L rule (o ∷ r) off) k)
-        both-cases ih = (λ k. reads-on k (ruleAt L rule k o) refl, λ k. reads-off k (tell (anyLabel (L .view o))))
-          where
-            reads-on : (k : Known (L .Val)) (x : Rewrite (L .Op)) → ruleAt L rule k o ≡ x → Still (emit L rule k (fold L rule r) x) k
-            reads-on k (put o′) q = (good .put-stays k o o′ q, ih .0 (learned k (L .view o′)))
-            reads-on k omit q = ih .0 k
-            reads-on k (cut o′) q = (good .cut-stays k o o′ q, ih .1 (learned k (L .view o′)))
+  fold-both : (r : Prog L) → ((k : Known (L .Val)) → Still L rule (fold L rule r (on k)) k) × ((k : Known (L .Val)) → Still L rule (fold L rule r off) k)
+  fold-both [] = (λ k. tt, λ k. tt)
+  fold-both (o ∷ r) = both-cases (fold-both r)
+    where
+      both-cases : ((k : Known (L .Val)) → Still L rule (fold L rule r (on k)) k) × ((k : Known (L .Val)) → Still L rule (fold L rule r off) k)
+          → ((k : Known (L .Val)) → Still L rule (fold L rule (o ∷ r) (on k)) k) × ((k : Known (L .Val)) → Still L rule (fold L rule (o ∷ r) off) k)
+      both-cases ih = (λ k. reads-on k (rule k o) (good .rests k o), λ k. reads-off k (tell (anyLabel (L .view o))))
+        where
+          reads-on : (k : Known (L .Val)) (x : Rewrite (L .Op)) → Rests L rule k x → Still L rule (emit L rule k (fold L rule r) x) k
+          reads-on k (put o′) q = (q, ih .0 (learned k (L .view o′)))
+          reads-on k omit q = ih .0 k
+          reads-on k (cut o′) q = (q, ih .1 (learned k (L .view o′)))
 
-            reads-off : (k : Known (L .Val)) → (anyLabel (L .view o) ≡ true) ⊎ (anyLabel (L .view o) ≡ false) → Still (resume L rule o (fold L rule r) (anyLabel (L .view o))) k
-            reads-off k (inl e) = rw e (good .any-stays k o e, rw (any-learned k (L .view o) e) (ih .0 nothing))
-            reads-off k (inr e) = rw e (ih .1 k)
+          reads-off : (k : Known (L .Val)) → (anyLabel (L .view o) ≡ true) ⊎ (anyLabel (L .view o) ≡ false) → Still L rule (resume L rule o (fold L rule r) (anyLabel (L .view o))) k
+          reads-off k (inl e) = rw e (good .stays k o e, rw (any-learned k (L .view o) e) (ih .0 nothing))
+          reads-off k (inr e) = rw e (ih .1 k)
 
-    pub fold-still : (r : Prog L) → Still (fold L rule r (on nothing)) nothing
-    fold-still r = (fold-both r) .0 nothing
+  pub fold-still : (r : Prog L) → Still L rule (fold L rule r (on nothing)) nothing
+  fold-still r = (fold-both r) .0 nothing
 
   -- a prune drops no op that fold learns from for a kept one
   module _ (note : Prog L → Vars) (keeps : Keeps L note) where
@@ -100,7 +88,7 @@ module _ (L : Lang) (rule : Rule L) where
         rw (pure-open w (and-l (pure w) (noneIn (outputs w) l) d))
         (writes-other none k (outputs w) (gain (inputs w) (computes w)) v (dead-out (outputs w) l v (and-r (pure w) (noneIn (outputs w) l) d) q))
 
-    pub still-prune : (r : Prog L) (k k′ : Known (L .Val)) → Still r k → ((v : ℕ) → note r v ≡ true → k v ≡ k′ v) → Still (pruneBy L note r) k′
+    pub still-prune : (r : Prog L) (k k′ : Known (L .Val)) → Still L rule r k → ((v : ℕ) → note r v ≡ true → k v ≡ k′ v) → Still L rule (pruneBy L note r) k′
     still-prune [] k k′ h a = tt
     still-prune (o ∷ r) k k′ h a = go (tell (dead w (note r))) (λ j. still-prune r (learned k w) j (h .1))
       where
@@ -108,23 +96,22 @@ module _ (L : Lang) (rule : Rule L) where
         w = L .view o
 
         go : (dead w (note r) ≡ true) ⊎ (dead w (note r) ≡ false)
-            → ((j : Known (L .Val)) → ((v : ℕ) → note r v ≡ true → learned k w v ≡ j v) → Still (pruneBy L note r) j)
-            → Still (pruneBy L note (o ∷ r)) k′
+            → ((j : Known (L .Val)) → ((v : ℕ) → note r v ≡ true → learned k w v ≡ j v) → Still L rule (pruneBy L note r) j)
+            → Still L rule (pruneBy L note (o ∷ r)) k′
         go (inl d) ih = rw d (ih k′ (λ v q. learned-dead w (note r) k v d q ∙ a v (keeps .drop-live o r v d q)))
         go (inr d) ih =
-            let e : reads k (inputs w) ≡ reads k′ (inputs w) = reads-same k k′ (inputs w) (λ v q. a v (keeps .in-live o r v d q)) in
+            let e : rule k o ≡ rule k′ o = good .near k k′ o (λ v q. a v (keeps .in-live o r v d q)) in
             rw d (rw e at (h .0), ih (learned k′ w) (learned-live o r k k′ d a))
 
   module _ (glob kept : Vars) where
-    module _ (good : Settles) where
-      -- no op of the pass's result folds
-      pub pass-still : (b : Prog L) → Still (pass L rule glob kept b) nothing
-      pass-still b = still-prune (live L glob kept) (base-keeps L glob kept) (fold L rule b (on nothing)) nothing nothing (fold-still good b) (λ v q. refl)
+    -- no op of the pass's result folds
+    pub pass-still : (b : Prog L) → Still L rule (pass L rule glob kept b) nothing
+    pass-still b = still-prune (live L glob kept) (base-keeps L glob kept) (fold L rule b (on nothing)) nothing nothing (fold-still b) (λ v q. refl)
 
-      -- no pure op of it has dead outputs
-      pub pass-used : (b : Prog L) → AllUsed L glob kept (pass L rule glob kept b)
-      pass-used b = prune-used L glob kept (fold L rule b (on nothing))
+    -- no pure op of it has dead outputs
+    pub pass-used : (b : Prog L) → AllUsed L glob kept (pass L rule glob kept b)
+    pass-used b = prune-used L glob kept (fold L rule b (on nothing))
 
-      -- the pass done again changes nothing
-      pub pass-again : (b : Prog L) → pass L rule glob kept (pass L rule glob kept b) ≡ pass L rule glob kept b
-      pass-again b = ap (prune L glob kept) (still-same (pass L rule glob kept b) nothing (pass-still b)) ∙ used-same L glob kept (pass L rule glob kept b) (pass-used b)
+    -- the pass done again changes nothing
+    pub pass-again : (b : Prog L) → pass L rule glob kept (pass L rule glob kept b) ≡ pass L rule glob kept b
+    pass-again b = ap (prune L glob kept) (still-same (pass L rule glob kept b) nothing (pass-still b)) ∙ used-same L glob kept (pass L rule glob kept b) (pass-used b)

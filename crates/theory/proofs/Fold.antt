@@ -7,18 +7,14 @@ use mathlib.Core.Logic.{_⊎_, inl, inr}
 use Prim.Native.Nat.{ℕ}
 use lib.Dec.{eqb}
 use Rattle.theory.specs.Fold.{Known, nothing, Rewrite, put, omit, cut, Mode, on, off, somes, given, gain, learned, Rule, emit}
-use Rattle.theory.specs.Fold.{ruleAt, fold}
+use Rattle.theory.specs.Fold.{fold}
 use Rattle.theory.specs.Machine.{Touch, faults, gives, always, when, Way, to, out, View, calc, access, label, flow, Lang}
-use Rattle.theory.specs.Machine.{unstated, State, Effect, falls, jumps, stops, headOr, tailOf, upd, reads, writes, anyLabel}
-use Rattle.theory.specs.Machine.{isLabel, afterCalc, afterAccess, sent, effect, St, Prog, Effects, All, seek, moved, runs}
+use Rattle.theory.specs.Machine.{unstated, State, Effect, falls, jumps, stops, headOr, tailOf, upd, reads, writes, isSome}
+use Rattle.theory.specs.Machine.{anyLabel, isLabel, afterCalc, afterAccess, sent, effect, St, Prog, Effects, All, seek, moved, runs}
+use Rattle.theory.proofs.Law.{Right, As, Fits, Lawful}
 use Rattle.theory.proofs.Sets.{tell}
 use Rattle.theory.proofs.Simulation.{definite, Follows, drops, moves, ends, open-end, Matches, simulates}
 use Rattle.theory.proofs.Views.{label-closes, no-some, label-any, any-none}
-
-module _ {Val : Type 0} where
-  -- what is known is so
-  abbrev pub Right : Known Val → (ℕ → Val) → Type 0
-  Right k e = (v : ℕ) (x : Val) → k v ≡ some x → e v ≡ x
 
 pub gain-none : {Val : Type 0} (ins : List ℕ) → gain {Val = Val} ins (λ xs. none) ≡ []
 gain-none [] = refl
@@ -90,36 +86,34 @@ seek-all L P k (o ∷ r) h = go (isLabel k (L .view o)) (seek-all L P k r (h .1)
     go true ih = h
     go false ih = ih
 
--- what a rule of fold has to show, once for each op that it puts in place.
--- Ok: what the check says of an op; Fit: what it then says of the values that variables hold, as that each fits its width
-pub record Sound (L : Lang) (rule : Rule L) (Ok : L .Op → Type 0) (Fit : (ℕ → L .Val) → Type 0) : Type 0 where
-  pub fits : (o : L .Op) (s : St L) → Ok o → Fit (s .env) → Leaves (L .zeroV) (λ t. Fit (t .env)) (effect (L .zeroV) (L .view o) s)
-  pub put-right : (k : Known (L .Val)) (o o′ : L .Op) (s : St L) → ruleAt L rule k o ≡ put o′ → Right k (s .env) → Ok o → Fit (s .env)
-      → (effect (L .zeroV) (L .view o) s ≡ stops unstated) ⊎ (effect (L .zeroV) (L .view o′) s ≡ effect (L .zeroV) (L .view o) s)
-  pub omit-right : (k : Known (L .Val)) (o : L .Op) (s : St L) → ruleAt L rule k o ≡ omit → Right k (s .env) → Ok o → Fit (s .env)
-      → (effect (L .zeroV) (L .view o) s ≡ stops unstated) ⊎ (effect (L .zeroV) (L .view o) s ≡ falls s)
-  pub cut-right : (k : Known (L .Val)) (o o′ : L .Op) (s : St L) → ruleAt L rule k o ≡ cut o′ → Right k (s .env) → Ok o → Fit (s .env)
-      → (j : ℕ) × (effect (L .zeroV) (L .view o) s ≡ jumps j) × (effect (L .zeroV) (L .view o′) s ≡ jumps j)
-  -- labels stay, and no other op becomes one
-  pub label-stays : (k : Known (L .Val)) (o : L .Op) → anyLabel (L .view o) ≡ true → ruleAt L rule k o ≡ put o
-  pub put-plain : (k : Known (L .Val)) (o o′ : L .Op) → anyLabel (L .view o) ≡ false → ruleAt L rule k o ≡ put o′ → anyLabel (L .view o′) ≡ false
-  pub cut-plain : (k : Known (L .Val)) (o o′ : L .Op) → ruleAt L rule k o ≡ cut o′ → anyLabel (L .view o′) ≡ false
+-- what an op leaves fits, if the check accepts the op
+abbrev pub Fitting : (L : Lang) → (L .Op → Type 0) → ((ℕ → L .Val) → Type 0) → Type 0
+Fitting L Ok Fit = (o : L .Op) (s : St L) → Ok o → Fit (s .env) → Leaves (L .zeroV) (λ t. Fit (t .env)) (effect (L .zeroV) (L .view o) s)
 
-module _ (L : Lang) (rule : Rule L) (Ok : L .Op → Type 0) (Fit : (ℕ → L .Val) → Type 0) (good : Sound L rule Ok Fit) where
+-- where nothing is said of the values, anything fits
+pub any-fits : (L : Lang) → Fitting L (λ o. Unit {0}) (λ e. Unit {0})
+any-fits L o s c f = go (effect (L .zeroV) (L .view o) s)
+  where
+    go : (x : Effects L) → Leaves (L .zeroV) (λ t. Unit {0}) x
+    go (falls t) = tt
+    go (jumps j) = tt
+    go (stops e) = tt
+
+module _ (L : Lang) (rule : Rule L) (Ok : L .Op → Type 0) (Fit : (ℕ → L .Val) → Type 0) (fitting : Fitting L Ok Fit) (good : Lawful L Ok Fit rule) where
   -- at a label fold starts anew, whatever it knew
   fold-label : (o : L .Op) (r : Prog L) (m : Mode (L .Val)) → anyLabel (L .view o) ≡ true → fold L rule (o ∷ r) m ≡ o ∷ fold L rule r (on nothing)
-  fold-label o r (on k) e = rw (good .label-stays k o e, any-learned k (L .view o) e)
+  fold-label o r (on k) e = rw (good .stays k o e, any-learned k (L .view o) e)
   fold-label o r off e = rw e
 
   -- any other op is no label after fold
   fold-plain : (j : ℕ) (o : L .Op) (r : Prog L) (m : Mode (L .Val)) → anyLabel (L .view o) ≡ false
       → (n : Mode (L .Val)) × (seek L j (fold L rule (o ∷ r) m) ≡ seek L j (fold L rule r n))
-  fold-plain j o r (on k) e = go (ruleAt L rule k o) refl
+  fold-plain j o r (on k) e = go (rule k o) (good .fits k o)
     where
-      go : (x : Rewrite (L .Op)) → ruleAt L rule k o ≡ x → (n : Mode (L .Val)) × (seek L j (emit L rule k (fold L rule r) x) ≡ seek L j (fold L rule r n))
-      go (put o′) q = (on (learned k (L .view o′)), rw (any-none j (L .view o′) (good .put-plain k o o′ e q)))
+      go : (x : Rewrite (L .Op)) → Fits L Ok o x → (n : Mode (L .Val)) × (seek L j (emit L rule k (fold L rule r) x) ≡ seek L j (fold L rule r n))
+      go (put o′) q = (on (learned k (L .view o′)), rw (any-none j (L .view o′) (ap isSome (q .3) ∙ e)))
       go omit q = (on k, refl)
-      go (cut o′) q = (off, rw (any-none j (L .view o′) (good .cut-plain k o o′ q)))
+      go (cut o′) q = (off, rw (any-none j (L .view o′) (q .1)))
   fold-plain j o r off e = (off, rw e)
 
   seek-fold : (j : ℕ) (r : Prog L) (m : Mode (L .Val)) → seek L j (fold L rule r m) ≡ fold L rule (seek L j r) (on nothing)
@@ -150,15 +144,14 @@ module _ (L : Lang) (rule : Rule L) (Ok : L .Op → Type 0) (Fit : (ℕ → L .V
     at-fold : (r : Prog L) (s : St L) (k : Known (L .Val)) → Right k (s .env) → All Ok r → Fit (s .env)
         → Follows L b made Folded (λ x y. y ≡ x) r s (fold L rule r (on k)) s
     at-fold [] s k h c f = ends refl refl refl
-    at-fold (o ∷ r) s k h c f = go (ruleAt L rule k o) refl
+    at-fold (o ∷ r) s k h c f = go (rule k o) (good .does k o s h (c .0) f)
       where
         z : L .Val
         z = L .zeroV
 
-        puts : (o′ : L .Op) → (effect z (L .view o) s ≡ stops unstated) ⊎ (effect z (L .view o′) s ≡ effect z (L .view o) s)
-            → Follows L b made Folded (λ x y. y ≡ x) (o ∷ r) s (o′ ∷ fold L rule r (on (learned k (L .view o′)))) s
-        puts o′ (inl e) = open-end (ap (moved L b r s) e)
-        puts o′ (inr e) = by (effect z (L .view o′) s) refl (right-learned z (L .view o′) k s h) (rw e (good .fits o s (c .0) f))
+        go : (x : Rewrite (L .Op)) → (effect z (L .view o) s ≡ stops unstated) ⊎ As L s o x → Follows L b made Folded (λ x y. y ≡ x) (o ∷ r) s (emit L rule k (fold L rule r) x) s
+        go x (inl e) = open-end (ap (moved L b r s) e)
+        go (put o′) (inr e) = by (effect z (L .view o′) s) refl (right-learned z (L .view o′) k s h) (rw e (fitting o s (c .0) f))
           where
             by : (x : Effects L) → effect z (L .view o′) s ≡ x → Leaves z (λ t. Right (learned k (L .view o′)) (t .env)) x → Leaves z (λ t. Fit (t .env)) x
                 → Follows L b made Folded (λ x y. y ≡ x) (o ∷ r) s (o′ ∷ fold L rule r (on (learned k (L .view o′)))) s
@@ -169,22 +162,10 @@ module _ (L : Lang) (rule : Rule L) (Ok : L .Op → Type 0) (Fit : (ℕ → L .V
                 moves (ap (moved L b r s) (sym e ∙ q)) (ap (moved L made (fold L rule r (on (learned k (L .view o′)))) s) q)
                 (record { k = nothing; prog = seek-fold j b (on nothing); right = right-nothing z (s .env); oks = seek-all L Ok j b all; fit = f; same = refl })
             by (stops x) q l g = ends (ap (moved L b r s) (sym e ∙ q)) (ap (moved L made (fold L rule r (on (learned k (L .view o′)))) s) q) refl
-
-        omits : (effect z (L .view o) s ≡ stops unstated) ⊎ (effect z (L .view o) s ≡ falls s)
-            → Follows L b made Folded (λ x y. y ≡ x) (o ∷ r) s (fold L rule r (on k)) s
-        omits (inl e) = open-end (ap (moved L b r s) e)
-        omits (inr e) = drops (ap (moved L b r s) e) (record { k = k; prog = refl; right = h; oks = c .1; fit = f; same = refl })
-
-        cuts : (o′ : L .Op) → (j : ℕ) × (effect z (L .view o) s ≡ jumps j) × (effect z (L .view o′) s ≡ jumps j)
-            → Follows L b made Folded (λ x y. y ≡ x) (o ∷ r) s (o′ ∷ fold L rule r off) s
-        cuts o′ p =
+        go omit (inr e) = drops (ap (moved L b r s) e) (record { k = k; prog = refl; right = h; oks = c .1; fit = f; same = refl })
+        go (cut o′) (inr p) =
             moves (ap (moved L b r s) (p .1)) (ap (moved L made (fold L rule r off) s) (p .2))
             (record { k = nothing; prog = seek-fold (p .0) b (on nothing); right = right-nothing z (s .env); oks = seek-all L Ok (p .0) b all; fit = f; same = refl })
-
-        go : (x : Rewrite (L .Op)) → ruleAt L rule k o ≡ x → Follows L b made Folded (λ x y. y ≡ x) (o ∷ r) s (emit L rule k (fold L rule r) x) s
-        go (put o′) q = puts o′ (good .put-right k o o′ s q h (c .0) f)
-        go omit q = omits (good .omit-right k o s q h (c .0) f)
-        go (cut o′) q = cuts o′ (good .cut-right k o o′ s q h (c .0) f)
 
     folded-follows : (r : Prog L) (s : St L) (r′ : Prog L) (s′ : St L) → Folded r s r′ s′ → Follows L b made Folded (λ x y. y ≡ x) r s r′ s′
     folded-follows r s r′ s′ x = rw (x .prog, x .same) (at-fold r s (x .k) (x .right) (x .oks) (x .fit))

@@ -3,6 +3,7 @@ pub mod Views
 pub mod Simulation
 pub mod PruneBy
 pub mod Liveness
+pub mod Law
 pub mod Fold
 pub mod Again
 pub mod Rule

@@ -1,22 +1,21 @@
--- Document 01's rule for fold is sound: it replaces an op only by its stated result, and leaves alone what it puts in place. Assumes nothing.
+-- Document 01's rule for fold has the laws: it replaces an op only by its stated result, and leaves alone what it puts in place. Assumes nothing.
 use mathlib.Core.Path.{_≡_, refl, sym, ap, subst}
-use mathlib.Core.Bool.{Bool, true, false, cond, _&&_}
+use mathlib.Core.Bool.{Bool, true, false, cond, _&&_, false≢true}
 use mathlib.Core.Option.{Option, none, some}
 use mathlib.Core.List.{List, [], _∷_}
-use mathlib.Core.Logic.{_⊎_, inr}
+use mathlib.Core.Logic.{inr}
 use Prim.Native.Nat.{ℕ}
-use Rattle.theory.specs.Fold.{Known, Rewrite, put, omit, cut, learned, ruleAt, Folding, consO, allKnown, bindO, tried, baseRule}
-use Rattle.theory.specs.Fold.{ReplacesNone}
-use Rattle.theory.specs.Machine.{calc, Lang, unstated, falls, jumps, stops, headOr, reads, isSome, inputs, outputs, computes}
-use Rattle.theory.specs.Machine.{anyLabel, afterCalc, effect, St, Prog, Viewed, Effects}
-use Rattle.theory.proofs.Again.{Settles, Still}
-use Rattle.theory.proofs.Fold.{Right, Leaves, Sound}
-use Rattle.theory.proofs.Sets.{clash}
-use Rattle.theory.proofs.Views.{no-some, computes-calc, label-is, label-stays}
+use Rattle.theory.specs.Fold.{Known, Rewrite, put, Folding, consO, allKnown, bindO, tried}
+use Rattle.theory.specs.Fold.{baseRule}
+use Rattle.theory.specs.Machine.{calc, Lang, headOr, reads, isSome, inputs, outputs, computes, closes, labelOf, afterCalc}
+use Rattle.theory.specs.Machine.{effect, St, Viewed}
+use Rattle.theory.proofs.Law.{Right, effects, As, Fits, Rests, Lawful}
+use Rattle.theory.proofs.Sets.{clash, reads-same}
+use Rattle.theory.proofs.Views.{no-some, computes-calc, label-is}
 
 module _ {Val : Type 0} where
   -- the known values of the inputs are their values
-  known-right : (k : Known Val) (e : ℕ → Val) (is : List ℕ) (xs : List Val) → Right k e → allKnown (reads k is) ≡ some xs → reads e is ≡ xs
+  pub known-right : (k : Known Val) (e : ℕ → Val) (is : List ℕ) (xs : List Val) → Right k e → allKnown (reads k is) ≡ some xs → reads e is ≡ xs
   known-right k e [] xs r q = cc
   known-right k e (i ∷ is) xs r q = go (λ ys. known-right k e is ys r) (k i) refl q
     where
@@ -38,114 +37,76 @@ pub record Constants (L : Lang) (fo : Folding L) : Type 0 where
   pub const-fixed : (o : L .Op) (v : L .Val) → fo .foldable o ≡ true → fo .foldable (fo .const o v) ≡ false
 
 module _ (L : Lang) (fo : Folding L) (law : Constants L fo) where
-  -- how the rule comes to put o′ for o
-  pub data Puts (k : Known (L .Val)) (o o′ : L .Op) : Type 0 where
-    same : o ≡ o′ → Puts k o o′
+  -- what the rule comes to
+  pub data Puts (k : Known (L .Val)) (o : L .Op) : Rewrite (L .Op) → Type 0 where
+    same : Puts k o (put o)
     folds : (xs vs : List (L .Val)) → fo .foldable o ≡ true → allKnown (reads k (inputs (L .view o))) ≡ some xs → computes (L .view o) xs ≡ some vs
-        → o′ ≡ fo .const o (headOr (L .zeroV) vs) → L .view o′ ≡ calc (law .out o ∷ []) [] (λ xs. some (headOr (L .zeroV) vs ∷ [])) → Puts k o o′
+        → Puts k o (put (fo .const o (headOr (L .zeroV) vs)))
 
-  pub puts : (k : Known (L .Val)) (o o′ : L .Op) → ruleAt L (baseRule L fo) k o ≡ put o′ → Puts k o o′
-  puts k o o′ q = go (fo .foldable o) refl q
+  pub puts : (k : Known (L .Val)) (o : L .Op) → Puts k o (baseRule L fo k o)
+  puts k o = go (fo .foldable o) refl
     where
-      f : List (L .Val) → Option (List (L .Val))
-      f = computes (L .view o)
+      with-result : fo .foldable o ≡ true → (xs : List (L .Val)) → allKnown (reads k (inputs (L .view o))) ≡ some xs → (y : Option (List (L .Val))) → computes (L .view o) xs ≡ y
+          → Puts k o (tried L fo o y)
+      with-result c xs h none g = same
+      with-result c xs h (some vs) g = folds xs vs c h g
 
-      ks : List (Option (L .Val))
-      ks = reads k (inputs (L .view o))
+      with-known : fo .foldable o ≡ true → (x : Option (List (L .Val))) → allKnown (reads k (inputs (L .view o))) ≡ x → Puts k o (tried L fo o (bindO (computes (L .view o)) x))
+      with-known c none h = same
+      with-known c (some xs) h = with-result c xs h (computes (L .view o) xs) refl
 
-      with-result : fo .foldable o ≡ true → (xs : List (L .Val)) → allKnown ks ≡ some xs → (y : Option (List (L .Val))) → f xs ≡ y → tried L fo o y ≡ put o′ → Puts k o o′
-      with-result c xs h none g p = same (cc)
-      with-result c xs h (some vs) g p =
-          let o-is : o′ ≡ fo .const o (headOr (L .zeroV) vs) = cc in
-          folds xs vs c h g o-is (rw o-is (law .const-view o xs vs c g))
+      go : (b : Bool) → fo .foldable o ≡ b → Puts k o (cond b (tried L fo o (bindO (computes (L .view o)) (allKnown (reads k (inputs (L .view o)))))) (put o))
+      go true c = with-known c (allKnown (reads k (inputs (L .view o)))) refl
+      go false c = same
 
-      with-known : fo .foldable o ≡ true → (x : Option (List (L .Val))) → allKnown ks ≡ x → tried L fo o (bindO f x) ≡ put o′ → Puts k o o′
-      with-known c none h p = same (cc)
-      with-known c (some xs) h p = with-result c xs h (f xs) refl p
-
-      go : (b : Bool) → fo .foldable o ≡ b → cond b (tried L fo o (bindO f (allKnown ks))) (put o) ≡ put o′ → Puts k o o′
-      go true c p = with-known c (allKnown ks) refl p
-      go false c p = same (cc)
-
-  abbrev pub IsPut : Rewrite (L .Op) → Type 0
-  IsPut (put o) = Unit {0}
-  IsPut omit = ⊥
-  IsPut (cut o) = ⊥
-
-  -- the rule only puts
-  pub only-puts : (o : L .Op) (ks : List (Option (L .Val))) → IsPut (baseRule L fo o ks)
-  only-puts o ks = go (fo .foldable o) (bindO (computes (L .view o)) (allKnown ks))
+  -- an op that computes nothing stays
+  pub base-stays : (k : Known (L .Val)) (o : L .Op) → ((xs : List (L .Val)) → computes (L .view o) xs ≡ none) → baseRule L fo k o ≡ put o
+  base-stays k o h = go (fo .foldable o) (allKnown (reads k (inputs (L .view o))))
     where
-      go : (b : Bool) (x : Option (List (L .Val))) → IsPut (cond b (tried L fo o x) (put o))
-      go true none = tt
-      go true (some vs) = tt
-      go false x = tt
+      go : (b : Bool) (x : Option (List (L .Val))) → cond b (tried L fo o (bindO (computes (L .view o)) x)) (put o) ≡ put o
+      go true none = refl
+      go true (some xs) = rw (h xs)
+      go false x = refl
 
-  pub no-omit {ℓ} : {A : Type ℓ} (k : Known (L .Val)) (o : L .Op) → ruleAt L (baseRule L fo) k o ≡ omit → A
-  no-omit k o q = absurd (subst IsPut q (only-puts o (reads k (inputs (L .view o)))))
+  module _ (Ok : L .Op → Type 0) (Fit : (ℕ → L .Val) → Type 0)
+      (const-ok : (o : L .Op) (xs vs : List (L .Val)) → fo .foldable o ≡ true → computes (L .view o) xs ≡ some vs → Ok o → Ok (fo .const o (headOr (L .zeroV) vs))) where
+    pub base-lawful : Lawful L Ok Fit (baseRule L fo)
+    base-lawful =
+        record {
+          does = λ k o s r c f. inr (does k o s r (baseRule L fo k o) (puts k o));
+          fits = λ k o. fits k o (baseRule L fo k o) (puts k o);
+          rests = λ k o. rests k o (baseRule L fo k o) refl (puts k o);
+          stays = λ k o e. let p = label-is (L .view o) e in base-stays k o (rw (p .1) (λ xs. refl));
+          near = λ k k′ o h. rw (reads-same k k′ (inputs (L .view o)) h);
+        }
+      where
+        does : (k : Known (L .Val)) (o : L .Op) (s : St L) → Right k (s .env) → (x : Rewrite (L .Op)) → Puts k o x → As L s o x
+        does k o s r x same = refl
+        does k o s r x (folds xs vs c h g) =
+            let y : reads (s .env) (inputs (L .view o)) ≡ xs = known-right k (s .env) (inputs (L .view o)) xs r h in
+            let e : effects L o s ≡ afterCalc (L .zeroV) (outputs (L .view o)) s (computes (L .view o) (reads (s .env) (inputs (L .view o))))
+            = ap (λ (u : Viewed L). effect (L .zeroV) u s) (computes-calc (L .view o) xs vs g) in
+            rw (law .const-view o xs vs c g, e, y, g, law .one-out o xs vs c g)
 
-  pub no-cut {ℓ} : {A : Type ℓ} (k : Known (L .Val)) (o o′ : L .Op) → ruleAt L (baseRule L fo) k o ≡ cut o′ → A
-  no-cut k o o′ q = absurd (subst IsPut q (only-puts o (reads k (inputs (L .view o)))))
+        fits : (k : Known (L .Val)) (o : L .Op) (x : Rewrite (L .Op)) → Puts k o x → Fits L Ok o x
+        fits k o x same = (λ v h. h, refl, refl, refl, λ c. c)
+        fits k o x (folds xs vs c h g) =
+            let e : L .view o ≡ calc (outputs (L .view o)) (inputs (L .view o)) (computes (L .view o)) = computes-calc (L .view o) xs vs g in
+            rw (law .const-view o xs vs c g) (λ v q. absurd (false≢true q), sym (law .one-out o xs vs c g), sym (ap closes e), sym (ap labelOf e), const-ok o xs vs c g)
 
-  stays : (k : Known (L .Val)) (o : L .Op) → anyLabel (L .view o) ≡ true → ruleAt L (baseRule L fo) k o ≡ put o
-  stays k o e = let p = label-is (L .view o) e in rw (p .1) (go (fo .foldable o))
-    where
-      go : (b : Bool) → cond b (put o) (put o) ≡ put o
-      go true = refl
-      go false = refl
+        rests : (k : Known (L .Val)) (o : L .Op) (x : Rewrite (L .Op)) → baseRule L fo k o ≡ x → Puts k o x → Rests L (baseRule L fo) k x
+        rests k o x e same = e
+        rests k o x e (folds xs vs c h g) = rw (law .const-fixed o (headOr (L .zeroV) vs) c)
 
-  plain : (k : Known (L .Val)) (o o′ : L .Op) → anyLabel (L .view o) ≡ false → Puts k o o′ → anyLabel (L .view o′) ≡ false
-  plain k o o′ e (same q) = rw q at e
-  plain k o o′ e (folds xs vs c h g p w) = rw w
-
-  -- document 01's rule needs nothing of the values
-  pub base-sound : Sound L (baseRule L fo) (λ o. Unit {0}) (λ e. Unit {0})
-  base-sound =
-      record {
-        fits = λ o s c f. nothing-of (effect (L .zeroV) (L .view o) s);
-        put-right = λ k o o′ s q r c f. right k o o′ s r (puts k o o′ q);
-        omit-right = λ k o s q r c f. no-omit k o q;
-        cut-right = λ k o o′ s q r c f. no-cut k o o′ q;
-        label-stays = stays;
-        put-plain = λ k o o′ e q. plain k o o′ e (puts k o o′ q);
-        cut-plain = λ k o o′ q. no-cut k o o′ q;
-      }
-    where
-      nothing-of : (x : Effects L) → Leaves (L .zeroV) (λ t. Unit {0}) x
-      nothing-of (falls t) = tt
-      nothing-of (jumps j) = tt
-      nothing-of (stops e) = tt
-
-      right : (k : Known (L .Val)) (o o′ : L .Op) (s : St L) → Right k (s .env) → Puts k o o′
-          → (effect (L .zeroV) (L .view o) s ≡ stops unstated) ⊎ (effect (L .zeroV) (L .view o′) s ≡ effect (L .zeroV) (L .view o) s)
-      right k o o′ s r (same e) = inr (ap (λ (x : L .Op). effect (L .zeroV) (L .view x) s) (sym e))
-      right k o o′ s r (folds xs vs c h g p w) =
-          let y : reads (s .env) (inputs (L .view o)) ≡ xs = known-right k (s .env) (inputs (L .view o)) xs r h in
-          let e : effect (L .zeroV) (L .view o) s ≡ afterCalc (L .zeroV) (outputs (L .view o)) s (computes (L .view o) (reads (s .env) (inputs (L .view o))))
-          = ap (λ (u : Viewed L). effect (L .zeroV) u s) (computes-calc (L .view o) xs vs g) in
-          inr (rw (w, e, y, g, law .one-out o xs vs c g))
-
-  pub base-settles : Settles L (baseRule L fo)
-  base-settles =
-      record {
-        put-stays = λ k o o′ q. again k o o′ q (puts k o o′ q);
-        cut-stays = λ k o o′ q. no-cut k o o′ q;
-        any-stays = stays;
-      }
-    where
-      again : (k : Known (L .Val)) (o o′ : L .Op) → ruleAt L (baseRule L fo) k o ≡ put o′ → Puts k o o′ → ruleAt L (baseRule L fo) k o′ ≡ put o′
-      again k o o′ q (same e) = subst (λ (x : L .Op). ruleAt L (baseRule L fo) k x ≡ put o′) e q
-      again k o o′ q (folds xs vs c h g p w) = rw (w, p, law .const-fixed o (headOr (L .zeroV) vs) c)
-
-  none-replaced : (b : Bool) (y : Option (List (L .Val))) (o : L .Op) → fo .foldable o ≡ b → cond b (tried L fo o y) (put o) ≡ put o → (b && isSome y) ≡ false
-  none-replaced true none o c q = refl
-  none-replaced true (some vs) o c q =
+  still-none : (b : Bool) (y : Option (List (L .Val))) (o : L .Op) → fo .foldable o ≡ b → cond b (tried L fo o y) (put o) ≡ put o → (b && isSome y) ≡ false
+  still-none true none o c q = refl
+  still-none true (some vs) o c q =
       let e : fo .const o (headOr (L .zeroV) vs) ≡ o = cc in
       let d : fo .foldable o ≡ false = subst (λ (x : L .Op). fo .foldable x ≡ false) e (law .const-fixed o (headOr (L .zeroV) vs) c) in
       clash (fo .foldable o) c d
-  none-replaced false y o c q = refl
+  still-none false y o c q = refl
 
-  pub still-none : (r : Prog L) (k : Known (L .Val)) → Still L (baseRule L fo) r k → ReplacesNone L fo r k
-  still-none [] k h = tt
-  still-none (o ∷ r) k h =
-      (none-replaced (fo .foldable o) (bindO (computes (L .view o)) (allKnown (reads k (inputs (L .view o))))) o refl (h .0), still-none r (learned k (L .view o)) (h .1))
+  -- an op that fold leaves as it is may not fold, or an input is not known, or no result is stated
+  pub none-foldable : (k : Known (L .Val)) (o : L .Op) → baseRule L fo k o ≡ put o
+      → (fo .foldable o && isSome (bindO (computes (L .view o)) (allKnown (reads k (inputs (L .view o)))))) ≡ false
+  none-foldable k o q = still-none (fo .foldable o) (bindO (computes (L .view o)) (allKnown (reads k (inputs (L .view o))))) o refl q

@@ -6,17 +6,16 @@ use mathlib.Core.Logic.{_⊎_, inl, inr}
 use Prim.Native.Nat.{ℕ}
 use lib.Dec.{eqb}
 use borrow.Author.Tests.{eq-eqb}
-use Rattle.theory.specs.Fold.{Known, nothing, Rewrite, put, omit, cut, Mode, on, off, learned, Rule, emit, resume, ruleAt, fold}
-use Rattle.theory.specs.Fold.{pass, Folding, baseRule}
+use Rattle.theory.specs.Fold.{nothing, Rewrite, put, omit, cut, Mode, on, off, learned, Rule, emit, resume, fold, pass}
 use Rattle.theory.specs.Machine.{View, Lang, inputs, outputs, closes, anyLabel, Prog, Viewed}
 use Rattle.theory.specs.Prune.{dead, pruneBy, live}
 use Rattle.theory.specs.Scope.{mayRead, wrote, scoped}
 use Rattle.theory.specs.Sets.{Vars, empty, has, plus, allIn}
+use Rattle.theory.proofs.Law.{Among, Fits, Lawful}
 use Rattle.theory.proofs.Liveness.{base-keeps, live-scoped}
 use Rattle.theory.proofs.PruneBy.{Keeps}
-use Rattle.theory.proofs.Rule.{Constants, Puts, same, folds, puts, no-omit, no-cut}
-use Rattle.theory.proofs.Sets.{or-l, or-r, and-l, and-r, and-i, tell}
-use Rattle.theory.proofs.Views.{computes-calc, label-is}
+use Rattle.theory.proofs.Sets.{or-cases, or-l, or-r, and-l, and-r, and-i, tell, in-all, or-no}
+use Rattle.theory.proofs.Views.{label-is}
 
 or-mono : (a h u u′ : Bool) → ((a || u) ≡ true → (a || u′) ≡ true) → (a || (h || u)) ≡ true → (a || (h || u′)) ≡ true
 or-mono true h u u′ f p = refl
@@ -48,22 +47,15 @@ module _ (kept : Vars) where
         go true p = p
         go false p = or-mono (kept v) (has (outputs w) v) (u v) (u′ v) (h v) p
 
--- what a rule of fold has to show of what it puts in place
-pub record Scopes (L : Lang) (kept : Vars) (rule : Rule L) : Type 0 where
-  pub put-scope : (k : Known (L .Val)) (o o′ : L .Op) (u : Vars) → ruleAt L rule k o ≡ put o′ → mayRead kept u (L .view o) ≡ true
-      → (mayRead kept u (L .view o′) ≡ true) × Le kept (wrote u (L .view o)) (wrote u (L .view o′))
-  pub omit-scope : (k : Known (L .Val)) (o : L .Op) (u : Vars) → ruleAt L rule k o ≡ omit → mayRead kept u (L .view o) ≡ true → Le kept (wrote u (L .view o)) u
-  pub cut-scope : (k : Known (L .Val)) (o o′ : L .Op) (u : Vars) → ruleAt L rule k o ≡ cut o′ → mayRead kept u (L .view o′) ≡ true
-
-module _ (L : Lang) (kept : Vars) (rule : Rule L) (good : Scopes L kept rule) where
+module _ (L : Lang) (kept : Vars) (Ok : L .Op → Type 0) (Fit : (ℕ → L .Val) → Type 0) (rule : Rule L) (good : Lawful L Ok Fit rule) where
   -- on: with more written than in the source; off: with anything written
-  abbrev Fits : Mode (L .Val) → Vars → Vars → Type 0
-  Fits (on k) u u′ = Le kept u u′
-  Fits off u u′ = Unit {0}
+  abbrev Within : Mode (L .Val) → Vars → Vars → Type 0
+  Within (on k) u u′ = Le kept u u′
+  Within off u u′ = Unit {0}
 
-  pub fold-scoped : (r : Prog L) (m : Mode (L .Val)) (u u′ : Vars) → Fits m u u′ → scoped L kept u r ≡ true → scoped L kept u′ (fold L rule r m) ≡ true
+  pub fold-scoped : (r : Prog L) (m : Mode (L .Val)) (u u′ : Vars) → Within m u u′ → scoped L kept u r ≡ true → scoped L kept u′ (fold L rule r m) ≡ true
   fold-scoped [] m u u′ h c = refl
-  fold-scoped (o ∷ r) (on k) u u′ h c = go (ruleAt L rule k o) refl (λ m x h′. fold-scoped r m (wrote u w) x h′ (and-r (mayRead kept u w) (scoped L kept (wrote u w) r) c))
+  fold-scoped (o ∷ r) (on k) u u′ h c = go (rule k o) (good .fits k o) (λ m x h′. fold-scoped r m (wrote u w) x h′ (and-r (mayRead kept u w) (scoped L kept (wrote u w) r) c))
     where
       w : Viewed L
       w = L .view o
@@ -71,23 +63,42 @@ module _ (L : Lang) (kept : Vars) (rule : Rule L) (good : Scopes L kept rule) wh
       m₁ : mayRead kept u′ w ≡ true
       m₁ = all-more kept (inputs w) u u′ h (and-l (mayRead kept u w) (scoped L kept (wrote u w) r) c)
 
-      go : (x : Rewrite (L .Op)) → ruleAt L rule k o ≡ x
-          → ((m : Mode (L .Val)) (y : Vars) → Fits m (wrote u w) y → scoped L kept y (fold L rule r m) ≡ true)
+      -- what reads no more may be read
+      fewer : (o′ : L .Op) → Among (inputs (L .view o′)) (inputs w) → mayRead kept u′ (L .view o′) ≡ true
+      fewer o′ y = all-in kept (inputs (L .view o′)) u′ (λ v q. in-all kept (inputs w) u′ v m₁ (y v q))
+
+      -- an op that is omitted writes what it reads
+      omits : Among (outputs w) (inputs w) → Le kept (wrote u′ w) u′
+      omits y v = by (closes w)
+        where
+          at : (kept v ≡ true) ⊎ ((has (outputs w) v || u′ v) ≡ true) → (kept v || u′ v) ≡ true
+          at (inl e) = or-l (kept v) (u′ v) e
+          at (inr e) = or-else (or-cases (has (outputs w) v) (u′ v) e)
+            where
+              or-else : (has (outputs w) v ≡ true) ⊎ (u′ v ≡ true) → (kept v || u′ v) ≡ true
+              or-else (inl q) = in-all kept (inputs w) u′ v m₁ (y v q)
+              or-else (inr q) = or-r (kept v) (u′ v) q
+
+          by : (x : Bool) → (kept v || cond x empty (plus u′ (outputs w)) v) ≡ true → (kept v || u′ v) ≡ true
+          by true q = or-l (kept v) (u′ v) (or-no (kept v) q)
+          by false q = at (or-cases (kept v) (has (outputs w) v || u′ v) q)
+
+      go : (x : Rewrite (L .Op)) → Fits L Ok o x
+          → ((m : Mode (L .Val)) (y : Vars) → Within m (wrote u w) y → scoped L kept y (fold L rule r m) ≡ true)
           → scoped L kept u′ (emit L rule k (fold L rule r) x) ≡ true
-      go (put o′) q ih =
-          let p = good .put-scope k o o′ u′ q m₁ in
-          and-i (mayRead kept u′ (L .view o′)) (scoped L kept (wrote u′ (L .view o′)) (fold L rule r (on (learned k (L .view o′))))) (p .0)
-          (ih (on (learned k (L .view o′))) (wrote u′ (L .view o′)) (λ v t. p .1 v (wrote-more kept w u u′ h v t)))
-      go omit q ih = ih (on k) u′ (λ v t. good .omit-scope k o u′ q m₁ v (wrote-more kept w u u′ h v t))
-      go (cut o′) q ih =
-          and-i (mayRead kept u′ (L .view o′)) (scoped L kept (wrote u′ (L .view o′)) (fold L rule r off)) (good .cut-scope k o o′ u′ q)
+      go (put o′) y ih =
+          and-i (mayRead kept u′ (L .view o′)) (scoped L kept (wrote u′ (L .view o′)) (fold L rule r (on (learned k (L .view o′))))) (fewer o′ (y .0))
+          (ih (on (learned k (L .view o′))) (wrote u′ (L .view o′)) (rw (y .1, y .2) (wrote-more kept w u u′ h)))
+      go omit y ih = ih (on k) u′ (λ v t. omits y v (wrote-more kept w u u′ h v t))
+      go (cut o′) y ih =
+          and-i (mayRead kept u′ (L .view o′)) (scoped L kept (wrote u′ (L .view o′)) (fold L rule r off)) (fewer o′ (y .0))
           (ih off (wrote u′ (L .view o′)) tt)
   fold-scoped (o ∷ r) off u u′ h c = go (anyLabel (L .view o)) refl (λ m x h′. fold-scoped r m (wrote u w) x h′ (and-r (mayRead kept u w) (scoped L kept (wrote u w) r) c))
     where
       w : Viewed L
       w = L .view o
 
-      go : (b : Bool) → anyLabel w ≡ b → ((m : Mode (L .Val)) (y : Vars) → Fits m (wrote u w) y → scoped L kept y (fold L rule r m) ≡ true)
+      go : (b : Bool) → anyLabel w ≡ b → ((m : Mode (L .Val)) (y : Vars) → Within m (wrote u w) y → scoped L kept y (fold L rule r m) ≡ true)
           → scoped L kept u′ (resume L rule o (fold L rule r) b) ≡ true
       go true e ih =
           let p = label-is w e in
@@ -129,22 +140,9 @@ module _ (L : Lang) (kept : Vars) (note : Prog L → Vars) (keeps : Keeps L note
           (ih (wrote u′ w) (λ v q. past d v q (closes w) refl (within r (wrote u w) v c′ q))))
 
 module _ (L : Lang) (glob kept : Vars) (wide : (v : ℕ) → glob v ≡ true → kept v ≡ true) where
-  module _ (rule : Rule L) (good : Scopes L kept rule) where
+  module _ (Ok : L .Op → Type 0) (Fit : (ℕ → L .Val) → Type 0) (rule : Rule L) (good : Lawful L Ok Fit rule) where
     pub pass-scoped : (b : Prog L) → scoped L kept empty b ≡ true → scoped L kept empty (pass L rule glob kept b) ≡ true
     pass-scoped b c =
-        let f : scoped L kept empty (fold L rule b (on nothing)) ≡ true = fold-scoped L kept rule good b (on nothing) empty empty (λ v q. q) c in
-        prune-scoped L kept (live L glob kept) (base-keeps L glob kept) (live-scoped L glob kept wide) (fold L rule b (on nothing)) empty empty f (λ v. live-scoped L glob kept wide (fold L rule b (on nothing)) empty v f)
-
-module _ (L : Lang) (kept : Vars) (fo : Folding L) (law : Constants L fo) where
-  pub base-scopes : Scopes L kept (baseRule L fo)
-  base-scopes =
-      record {
-        put-scope = λ k o o′ u q m. at-put k o o′ u m (puts L fo law k o o′ q);
-        omit-scope = λ k o u q m. no-omit L fo law k o q;
-        cut-scope = λ k o o′ u q. no-cut L fo law k o o′ q;
-      }
-    where
-      at-put : (k : Known (L .Val)) (o o′ : L .Op) (u : Vars) → mayRead kept u (L .view o) ≡ true → Puts L fo law k o o′
-          → (mayRead kept u (L .view o′) ≡ true) × Le kept (wrote u (L .view o)) (wrote u (L .view o′))
-      at-put k o o′ u m (same e) = rw (← e) (m, λ v q. q)
-      at-put k o o′ u m (folds xs vs c h g p w) = rw w (refl, rw (computes-calc (L .view o) xs vs g, law .one-out o xs vs c g) (λ v q. q))
+        let f : scoped L kept empty (fold L rule b (on nothing)) ≡ true = fold-scoped L kept Ok Fit rule good b (on nothing) empty empty (λ v q. q) c in
+        prune-scoped L kept (live L glob kept) (base-keeps L glob kept) (live-scoped L glob kept wide) (fold L rule b (on nothing)) empty empty f
+        (λ v. live-scoped L glob kept wide (fold L rule b (on nothing)) empty v f)

@@ -1,10 +1,10 @@
 -- Fold: ops whose inputs are known become constants. Assumes nothing.
 use Prim.Native.Nat.{ℕ}
 use mathlib.Core.Path.{_≡_}
-use mathlib.Core.Bool.{Bool, true, false, cond, _&&_}
+use mathlib.Core.Bool.{Bool, true, false, cond}
 use mathlib.Core.Option.{Option, none, some}
 use mathlib.Core.List.{List, [], _∷_}
-use Rattle.theory.specs.Machine.{View, Lang, Prog, writes, reads, headOr, isSome, inputs, outputs, computes, closes, anyLabel}
+use Rattle.theory.specs.Machine.{View, Lang, Prog, writes, reads, headOr, inputs, outputs, computes, closes, anyLabel}
 use Rattle.theory.specs.Sets.{Vars}
 use Rattle.theory.specs.Prune.{prune}
 
@@ -45,9 +45,9 @@ module _ {Val Mem Out Flt : Type 0} where
   abbrev pub learned : Known Val → View Val Mem Out Flt → Known Val
   learned k w = cond (closes w) nothing (writes none k (outputs w) (gain (inputs w) (computes w)))
 
--- a rule gives, for an op and what is known of its inputs, what to put in its place
+-- a rule gives, from what is known and an op, what to put in its place
 abbrev pub Rule : Lang → Type 0
-Rule L = L .Op → List (Option (L .Val)) → Rewrite (L .Op)
+Rule L = Known (L .Val) → L .Op → Rewrite (L .Op)
 
 module _ (L : Lang) (rule : Rule L) where
   abbrev pub emit : Known (L .Val) → (Mode (L .Val) → Prog L) → Rewrite (L .Op) → Prog L
@@ -59,17 +59,19 @@ module _ (L : Lang) (rule : Rule L) where
   resume o go true = o ∷ go (on nothing)
   resume o go false = go off
 
-  abbrev pub ruleAt : Known (L .Val) → L .Op → Rewrite (L .Op)
-  ruleAt k o = rule o (reads k (inputs (L .view o)))
-
   -- "Fold reads forward."
   abbrev pub fold : Prog L → Mode (L .Val) → Prog L
   fold [] m = []
-  fold (o ∷ r) (on k) = emit k (fold r) (ruleAt k o)
+  fold (o ∷ r) (on k) = emit k (fold r) (rule k o)
   fold (o ∷ r) off = resume o (fold r) (anyLabel (L .view o))
 
   abbrev pub pass : Vars → Vars → Prog L → Prog L
   pass glob kept b = prune L glob kept (fold b (on nothing))
+
+  -- "Folding could replace an op of the result if fold, reading the result from its first op, would do so." Here it leaves each op as it is
+  abbrev pub Still : Prog L → Known (L .Val) → Type 0
+  Still [] k = Unit {0}
+  Still (o ∷ r) k = (rule k o ≡ put o) × Still r (learned k (L .view o))
 
 -- which ops may fold, and the constant that takes an op's place
 pub record Folding (L : Lang) : Type 0 where
@@ -98,13 +100,4 @@ module _ (L : Lang) (fo : Folding L) where
 
   -- loads, stores, set_label, br, brcond and exit_tb compute nothing: they "stay as they are"
   abbrev pub baseRule : Rule L
-  baseRule o ks = cond (fo .foldable o) (tried o (bindO (computes (L .view o)) (allKnown ks))) (put o)
-
-  -- fold would replace the op: it may fold, its inputs are known and its result is stated
-  abbrev pub replaces : Known (L .Val) → L .Op → Bool
-  replaces k o = fo .foldable o && isSome (bindO (computes (L .view o)) (allKnown (reads k (inputs (L .view o)))))
-
-  -- "Folding could replace an op of the result if fold, reading the result from its first op, would do so."
-  abbrev pub ReplacesNone : Prog L → Known (L .Val) → Type 0
-  ReplacesNone [] k = Unit {0}
-  ReplacesNone (o ∷ r) k = (replaces k o ≡ false) × ReplacesNone r (learned k (L .view o))
+  baseRule k o = cond (fo .foldable o) (tried o (bindO (computes (L .view o)) (allKnown (reads k (inputs (L .view o)))))) (put o)
