@@ -12,7 +12,7 @@ use Rattle.theory.specs.Fold.{Known, Rewrite, baseRule}
 use Rattle.theory.specs.Machine.{View, calc, access, label, flow, headOr, pure}
 use Rattle.theory.proofs.Views.{computes-calc}
 use Rattle.theory.specs.Sets.{Vars}
-use Rattle.theory.proofs.Accept.{Lenient, Admitted, Admits}
+use Rattle.theory.proofs.Accept.{Lenient, Cutting, Admitted, Admits}
 use Rattle.theory.proofs.Rule.{Puts, same, folds, puts}
 use Rattle.theory.proofs.Sets.{and-l, and-r, and-i, clash}
 use Rattle.ops.specs.Kinds.{at, one, rowOf, known, bodyLength}
@@ -114,7 +114,7 @@ lenient =
       ok-le = ok-le;
       next-le = next-le;
       fin-le = end-le;
-      drop-ok = drop-ok;
+      drop-ok = λ x o h c. drop-ok x o c;
     }
 
 -- a movi in the place of an accepted op with the same output is accepted
@@ -176,10 +176,23 @@ module _ (x : Seen) (o : List ℕ) (w v : ℕ) (one : (rowAt o) .outs ≡ w ∷ 
       o′ : List ℕ
       o′ = moviOf w (at o 1) v
 
+-- document 01's rule never cuts
+pub cutting : Cutting tcg checker lenient
+cutting =
+    record {
+      Good = λ k. Unit {0};
+      good-none = tt;
+      Off = λ x y. ⊥;
+      off-le = λ x y z a n. n;
+      off-next = λ x y o n h e. n;
+      off-label = λ x y o n h e. absurd n;
+      off-fin = λ x y n h. absurd n;
+    }
+
 -- what fold puts in place
 admitted : (x : Seen) (k : Known ℕ) (o : List ℕ) (y : Rewrite (List ℕ)) → Puts tcg folding constants k o y → opOk x o ≡ true
-    → Admitted tcg checker lenient (λ j. Unit {0}) ⊥ x k o y
-unfolding lenient
+    → Admitted tcg checker lenient cutting x k o y
+unfolding lenient cutting
 admitted x k o y same h = (h, record { classes = refl; widths = refl; labels = refl; targets = refl; ops = omega arith; last = λ q. q }, tt)
 admitted x k o y (folds xs vs t a g) h =
     let o′ = folding .const o (headOr 0 vs) in
@@ -201,7 +214,5 @@ admitted x k o y (folds xs vs t a g) h =
       tt,
     )
 
--- document 01's rule never cuts
-pub admits : Admits tcg checker lenient (λ j. Unit {0}) ⊥ (baseRule tcg folding)
-admits =
-    record { good-none = tt; skip-ok = λ x o n e. absurd n; admitted = λ x k o u h. admitted x k o (baseRule tcg folding k o) (puts tcg folding constants k o) h }
+pub admits : Admits tcg checker lenient cutting (baseRule tcg folding)
+admits x k o u h = admitted x k o (baseRule tcg folding k o) (puts tcg folding constants k o) h

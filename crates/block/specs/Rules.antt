@@ -64,29 +64,21 @@ rule5 s r = haveWidths (s .widths) (operandsOf r) ((rowAt r) .outs ++ (rowAt r) 
 unfoldable pub rule6 : Seen → List ℕ → Bool
 rule6 s r = restOk ((rowAt r) .does) (restBy (rowAt r) r)
 
--- 7: "label set twice, or jump to a label already set"
-abbrev pub freeAt : Vars → Option ℕ → Bool
-freeAt labels none = true
-freeAt labels (some l) = not (labels l)
-
--- the label that an op sets, or else the one to which it may jump
-abbrev pub either : Option ℕ → Option ℕ → Option ℕ
-either none y = y
-either (some l) y = some l
-
-abbrev pub markAt : Vars → Option ℕ → Vars
-markAt labels none = labels
-markAt labels (some l) = upd labels l true
+-- by the label that an op names, if it names one
+abbrev pub named : {A : Type 0} → A → (ℕ → A) → Option ℕ → A
+named a f none = a
+named a f (some l) = f l
 
 module _ {Val Mem Out Flt : Type 0} where
+  -- 7: "label set twice, or jump to a label already set"
   abbrev pub labelFree : Vars → View Val Mem Out Flt → Bool
-  labelFree labels w = freeAt labels (either (labelOf w) (target w))
+  labelFree labels w = named (named true (λ l. not (labels l)) (target w)) (λ l. not (labels l)) (labelOf w)
 
   abbrev pub nextLabels : Vars → View Val Mem Out Flt → Vars
-  nextLabels labels w = markAt labels (labelOf w)
+  nextLabels labels w = named labels (λ l. upd labels l true) (labelOf w)
 
   abbrev pub nextTargets : Vars → View Val Mem Out Flt → Vars
-  nextTargets targets w = markAt targets (target w)
+  nextTargets targets w = named targets (λ l. upd targets l true) (target w)
 
 unfoldable pub rule7 : Seen → List ℕ → Bool
 rule7 s r = labelFree (s .labels) (viewOf r)

@@ -1,7 +1,6 @@
 -- What the scan's arrays hold. Assumes nothing.
 use mathlib.Core.Path.{_≡_}
 use mathlib.Core.Bool.{Bool, true, cond, not, _&&_, _||_, Bool·beq}
-use mathlib.Core.Option.{Option, none, some}
 use mathlib.Core.List.{List, [], _∷_, _++_, map}
 use Prim.Native.Nat.{ℕ, suc, _+_, _*_, _/_, _%_, _≤_, _<_}
 use lib.Dec.{eqb, ltb, leb}
@@ -13,7 +12,7 @@ use Rattle.ops.specs.Kinds.{known, bodyLength}
 use Rattle.ops.specs.Ops.{viewOf}
 use Rattle.block.specs.Checks.{firstBroken, rulesOf, checkFrom, checkOf}
 use Rattle.block.specs.Records.{cutOf, recordsOf, isDeclaration, declarations, opsFrom, widthOf, classesOf, widthsOf, globalCount}
-use Rattle.block.specs.Rules.{Seen, start, nextLabels, nextTargets}
+use Rattle.block.specs.Rules.{Seen, start, named, nextLabels, nextTargets}
 use Rattle.block.specs.declared.Verdict.{Verdict}
 use Rattle.block.specs.declared.Verdict.the-variants.{Accepted, Refused}
 
@@ -74,12 +73,8 @@ seenOf classes types written labels targets n ops last =
     }
 
 -- the labels' numbers once an op has been read: a label's is one more than its op's
-abbrev pub numberAt : Option ℕ → ℕ → List ℕ → List ℕ
-numberAt none op labels = labels
-numberAt (some l) op labels = set labels l (op + 1)
-
 abbrev pub labelledBy : {Val Mem Out Flt : Type 0} → View Val Mem Out Flt → ℕ → List ℕ → List ℕ
-labelledBy w op labels = numberAt (labelOf w) op labels
+labelledBy w op labels = named labels (λ l. set labels l (op + 1)) (labelOf w)
 
 -- what is seen after n declarations
 abbrev pub declaredSeen : List ℕ → List ℕ → ℕ → Seen

@@ -5,7 +5,7 @@ use Prim.Native.Nat.{ℕ, _≤_}
 use lib.ListN.{length}
 use Rattle.theory.specs.Fold.{nothing, Still}
 use Rattle.theory.specs.Machine.{Prog}
-use Rattle.theory.specs.Prune.{AllUsed}
+use Rattle.theory.specs.Prune.{AllUsed, liveAll}
 use Rattle.memory.proofs.Digits.{room}
 use Rattle.memory.proofs.Faults.{sized}
 use Rattle.ops.specs.Ops.{tcg}
@@ -39,10 +39,10 @@ module _ (block : List ℕ) (ds os : List (List ℕ)) (h : checkOf block ≡ Acc
   unfolding bytes kept passOps
   folded = subst (λ (t : Prog tcg). Still tcg rule t nothing) (sym (q .1 .ops)) ((ops-preserved (classesOf ds) os (p .in-scope)) .folded)
 
-  used : AllUsed tcg (globalsIn (classesOf (declarations (recordsOf bytes)))) (keptIn (classesOf (declarations (recordsOf bytes)))) (opsFrom (recordsOf bytes))
+  used : AllUsed tcg (liveAll tcg (globalsIn (classesOf (declarations (recordsOf bytes)))) (keptIn (classesOf (declarations (recordsOf bytes))))) (opsFrom (recordsOf bytes))
   unfolding bytes kept passOps
   used =
-      subst₂ (λ (t : List (List ℕ)) (u : Prog tcg). AllUsed tcg (globalsIn (classesOf t)) (keptIn (classesOf t)) u) (sym (q .1 .declared)) (sym (q .1 .ops))
+      subst₂ (λ (t : List (List ℕ)) (u : Prog tcg). AllUsed tcg (liveAll tcg (globalsIn (classesOf t)) (keptIn (classesOf t))) u) (sym (q .1 .declared)) (sym (q .1 .ops))
       ((ops-preserved (classesOf ds) os (p .in-scope)) .used)
 
   settled : resultOf bytes ≡ bytes

@@ -11,12 +11,13 @@ use native.Mathlib.Nat.{sub-zero, add-zero}
 use Rattle.theory.specs.Fold.{Rewrite, nothing, put, learned, consO, allKnown, bindO, tried, baseRule}
 use Rattle.theory.specs.Machine.{View, calc, label, computes as stated, inputs, upd, reads}
 use Rattle.theory.specs.Sets.{Vars}
+use Rattle.theory.proofs.Rule.{base-stays}
 use Rattle.theory.proofs.Sets.{and-l, and-r}
 use Rattle.memory.specs.Bytes.{lowFirst}
 use Rattle.ops.specs.Kinds.{at, rowOf, isPure}
 use Rattle.ops.specs.Ops.{jump, leave, rowAt, bytesAt, Fault, viewOf, tcg, foldableRow, folding}
 use Rattle.ops.specs.Table.{operandCount, roleOf, opWidth}
-use Rattle.ops.proofs.Folding.{const-view}
+use Rattle.ops.proofs.Folding.{const-view, constants}
 use Rattle.ops.proofs.Inputs.{computes-fold}
 use Rattle.ops.proofs.RoleRows.{row-of}
 use Rattle.block.specs.Scan.{recordAt, Stands, SetAt, marked}
@@ -177,23 +178,14 @@ module _ {b : List ℕ} {p k : ℕ} (c : Computed b p k) (l : k < 256) where
 no-value : (x : ℕ) → NoResult ≡ Value x → ⊥
 no-value x e = let z : _≡_ {A = ℕ} 0 1 = cc in omega arith
 
--- an op that computes nothing stays
-stays-as : (o : List ℕ) (w : View ℕ (List ℕ) ℕ Fault) (ks : List (Option ℕ)) → ((xs : List ℕ) → stated w xs ≡ none) → ruleOn o w ks ≡ put o
-stays-as o w ks h = go (foldableRow (rowAt o)) (allKnown ks)
-  where
-    go : (t : Bool) (x : Option (List ℕ)) → cond t (tried tcg folding o (bindO (stated w) x)) (put o) ≡ put o
-    go true none = refl
-    go true (some xs) = ap (tried tcg folding o) (h xs)
-    go false x = refl
-
 -- fold at any other op
 module _ {b : List ℕ} {p k : ℕ} (s : Stands b p k) (known values : List ℕ) where
   left-as : {known′ values′ : List ℕ} (w : View ℕ (List ℕ) ℕ Fault) → viewOf (recordAt b p) ≡ w
-      → ruleOn (recordAt b p) w (reads (knownOf known values) (inputs w)) ≡ put (recordAt b p) → knownOf known′ values′ ≡ learned (knownOf known values) w
+      → baseRule tcg folding (knownOf known values) (recordAt b p) ≡ put (recordAt b p) → knownOf known′ values′ ≡ learned (knownOf known values) w
       → Folds b p k known values known′ values′ NoResult
   left-as w e r q =
       record {
-        rule-so = ap (λ (v : View ℕ (List ℕ) ℕ Fault). ruleOn (recordAt b p) v (reads (knownOf known values) (inputs v))) e ∙ r;
+        rule-so = r;
         known-so = q ∙ sym (ap (learned (knownOf known values)) e);
         only-so = λ x z. absurd (no-value x z);
       }
@@ -201,7 +193,7 @@ module _ {b : List ℕ} {p k : ℕ} (s : Stands b p k) (known values : List ℕ)
   -- an op that computes nothing stays
   other-as : {known′ values′ : List ℕ} (w : View ℕ (List ℕ) ℕ Fault) → viewOf (recordAt b p) ≡ w → ((xs : List ℕ) → stated w xs ≡ none) → knownOf known′ values′ ≡ learned (knownOf known values) w
       → Folds b p k known values known′ values′ NoResult
-  other-as w e n q = left-as w e (stays-as (recordAt b p) w (reads (knownOf known values) (inputs w)) n) q
+  other-as w e n q = left-as w e (base-stays tcg folding constants (knownOf known values) (recordAt b p) (λ xs. ap (λ (v : View ℕ (List ℕ) ℕ Fault). stated v xs) e ∙ n xs)) q
 
   constant-stays : roleOf k ≡ Constant → foldableRow (rowAt (recordAt b p)) ≡ false
   constant-stays e = ap foldableRow (row-at s ∙ row-of Constant k e)
@@ -210,7 +202,7 @@ module _ {b : List ℕ} {p k : ℕ} (s : Stands b p k) (known values : List ℕ)
       → knownOf known′ values′ ≡ upd (knownOf known values) (at b (p + 1)) (some x) → Folds b p k known values known′ values′ NoResult
   over-constant {known′} {values′} {x} e h u =
       left-as (constantView (at b (p + 1)) (lowFirst b (p + 2) 8)) (constant-view s e)
-      (ap (λ (t : Bool). cond t (tried tcg folding (recordAt b p) (some (lowFirst b (p + 2) 8 ∷ []))) (put (recordAt b p))) (constant-stays e))
+      (rw (constant-stays e))
       (u ∙ ap (λ (y : ℕ). upd (knownOf known values) (at b (p + 1)) (some y)) h)
 
   pub over-load : {known′ : List ℕ} → roleOf k ≡ Loads → SetAt known (at b (p + 1)) 0 known′ → Folds b p k known values known′ values NoResult

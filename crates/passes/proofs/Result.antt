@@ -22,7 +22,7 @@ use Rattle.ops.proofs.Folding.{constants}
 use Rattle.ops.proofs.Sizes.{body-short}
 use Rattle.block.specs.Checks.{checkOf}
 use Rattle.block.specs.Records.{concat, isDeclaration, classesOf}
-use Rattle.block.proofs.Lenient.{lenient, admits}
+use Rattle.block.proofs.Lenient.{lenient, cutting, admits}
 use Rattle.block.proofs.Parts.{Parts, joined}
 use Rattle.passes.specs.Passes.{passOps, resultOf, passRefused, written, passChecked, passOf}
 use Rattle.block.specs.Rules.{start, globalsIn, keptIn, declared}
@@ -92,7 +92,7 @@ pub kept-parts : (block : List ℕ) (ds os : List (List ℕ)) → Parts block ds
 unfolding passOps
 kept-parts block ds os p =
     joined ds (passOps (classesOf ds) os) (p .wholes .0) (p .all-declared) (p .met)
-    (pass-checks tcg checker lenient (λ j. Unit {0}) ⊥ rule admits (globalsIn (classesOf ds)) (keptIn (classesOf ds)) os (declaredIn start ds) (p .checked))
+    (pass-checks tcg checker lenient cutting rule admits (globalsIn (classesOf ds)) (keptIn (classesOf ds)) os (declaredIn start ds) (p .checked))
     ((ops-preserved (classesOf ds) os (p .in-scope)) .accepted)
 
 -- a block's result, from its parts

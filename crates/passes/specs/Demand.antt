@@ -4,7 +4,7 @@ use mathlib.Core.Path.{_≡_}
 use mathlib.Core.Bool.{Bool, true, false}
 use mathlib.Core.List.{List, _++_}
 use lib.ListN.{length, drop}
-use Rattle.theory.specs.Prune.{AllUsed}
+use Rattle.theory.specs.Prune.{AllUsed, liveAll}
 use Rattle.theory.specs.Fold.{nothing, baseRule, Still}
 use Rattle.ops.specs.Ops.{tcg, folding}
 use Rattle.block.specs.declared.Verdict.the-variants.{Accepted as NoRefusal}
@@ -63,7 +63,7 @@ pub record Demand3 (block out : List ℕ) : Type 0 where
       → Alike (runOf block globals memory) (runOf result globals memory)
   -- "nothing foldable and no dead pure op remains"
   pub folded : Still tcg (baseRule tcg folding) (opsFrom (recordsOf result)) nothing
-  pub used : AllUsed tcg (globalsIn (classesOf (declarations (recordsOf result)))) (keptIn (classesOf (declarations (recordsOf result)))) (opsFrom (recordsOf result))
+  pub used : AllUsed tcg (liveAll tcg (globalsIn (classesOf (declarations (recordsOf result)))) (keptIn (classesOf (declarations (recordsOf result))))) (opsFrom (recordsOf result))
   -- "doing the pass again gives the same bytes": "The pass done again is lent the result's bytes alone as its block."
   pub again : (out′ : List ℕ) → Room result out′ → passOf result out′ ≡ record { answer = Length size; out = result ++ drop size out′ }
 

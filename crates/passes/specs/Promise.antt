@@ -5,7 +5,7 @@ use mathlib.Core.List.{List}
 use Prim.Native.Nat.{ℕ, _≤_}
 use lib.ListN.{length, take, drop}
 use Rattle.theory.specs.Fold.{nothing, baseRule, Still}
-use Rattle.theory.specs.Prune.{AllUsed}
+use Rattle.theory.specs.Prune.{AllUsed, liveAll}
 use Rattle.ops.specs.Ops.{tcg, folding}
 use Rattle.block.specs.Checks.{checkOf}
 use Rattle.block.specs.Records.{recordsOf, declarations, opsFrom, classesOf}
@@ -54,7 +54,7 @@ pub record Promise (block out : List ℕ) (answer : Written) (out′ : List ℕ)
       → unstatedEnd ending ≡ false → SameEnd ending ending′ × (globals₂ ≡ globals₁) × (memory₂ ≡ memory₁)
   -- "nothing foldable and no dead pure op remains"
   pub folded : Still tcg (baseRule tcg folding) (opsFrom (recordsOf result)) nothing
-  pub used : AllUsed tcg (globalsIn (classesOf (declarations (recordsOf result)))) (keptIn (classesOf (declarations (recordsOf result)))) (opsFrom (recordsOf result))
+  pub used : AllUsed tcg (liveAll tcg (globalsIn (classesOf (declarations (recordsOf result)))) (keptIn (classesOf (declarations (recordsOf result))))) (opsFrom (recordsOf result))
   -- "doing the pass again gives the same bytes"
   pub again : (buffer : List ℕ) (answer′ : Written) (buffer′ : List ℕ) → Room result buffer → Optimised result buffer answer′ buffer′
       → Wrote size result buffer answer′ buffer′

@@ -16,9 +16,23 @@ use Rattle.theory.proofs.PruneBy.{Keeps}
 use Rattle.theory.proofs.Sets.{and-l, and-r, tell, dead-out, writes-other, writes-both}
 use Rattle.theory.proofs.Views.{pure-open}
 
+-- a prune by a note leaves no dead op, by any note that says of what is left what the first says of the whole
+pub left-used : (L : Lang) (note note′ : Prog L → Vars) → ((r : Prog L) → note′ (pruneBy L note r) ≡ note r) → (r : Prog L) → AllUsed L note′ (pruneBy L note r)
+left-used L note note′ e [] = tt
+left-used L note note′ e (o ∷ r) = go (tell (dead (L .view o) (note r))) (left-used L note note′ e r)
+  where
+    go : (dead (L .view o) (note r) ≡ true) ⊎ (dead (L .view o) (note r) ≡ false) → AllUsed L note′ (pruneBy L note r) → AllUsed L note′ (pruneBy L note (o ∷ r))
+    go (inl d) ih = rw d ih
+    go (inr d) ih = rw d (rw (e r) d, ih)
+
+-- where no op is dead, none is dropped
+pub used-same : (L : Lang) (note : Prog L → Vars) (r : Prog L) → AllUsed L note r → pruneBy L note r ≡ r
+used-same L note [] h = refl
+used-same L note (o ∷ r) h = rw (h .0) (ap (λ (q : Prog L). o ∷ q) (used-same L note r (h .1)))
+
 module _ (L : Lang) (glob kept : Vars) where
   -- with the dropped ops gone, what is live is what prune worked out
-  pub prune-live : (r : Prog L) → liveAll L glob kept (prune L glob kept r) ≡ live L glob kept r
+  prune-live : (r : Prog L) → liveAll L glob kept (prune L glob kept r) ≡ live L glob kept r
   prune-live [] = refl
   prune-live (o ∷ r) = go (tell (dead (L .view o) (live L glob kept r))) (prune-live r)
     where
@@ -27,22 +41,10 @@ module _ (L : Lang) (glob kept : Vars) where
       go (inl d) ih = rw d ih
       go (inr d) ih = rw d (rw ih)
 
-  pub prune-used : (r : Prog L) → AllUsed L glob kept (prune L glob kept r)
-  prune-used [] = tt
-  prune-used (o ∷ r) = go (tell (dead (L .view o) (live L glob kept r))) (prune-used r)
-    where
-      go : (dead (L .view o) (live L glob kept r) ≡ true) ⊎ (dead (L .view o) (live L glob kept r) ≡ false)
-          → AllUsed L glob kept (prune L glob kept r) → AllUsed L glob kept (prune L glob kept (o ∷ r))
-      go (inl d) ih = rw d ih
-      go (inr d) ih = rw d (rw (prune-live r) d, ih)
-
-  used-live : (r : Prog L) → AllUsed L glob kept r → live L glob kept r ≡ liveAll L glob kept r
-  used-live [] h = refl
-  used-live (o ∷ r) h = rw (used-live r (h .1), h .0)
-
-  pub used-same : (r : Prog L) → AllUsed L glob kept r → prune L glob kept r ≡ r
-  used-same [] h = refl
-  used-same (o ∷ r) h = rw (used-live r (h .1), h .0) (ap (λ (q : Prog L). o ∷ q) (used-same r (h .1)))
+  -- where no op is dead, the two notes are one
+  used-live : (r : Prog L) → AllUsed L (liveAll L glob kept) r → (live L glob kept r ≡ liveAll L glob kept r) × AllUsed L (live L glob kept) r
+  used-live [] h = (refl, tt)
+  used-live (o ∷ r) h = let p = used-live r (h .1) in (rw (p .0, h .0), (rw (p .0) (h .0), p .1))
 
 module _ (L : Lang) (Ok : L .Op → Type 0) (Fit : (ℕ → L .Val) → Type 0) (rule : Rule L) (good : Lawful L Ok Fit rule) where
   pub still-same : (r : Prog L) (k : Known (L .Val)) → Still L rule r k → fold L rule r (on k) ≡ r
@@ -109,9 +111,11 @@ module _ (L : Lang) (Ok : L .Op → Type 0) (Fit : (ℕ → L .Val) → Type 0) 
     pass-still b = still-prune (live L glob kept) (base-keeps L glob kept) (fold L rule b (on nothing)) nothing nothing (fold-still b) (λ v q. refl)
 
     -- no pure op of it has dead outputs
-    pub pass-used : (b : Prog L) → AllUsed L glob kept (pass L rule glob kept b)
-    pass-used b = prune-used L glob kept (fold L rule b (on nothing))
+    pub pass-used : (b : Prog L) → AllUsed L (liveAll L glob kept) (pass L rule glob kept b)
+    pass-used b = left-used L (live L glob kept) (liveAll L glob kept) (prune-live L glob kept) (fold L rule b (on nothing))
 
     -- the pass done again changes nothing
     pub pass-again : (b : Prog L) → pass L rule glob kept (pass L rule glob kept b) ≡ pass L rule glob kept b
-    pass-again b = ap (prune L glob kept) (still-same (pass L rule glob kept b) nothing (pass-still b)) ∙ used-same L glob kept (pass L rule glob kept b) (pass-used b)
+    pass-again b =
+        ap (prune L glob kept) (still-same (pass L rule glob kept b) nothing (pass-still b))
+        ∙ used-same L (live L glob kept) (pass L rule glob kept b) ((used-live L glob kept (pass L rule glob kept b) (pass-used b)) .1)

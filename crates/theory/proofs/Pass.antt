@@ -5,7 +5,7 @@ use Prim.Native.Nat.{ℕ}
 use native.Mathlib.Omega.{arith}
 use Rattle.theory.specs.Fold.{nothing, on, Rule, fold, pass, Still}
 use Rattle.theory.specs.Machine.{Lang, St, Prog, All, runs}
-use Rattle.theory.specs.Prune.{AllUsed}
+use Rattle.theory.specs.Prune.{AllUsed, liveAll}
 use Rattle.theory.specs.Scope.{scoped}
 use Rattle.theory.specs.Sets.{Vars, empty}
 use Rattle.theory.proofs.Again.{pass-still, pass-used, pass-again}
@@ -23,7 +23,7 @@ module _ (L : Lang) (glob kept : Vars) (wide : (v : ℕ) → glob v ≡ true →
     -- both runs are lent one limit
     pub alike : (n : ℕ) (s : St L) → Fit (s .env) → definite ((runs L n b s) .end) ≡ true → Matches L (Agree (L .zeroV) glob) (runs L n b s) (runs L n (pass L rule glob kept b) s)
     pub folded : Still L rule (pass L rule glob kept b) nothing
-    pub used : AllUsed L glob kept (pass L rule glob kept b)
+    pub used : AllUsed L (liveAll L glob kept) (pass L rule glob kept b)
     pub again : pass L rule glob kept (pass L rule glob kept b) ≡ pass L rule glob kept b
 
   pub preserves : (b : Prog L) → All Ok b → scoped L kept empty b ≡ true → Preserves b

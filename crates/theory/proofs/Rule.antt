@@ -37,6 +37,19 @@ pub record Constants (L : Lang) (fo : Folding L) : Type 0 where
   pub const-fixed : (o : L .Op) (v : L .Val) → fo .foldable o ≡ true → fo .foldable (fo .const o v) ≡ false
 
 module _ (L : Lang) (fo : Folding L) (law : Constants L fo) where
+  still-none : (b : Bool) (y : Option (List (L .Val))) (o : L .Op) → fo .foldable o ≡ b → cond b (tried L fo o y) (put o) ≡ put o → (b && isSome y) ≡ false
+  still-none true none o c q = refl
+  still-none true (some vs) o c q =
+      let e : fo .const o (headOr (L .zeroV) vs) ≡ o = cc in
+      let d : fo .foldable o ≡ false = subst (λ (x : L .Op). fo .foldable x ≡ false) e (law .const-fixed o (headOr (L .zeroV) vs) c) in
+      clash (fo .foldable o) c d
+  still-none false y o c q = refl
+
+  -- an op that fold leaves as it is may not fold, or an input is not known, or no result is stated
+  pub none-foldable : (k : Known (L .Val)) (o : L .Op) → baseRule L fo k o ≡ put o
+      → (fo .foldable o && isSome (bindO (computes (L .view o)) (allKnown (reads k (inputs (L .view o)))))) ≡ false
+  none-foldable k o q = still-none (fo .foldable o) (bindO (computes (L .view o)) (allKnown (reads k (inputs (L .view o))))) o refl q
+
   -- what the rule comes to
   pub data Puts (k : Known (L .Val)) (o : L .Op) : Rewrite (L .Op) → Type 0 where
     same : Puts k o (put o)
@@ -97,16 +110,3 @@ module _ (L : Lang) (fo : Folding L) (law : Constants L fo) where
         rests : (k : Known (L .Val)) (o : L .Op) (x : Rewrite (L .Op)) → baseRule L fo k o ≡ x → Puts k o x → Rests L (baseRule L fo) k x
         rests k o x e same = e
         rests k o x e (folds xs vs c h g) = rw (law .const-fixed o (headOr (L .zeroV) vs) c)
-
-  still-none : (b : Bool) (y : Option (List (L .Val))) (o : L .Op) → fo .foldable o ≡ b → cond b (tried L fo o y) (put o) ≡ put o → (b && isSome y) ≡ false
-  still-none true none o c q = refl
-  still-none true (some vs) o c q =
-      let e : fo .const o (headOr (L .zeroV) vs) ≡ o = cc in
-      let d : fo .foldable o ≡ false = subst (λ (x : L .Op). fo .foldable x ≡ false) e (law .const-fixed o (headOr (L .zeroV) vs) c) in
-      clash (fo .foldable o) c d
-  still-none false y o c q = refl
-
-  -- an op that fold leaves as it is may not fold, or an input is not known, or no result is stated
-  pub none-foldable : (k : Known (L .Val)) (o : L .Op) → baseRule L fo k o ≡ put o
-      → (fo .foldable o && isSome (bindO (computes (L .view o)) (allKnown (reads k (inputs (L .view o)))))) ≡ false
-  none-foldable k o q = still-none (fo .foldable o) (bindO (computes (L .view o)) (allKnown (reads k (inputs (L .view o))))) o refl q

@@ -102,7 +102,7 @@ module _ (L : Lang) where
     pub state : Same (a .state) (b .state)
     pub count : b .count ≤ a .count
 
-  -- more fuel changes no definite run
+  -- more steps change no run that is not out of them
   more-after : (b : Prog L) (n : ℕ) → ((q : Prog L) (t : St L) → unspent ((run L b n q t) .end) ≡ true → run L b (suc n) q t ≡ run L b n q t)
       → (r : Prog L) (s : St L) (m : Move L) → unspent ((after L (run L b n) r s m) .end) ≡ true
       → after L (run L b (suc n)) r s m ≡ after L (run L b n) r s m

@@ -21,7 +21,7 @@ pub data Way (Val Out : Type 0) : Type 0 where
   out : (List Val → Out) → Way Val Out
 
 -- what the theory sees of an op: its outputs, its inputs, and what it does with the inputs' values.
--- calc: a pure op, none where no result is stated. access: a load or store. flow: br (always to), brcond (when to), exit_tb (always out)
+-- calc: a pure op; none where no result is stated. access: a load or store. flow: a jump, a branch or an exit
 pub data View (Val Mem Out Flt : Type 0) : Type 0 where
   calc : List ℕ → List ℕ → (List Val → Option (List Val)) → View Val Mem Out Flt
   access : List ℕ → List ℕ → (Mem → List Val → Touch Val Mem Flt) → View Val Mem Out Flt
@@ -37,8 +37,7 @@ pub record Lang : Type 1 where
   pub zeroV : Val
   pub view : Op → View Val Mem Out Flt
 
--- how a run ends: an exit with what it gives, a fault, an op without a stated result;
--- past the last op; or with its steps used up
+-- how a run ends: an exit with what it gives, a fault, an op without a stated result; past the last op; or out of steps
 pub data End (Out Flt : Type 0) : Type 0 where
   exit : Out → End Out Flt
   fault : Flt → End Out Flt
@@ -184,7 +183,7 @@ pub record Result (L : Lang) : Type 0 where
   pub count : ℕ
   pub left : Prog L
 
--- the op that exits or faults counts; the op without a stated result, and the one that is due when the steps are used up, do not
+-- the op that exits or faults counts; the op without a stated result, and the one that is due when the run is out of steps, do not
 abbrev pub cost : {Out Flt : Type 0} → End Out Flt → ℕ
 cost (exit v) = 1
 cost (fault f) = 1

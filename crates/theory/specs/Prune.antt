@@ -11,15 +11,13 @@ module _ {Val Mem Out Flt : Type 0} where
   abbrev pub dead : View Val Mem Out Flt → Vars → Bool
   dead w l = pure w && noneIn (outputs w) l
 
--- what is live where a way leads: all globals (glob) where it leads out; t k: what is live at the label k
+-- what is live where a way leads. glob: the globals, which are live where it leads out; t k: what is live at the label k
 abbrev pub there : {Val Out : Type 0} → Vars → Way Val Out → (ℕ → Vars) → Vars
 there glob (to k) t = t k
 there glob (out g) t = glob
 
 module _ {Val Mem Out Flt : Type 0} (glob : Vars) where
-  -- what is live just before a kept op, from what is live after it and at the labels: an access shows all globals.
-  -- "load or store: what was live after it less a load's output, then all globals, then its inputs;
-  -- pure op: what was live after it less its output, then its inputs."
+  -- what a kept op needs to be live just before it, from what is live after it (l) and at the labels (t); an access that faults shows all globals
   abbrev pub need : View Val Mem Out Flt → Vars → (ℕ → Vars) → Vars
   need (calc outs ins f) l t = plus (without l outs) ins
   need (access outs ins f) l t = plus (both glob (without l outs)) ins
@@ -27,7 +25,10 @@ module _ {Val Mem Out Flt : Type 0} (glob : Vars) where
   need (flow ins always y) l t = plus (there glob y t) ins
   need (flow ins (when f) y) l t = plus (both (there glob y t) l) ins
 
-  -- document 01's list: all globals and local temporaries (kept) are live at a label, and where a basic block ends
+  -- what is live just before a kept op. kept: the globals and local temporaries, which are live at a label and where a basic block ends.
+  -- "exit_tb: all globals, and its operand; br and set_label: all globals and local temporaries; brcond: those, and its operands;
+  -- load or store: what was live after it less a load's output, then all globals, then its inputs;
+  -- pure op: what was live after it less its output, then its inputs."
   abbrev pub before : Vars → View Val Mem Out Flt → Vars → Vars
   before kept w l = need w (cond (closes w) kept l) (λ k. kept)
 
@@ -35,6 +36,11 @@ module _ {Val Mem Out Flt : Type 0} (glob : Vars) where
 abbrev pub pruneBy : (L : Lang) → (Prog L → Vars) → Prog L → Prog L
 pruneBy L note [] = []
 pruneBy L note (o ∷ r) = cond (dead (L .view o) (note r)) (pruneBy L note r) (o ∷ pruneBy L note r)
+
+-- no pure op is dead, by such a note
+abbrev pub AllUsed : (L : Lang) → (Prog L → Vars) → Prog L → Type 0
+AllUsed L note [] = Unit {0}
+AllUsed L note (o ∷ r) = (dead (L .view o) (note r) ≡ false) × AllUsed L note r
 
 module _ (L : Lang) (glob kept : Vars) where
   -- what is live before the first op; an op that is dropped "makes nothing live"
@@ -45,12 +51,7 @@ module _ (L : Lang) (glob kept : Vars) where
   abbrev pub prune : Prog L → Prog L
   prune r = pruneBy L live r
 
-  -- what is live "read with every op of the result kept"
+  -- what is live by the list, "read with every op of the result kept"
   abbrev pub liveAll : Prog L → Vars
   liveAll [] = glob
   liveAll (o ∷ r) = before glob kept (L .view o) (liveAll r)
-
-  -- every pure op has an output that is live after it
-  abbrev pub AllUsed : Prog L → Type 0
-  AllUsed [] = Unit {0}
-  AllUsed (o ∷ r) = (dead (L .view o) (liveAll r) ≡ false) × AllUsed r

@@ -4,6 +4,7 @@ use mathlib.Core.List.{[], _∷_}
 use native.Mathlib.Omega.{arith}
 use borrow.Author.Needs.{needs}
 use types.Run.{miss}
+use Rattle.block.specs.Scan.{numbered}
 use Rattle.block.proofs.OtherRoles.{none-named}
 use Rattle.block.proofs.Views.{inside, label-view, jump-view, branch-view}
 use Rattle.rules.proofs.label_free.Statement.{statement}
@@ -69,7 +70,7 @@ returns-4 c =
     (λ e. miss (0 ∷ 1 ∷ 4 ∷ 5 ∷ 6 ∷ 8 ∷ 9 ∷ []) 2 tt (rw (c .before .role-of .ensures ∙ e) at (c .match .keys4)))
     (λ e. miss (0 ∷ 1 ∷ 4 ∷ 5 ∷ 6 ∷ 8 ∷ 9 ∷ []) 3 tt (rw (c .before .role-of .ensures ∙ e) at (c .match .keys4)))
     (λ e. miss (0 ∷ 1 ∷ 4 ∷ 5 ∷ 6 ∷ 8 ∷ 9 ∷ []) 7 tt (rw (c .before .role-of .ensures ∙ e) at (c .match .keys4)))
-    _
+    (numbered (c .before .before .before .args .labels .now))
 
 pub label-free-spec : {M : Type 1} → statement M
 label-free-spec =
