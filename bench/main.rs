@@ -1,5 +1,5 @@
-//! Times the proved calls against the second interpreter on the same blocks,
-//! after comparing all their answers.
+//! Times the proved calls beside plain Rust written for speed, set by set,
+//! after holding both to the same answers.
 
 #[allow(dead_code)]
 #[path = "../compare/blocks.rs"]
@@ -11,27 +11,29 @@ mod calls;
 mod cases;
 #[path = "../compare/demand.rs"]
 mod demand;
+mod plain;
+mod same;
 #[allow(dead_code)]
 #[path = "../compare/second.rs"]
 mod second;
+mod sets;
+mod sides;
 
-use calls::Side;
-use cases::{difference, Case};
+use cases::Case;
 use second::{Form, SHAPES};
+use sets::Set;
+use sides::{Calls, LIBRARY, PLAIN};
 use std::hint::black_box;
 use std::process::ExitCode;
 
-/// The set: the first so many accepted blocks of the seed with at least so
-/// many ops, on globals and memory that fit, whose run takes half of them or
-/// more.
-const BLOCKS: usize = 200;
-const LEAST_OPS: usize = 64;
-const SEED: u64 = 1;
-/// The median of so many rounds, each of so many turns over the set.
+/// The median of so many rounds, each of at least so many nanoseconds.
 const ROUNDS: usize = 9;
-const TURNS: usize = 15;
+const ROUND: f64 = 20e6;
 /// The longest result.
 const ROOM: usize = 2752;
+/// The other blocks on which the answers are compared.
+const SEED: u64 = 2;
+const OTHERS: u64 = 100_000;
 
 extern "C" {
     /// The C library's.
@@ -49,36 +51,6 @@ fn now() -> f64 {
     t[0] as f64 * 1e9 + t[1] as f64
 }
 
-fn ops(block: &[u8]) -> usize {
-    second::read(block).map_or(0, |read| read.ops)
-}
-
-/// The answer of a run, with its report.
-fn ran(case: &Case) -> (u64, [u64; 4]) {
-    let (mut globals, mut memory) = (case.globals.clone(), case.memory.clone());
-    let mut report = [0; 4];
-    let answer = Side::Second.run(&case.block, &mut globals, &mut memory, &mut report);
-    (answer, report)
-}
-
-/// Is this a block of the set?
-fn belongs(case: &Case) -> bool {
-    let ops = ops(&case.block);
-    if ops < LEAST_OPS {
-        return false;
-    }
-    let (answer, report) = ran(case);
-    answer == 0 && 2 * report[3] >= ops as u64
-}
-
-fn set() -> Vec<Case> {
-    (0..)
-        .map(|number| blocks::case(SEED, number))
-        .filter(belongs)
-        .take(BLOCKS)
-        .collect()
-}
-
 /// The known kinds that no block of the set has.
 fn kinds_left_out(set: &[Case]) -> Vec<u8> {
     let mut seen = [false; 256];
@@ -92,13 +64,56 @@ fn kinds_left_out(set: &[Case]) -> Vec<u8> {
         .collect()
 }
 
-/// Nanoseconds for a block.
-fn time(turn: &mut dyn FnMut()) -> f64 {
-    let start = now();
-    for _ in 0..TURNS {
-        turn();
+/// One turn over a set.
+type Turn = fn(&Calls, &[Case]);
+
+fn checks(side: &Calls, set: &[Case]) {
+    for case in set {
+        black_box((side.check)(black_box(&case.block)));
     }
-    (now() - start) / (TURNS * BLOCKS) as f64
+}
+
+fn passes(side: &Calls, set: &[Case]) {
+    let mut out = [0; ROOM];
+    for case in set {
+        black_box((side.pass)(black_box(&case.block), &mut out));
+        black_box(&out);
+    }
+}
+
+/// Each run starts from the same state, which is copied for both sides alike.
+fn runs(side: &Calls, set: &[Case]) {
+    let mut globals = Vec::new();
+    let mut memory = Vec::new();
+    let mut report = [0; 4];
+    for case in set {
+        globals.clone_from(&case.globals);
+        memory.clone_from(&case.memory);
+        let block = black_box(&case.block);
+        black_box((side.run)(block, &mut globals, &mut memory, &mut report));
+        black_box((&globals, &memory, &report));
+    }
+}
+
+/// Nanoseconds for a block.
+fn time(turn: Turn, side: &Calls, set: &[Case], turns: usize) -> f64 {
+    let start = now();
+    for _ in 0..turns {
+        turn(side, set);
+    }
+    (now() - start) / (turns * set.len()) as f64
+}
+
+/// So many turns that a round is long enough.
+fn turns(turn: Turn, side: &Calls, set: &[Case]) -> usize {
+    let mut turns = 1;
+    loop {
+        let taken = time(turn, side, set, turns) * (turns * set.len()) as f64;
+        if taken >= ROUND {
+            return turns;
+        }
+        turns = (turns as f64 * (1.2 * ROUND / taken).clamp(1.1, 100.0)).ceil() as usize;
+    }
 }
 
 fn median(mut times: Vec<f64>) -> f64 {
@@ -106,90 +121,110 @@ fn median(mut times: Vec<f64>) -> f64 {
     times[times.len() / 2]
 }
 
-/// Prints a row of the table: medians of the library and of the second
-/// interpreter, timed in turn, after a turn of each that does not count.
-fn versus(name: &str, ops: usize, call: fn(Side, &[Case]), set: &[Case]) {
+/// Prints a row of a table: medians of both sides, timed in turn.
+fn versus(name: &str, turn: Turn, set: &[Case]) {
+    let sides = [&LIBRARY, &PLAIN].map(|side| (side, turns(turn, side, set)));
     let mut times = [Vec::new(), Vec::new()];
-    for round in 0..=ROUNDS {
-        for (side, times) in [Side::Library, Side::Second].into_iter().zip(&mut times) {
-            let taken = time(&mut || call(side, set));
-            if round > 0 {
-                times.push(taken);
-            }
+    for _ in 0..ROUNDS {
+        for ((side, turns), times) in sides.into_iter().zip(&mut times) {
+            times.push(time(turn, side, set, turns));
         }
     }
     let [ours, plain] = times.map(median);
-    let speed = |taken: f64| ops as f64 * 1e3 / (taken * BLOCKS as f64);
-    println!(
-        "| `{name}` | {ours:.0} | {plain:.0} | {:.2} | {:.0} | {:.0} |",
-        ours / plain,
-        speed(ours),
-        speed(plain)
-    );
+    let ratio = ours / plain;
+    println!("| `{name}` | {ours:.0} | {plain:.0} | {ratio:.2} |");
 }
 
-fn all_checks(side: Side, set: &[Case]) {
-    for case in set {
-        black_box(side.check(black_box(&case.block)));
-    }
-}
-
-fn all_passes(side: Side, set: &[Case]) {
-    let mut out = [0; ROOM];
-    for case in set {
-        black_box(side.pass(black_box(&case.block), &mut out));
-        black_box(&out);
-    }
-}
-
-/// Each run starts from the same state, which is copied for both sides alike.
-fn all_runs(side: Side, set: &[Case]) {
-    let mut globals = Vec::new();
-    let mut memory = Vec::new();
-    let mut report = [0; 4];
-    for case in set {
-        globals.clone_from(&case.globals);
-        memory.clone_from(&case.memory);
-        black_box(side.run(
-            black_box(&case.block),
-            &mut globals,
-            &mut memory,
-            &mut report,
-        ));
-        black_box((&globals, &memory, &report));
-    }
-}
-
-fn main() -> ExitCode {
-    let set = set();
-    let left_out = kinds_left_out(&set);
-    if !left_out.is_empty() {
-        println!("bench: no block has kinds {left_out:02x?}");
-        return ExitCode::FAILURE;
-    }
-    if let Some(found) = set.iter().find_map(difference) {
-        println!(
-            "bench: the answers to {} differ: see compare/run",
-            found.call
-        );
-        return ExitCode::FAILURE;
-    }
-    let whole: usize = set.iter().map(|case| ops(&case.block)).sum();
-    let longest = set.iter().map(|case| ops(&case.block)).max().unwrap_or(0);
-    let bytes: usize = set.iter().map(|case| case.block.len()).sum();
-    let reports: Vec<[u64; 4]> = set.iter().map(|case| ran(case).1).collect();
-    let run: u64 = reports.iter().map(|report| report[3]).sum();
+/// What the set is, and its table.
+fn table(set: &Set) {
+    let cases = &set.cases;
+    let ops: Vec<usize> = cases.iter().map(|case| sets::ops(&case.block)).collect();
+    let bytes: usize = cases.iter().map(|case| case.block.len()).sum();
+    let reports: Vec<[u64; 4]> = cases.iter().filter_map(sets::report).collect();
     let ended = |ending| reports.iter().filter(|report| report[0] == ending).count();
     println!(
-        "{BLOCKS} blocks, {whole} ops (at most {longest}), {bytes} bytes; {run} ops run, {} exits, {} faults, {} without a stated result\n",
+        "**{}**: blocks {}, ops {} ({} to {} a block), bytes {bytes}; ops run {}, exits {}, faults {}, without a stated result {}\n",
+        set.name,
+        cases.len(),
+        ops.iter().sum::<usize>(),
+        ops.iter().min().unwrap_or(&0),
+        ops.iter().max().unwrap_or(&0),
+        reports.iter().map(|report| report[3]).sum::<u64>(),
         ended(1),
         ended(2),
         ended(3)
     );
-    println!("| Call | ours, ns a block | plain Rust, ns a block | ratio | ours, Mops/s | plain Rust, Mops/s |");
-    println!("|---|---|---|---|---|---|");
-    versus("ngulo_check", whole, all_checks, &set);
-    versus("ngulo_pass", whole, all_passes, &set);
-    versus("ngulo_run", run as usize, all_runs, &set);
-    ExitCode::SUCCESS
+    println!("| Call | ours, ns a block | plain Rust, ns a block | ratio |");
+    println!("|---|---|---|---|");
+    versus("ngulo_check", checks, cases);
+    versus("ngulo_pass", passes, cases);
+    versus("ngulo_run", runs, cases);
+    println!();
+}
+
+fn hex(block: &[u8]) -> String {
+    block.iter().map(|byte| format!("{byte:02x}")).collect()
+}
+
+/// Says where the two sides differ, if they do.
+fn differ(case: &Case) -> Option<String> {
+    let call = same::difference(&LIBRARY, &PLAIN, case)?;
+    let block = hex(&case.block);
+    Some(format!("the answers to {call} differ on {block}"))
+}
+
+/// What is wrong with a set.
+fn set_fault(set: &Set) -> Option<String> {
+    let refused = |case: &&Case| sets::report(case).is_none();
+    if let Some(case) = set.cases.iter().find(refused) {
+        let block = hex(&case.block);
+        return Some(format!("{}: a run is refused on {block}", set.name));
+    }
+    set.cases.iter().find_map(differ)
+}
+
+/// Why the sets cannot be timed.
+fn fault(sets: &[Set]) -> Option<String> {
+    let left_out = kinds_left_out(&sets[0].cases);
+    if !left_out.is_empty() {
+        return Some(format!("no seeded block has kinds {left_out:02x?}"));
+    }
+    sets.iter().find_map(set_fault)
+}
+
+/// Compares the answers on blocks of every sort, each on globals and memory
+/// that fit and on others; how many blocks are refused.
+fn compare_others() -> Result<usize, String> {
+    let mut refused = 0;
+    for number in 0..OTHERS {
+        let case = blocks::case(SEED, number);
+        let other = blocks::other(SEED, number, &case);
+        if let Some(difference) = differ(&case).or_else(|| differ(&other)) {
+            return Err(difference);
+        }
+        refused += usize::from((PLAIN.check)(&case.block) != 0);
+    }
+    Ok(refused)
+}
+
+fn report() -> Result<(), String> {
+    let sets = sets::all();
+    fault(&sets).map_or(Ok(()), Err)?;
+    let refused = compare_others()?;
+    let blocks: usize = sets.iter().map(|set| set.cases.len()).sum();
+    println!(
+        "Same answers on the {blocks} blocks below and on {OTHERS} others, of which {refused} are refused.\n"
+    );
+    sets.iter().for_each(table);
+    Ok(())
+}
+
+fn main() -> ExitCode {
+    match report() {
+        Ok(()) => ExitCode::SUCCESS,
+        Err(fault) => {
+            println!("bench: {fault}");
+            ExitCode::FAILURE
+        }
+    }
 }

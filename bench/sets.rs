@@ -1,0 +1,451 @@
+//! The sets of blocks that are timed. Each follows from its seed alone.
+
+use crate::blocks::{self, Random};
+use crate::calls::Side;
+use crate::cases::Case;
+use crate::second;
+
+pub struct Set {
+    pub name: &'static str,
+    pub cases: Vec<Case>,
+}
+
+pub fn all() -> Vec<Set> {
+    let two_records = Case {
+        block: vec![0x01, 0, 1, 0x04, 0],
+        globals: vec![7],
+        memory: vec![],
+    };
+    let set = |name, cases| Set { name, cases };
+    vec![
+        set("seeded", seeded()),
+        set("short", (0..SHORT).map(short).collect()),
+        set("globals", (0..CROWDED).map(crowded).collect()),
+        set("two records", vec![two_records]),
+    ]
+}
+
+const SEED: u64 = 1;
+/// Of the seeded set: so many blocks of at least so many ops.
+const SEEDED: usize = 200;
+const LEAST_OPS: usize = 64;
+/// How many blocks the sets "short" and "globals" have.
+const SHORT: u64 = 400;
+const CROWDED: u64 = 100;
+/// The bytes of memory in these two.
+const MEMORY: usize = 1024;
+
+pub fn ops(block: &[u8]) -> usize {
+    second::read(block).map_or(0, |read| read.ops)
+}
+
+/// The report of a run, if it was not refused.
+pub fn report(case: &Case) -> Option<[u64; 4]> {
+    let (mut globals, mut memory) = (case.globals.clone(), case.memory.clone());
+    let mut report = [0; 4];
+    let answer = Side::Second.run(&case.block, &mut globals, &mut memory, &mut report);
+    (answer == 0).then_some(report)
+}
+
+/// The comparison's accepted blocks with many ops whose run takes at least
+/// half of them.
+fn seeded() -> Vec<Case> {
+    let belongs = |case: &Case| {
+        let ops = ops(&case.block);
+        ops >= LEAST_OPS && report(case).is_some_and(|report| 2 * report[3] >= ops as u64)
+    };
+    let cases = (0..).map(|number| blocks::case(SEED, number));
+    cases.filter(belongs).take(SEEDED).collect()
+}
+
+/// A block as a front end writes it, guest instruction by guest instruction:
+/// it computes in temporaries and moves the result to a guest register.
+struct FrontEnd {
+    random: Random,
+    block: Vec<u8>,
+    ops: usize,
+    /// The values lent for the globals.
+    globals: Vec<u64>,
+    variables: u8,
+    /// Guest registers of 64 bits, flags and other guest state of 32.
+    registers: Vec<u8>,
+    flags: Vec<u8>,
+    pc: u8,
+    /// Temporaries of 32 and of 64 bits, used in turn.
+    temporaries: [Vec<u8>; 2],
+    turn: usize,
+    /// A local temporary of 64 bits.
+    local: u8,
+    labels: u8,
+}
+
+const NARROW: usize = 0;
+const WIDE: usize = 1;
+/// Kinds of 64-bit ops.
+const MOVI: u8 = 0x90;
+const MOV: u8 = 0x91;
+const ADD: u8 = 0x94;
+const SUB: u8 = 0x95;
+const AND: u8 = 0x97;
+const XOR: u8 = 0x99;
+const SHR: u8 = 0xA4;
+const SETCOND: u8 = 0xA8;
+const MOVCOND: u8 = 0xA9;
+const BRCOND: u8 = 0xAA;
+const LOAD: u8 = 0xAB;
+const STORE: u8 = 0xAC;
+/// What makes any of these its 32-bit form.
+const TO_32: u8 = 0x7F;
+const EXTU: u8 = 0x06;
+const TRUNC: u8 = 0x07;
+
+impl FrontEnd {
+    fn new(random: Random) -> FrontEnd {
+        FrontEnd {
+            random,
+            block: vec![],
+            ops: 0,
+            globals: vec![],
+            variables: 0,
+            registers: vec![],
+            flags: vec![],
+            pc: 0,
+            temporaries: [vec![], vec![]],
+            turn: 0,
+            local: 0,
+            labels: 0,
+        }
+    }
+
+    fn declare(&mut self, class: u8, width: usize) -> u8 {
+        self.block.extend([1, class, width as u8]);
+        self.variables += 1;
+        self.variables - 1
+    }
+
+    fn global(&mut self, width: usize, value: u64) -> u8 {
+        self.globals.push(value);
+        self.declare(0, width)
+    }
+
+    /// Guest registers; the first three hold addresses.
+    fn registers(&mut self, count: usize) {
+        for number in 0..count {
+            let value = self.random.next();
+            let address = value % (MEMORY as u64 / 2);
+            let register = self.global(WIDE, if number < 3 { address } else { value });
+            self.registers.push(register);
+        }
+    }
+
+    /// Flags and other guest state; the first four are the flags.
+    fn flags(&mut self, count: usize) {
+        for _ in 0..count {
+            let value = self.random.next() & 1;
+            let flag = self.global(NARROW, value);
+            self.flags.push(flag);
+        }
+    }
+
+    /// 16 to 32 globals, then temporaries and a local temporary.
+    fn state(&mut self) {
+        self.pc = self.global(WIDE, 0x1000);
+        let registers = 9 + self.random.below(12);
+        self.registers(registers);
+        let flags = 6 + self.random.below(6);
+        self.flags(flags);
+        for width in [WIDE, NARROW] {
+            self.temporaries[width] = (0..4 + self.random.below(4))
+                .map(|_| self.declare(2, width))
+                .collect();
+        }
+        self.local = self.declare(1, WIDE);
+    }
+
+    /// 64 globals, some of which serve as temporaries.
+    fn crowded_state(&mut self) {
+        self.pc = self.global(WIDE, 0x1000);
+        self.local = self.global(WIDE, 0);
+        self.registers(34);
+        self.temporaries[WIDE] = (0..12).map(|_| self.global(WIDE, 0)).collect();
+        self.flags(10);
+        self.temporaries[NARROW] = (0..6).map(|_| self.global(NARROW, 0)).collect();
+    }
+
+    fn op(&mut self, kind: u8, body: &[u8]) {
+        self.block.push(kind);
+        self.block.extend(body);
+        self.ops += 1;
+    }
+
+    fn movi(&mut self, d: u8, value: u64) {
+        let mut body = vec![d];
+        body.extend(value.to_le_bytes());
+        self.op(MOVI, &body);
+    }
+
+    fn temporary(&mut self, width: usize) -> u8 {
+        self.turn += 1;
+        let all = &self.temporaries[width];
+        all[self.turn % all.len()]
+    }
+
+    fn constant(&mut self, value: u64) -> u8 {
+        let t = self.temporary(WIDE);
+        self.movi(t, value);
+        t
+    }
+
+    /// A temporary that an op with two inputs writes.
+    fn binary(&mut self, kind: u8, a: u8, b: u8) -> u8 {
+        let width = (kind >> 7) as usize;
+        let t = self.temporary(width);
+        self.op(kind, &[t, a, b]);
+        t
+    }
+
+    fn truncated(&mut self, a: u8) -> u8 {
+        let t = self.temporary(NARROW);
+        self.op(TRUNC, &[t, a]);
+        t
+    }
+
+    fn source(&mut self) -> u8 {
+        self.random.pick(&self.registers)
+    }
+
+    /// A register to write, none that holds an address.
+    fn target(&mut self) -> u8 {
+        self.random.pick(&self.registers[3..])
+    }
+
+    /// add, sub, and, or, xor: the more usual ones more often.
+    fn arithmetic(&mut self) -> u8 {
+        self.random
+            .pick(&[ADD, ADD, ADD, SUB, SUB, AND, 0x98, XOR, 0x96, 0x9A])
+    }
+
+    fn small(&mut self) -> u64 {
+        self.random.next() % 256
+    }
+
+    fn condition(&mut self) -> u8 {
+        self.random.below(10) as u8
+    }
+
+    /// Register and register, or register and immediate.
+    fn compute(&mut self) {
+        let (kind, a, d) = (self.arithmetic(), self.source(), self.target());
+        let b = if self.random.chance(60) {
+            let value = self.small();
+            self.constant(value)
+        } else {
+            self.source()
+        };
+        if self.random.chance(50) {
+            self.op(kind, &[d, a, b]);
+        } else {
+            let t = self.binary(kind, a, b);
+            self.op(MOV, &[d, t]);
+        }
+    }
+
+    /// The same on the low halves.
+    fn compute_32(&mut self) {
+        let (kind, a, b) = (self.arithmetic(), self.source(), self.source());
+        let a = self.truncated(a);
+        let b = self.truncated(b);
+        let t = self.binary(kind & TO_32, a, b);
+        let d = self.target();
+        self.op(EXTU, &[d, t]);
+    }
+
+    fn shift(&mut self) {
+        let kind = self.random.pick(&[0xA3, SHR, 0xA5]);
+        let (a, d) = (self.source(), self.target());
+        let count = self.random.next() % 64;
+        let count = self.constant(count);
+        self.op(kind, &[d, a, count]);
+    }
+
+    /// A constant in two halves, or relative to the guest's pc: it folds.
+    fn load_immediate(&mut self) {
+        let high = self.random.next() & 0xFFFF_F000;
+        let low = self.random.next() & 0xFFF;
+        let a = self.constant(high);
+        let b = self.constant(low);
+        let t = self.binary(ADD, a, b);
+        let d = self.target();
+        self.op(MOV, &[d, t]);
+    }
+
+    /// A comparison that writes all four flags; the next one makes these
+    /// writes dead, if no load or store stands between.
+    fn compare(&mut self) {
+        let (a, b) = (self.source(), self.source());
+        let difference = self.binary(SUB, a, b);
+        let zero = self.constant(0);
+        let count = self.constant(63);
+        let sign = self.binary(SHR, difference, count);
+        let one = self.flags[0];
+        self.op(TRUNC, &[one, sign]);
+        let equal = self.temporary(WIDE);
+        self.op(SETCOND, &[equal, difference, zero, 0]);
+        let two = self.flags[1];
+        self.op(TRUNC, &[two, equal]);
+        let carry = self.temporary(WIDE);
+        self.op(SETCOND, &[carry, a, b, 7]);
+        let three = self.flags[2];
+        self.op(TRUNC, &[three, carry]);
+        let unlike = self.binary(XOR, a, b);
+        let turned = self.binary(XOR, a, unlike);
+        let overflow = self.truncated(turned);
+        let four = self.flags[3];
+        self.op(MOV & TO_32, &[four, overflow]);
+    }
+
+    /// A register chosen by a flag.
+    fn select(&mut self) {
+        let (a, b, d) = (self.source(), self.source(), self.target());
+        let zero = self.constant(0);
+        let flag = self.temporary(WIDE);
+        let from = self.random.pick(&self.flags);
+        self.op(EXTU, &[flag, from]);
+        let cond = self.condition();
+        self.op(MOVCOND, &[d, flag, zero, a, b, cond]);
+    }
+
+    /// An address: a register and a constant.
+    fn address(&mut self) -> u8 {
+        let base = self.random.pick(&self.registers[..3]);
+        if self.random.chance(25) {
+            return base;
+        }
+        let offset = self.small();
+        let offset = self.constant(offset);
+        self.binary(ADD, base, offset)
+    }
+
+    fn load(&mut self) {
+        let address = self.address();
+        let d = self.target();
+        if self.random.chance(70) {
+            self.op(LOAD, &[d, address, 3]);
+            return;
+        }
+        let flags = self.random.pick(&[0, 1, 2, 4, 5, 6]);
+        let t = self.temporary(NARROW);
+        self.op(LOAD & TO_32, &[t, address, flags]);
+        self.op(EXTU, &[d, t]);
+    }
+
+    fn store(&mut self) {
+        let address = self.address();
+        let value = self.source();
+        if self.random.chance(70) {
+            self.op(STORE, &[value, address, 3]);
+            return;
+        }
+        let flags = self.random.pick(&[0, 1, 2]);
+        let t = self.truncated(value);
+        self.op(STORE & TO_32, &[t, address, flags]);
+    }
+
+    /// An instruction that a condition jumps over.
+    fn skipped(&mut self) {
+        let (a, b, cond) = (self.source(), self.source(), self.condition());
+        let label = self.labels;
+        self.labels += 1;
+        let local = self.local;
+        self.op(MOV, &[local, a]);
+        self.op(BRCOND, &[local, b, cond, label]);
+        self.compute();
+        self.op(0x02, &[label]);
+    }
+
+    /// The guest's pc, kept up to date for faults.
+    fn advance(&mut self) {
+        let pc = self.pc;
+        let place = 0x1000 + 4 * self.ops as u64;
+        self.movi(pc, place);
+    }
+
+    fn instruction(&mut self) {
+        // One label is left for the end.
+        let most = if self.labels < 31 { 100 } else { 97 };
+        match self.random.below(most) {
+            0..=29 => self.compute(),
+            30..=37 => self.compute_32(),
+            38..=45 => self.shift(),
+            46..=53 => self.load_immediate(),
+            54..=61 => self.compare(),
+            62..=64 => self.select(),
+            65..=81 => self.load(),
+            82..=96 => self.store(),
+            _ => self.skipped(),
+        }
+    }
+
+    fn leave(&mut self, target: u64) {
+        let pc = self.pc;
+        self.movi(pc, target);
+        let zero = self.constant(0);
+        self.op(0x04, &[zero]);
+    }
+
+    /// One way out, or two.
+    fn end(&mut self) {
+        if self.random.chance(50) {
+            let (a, b, cond) = (self.source(), self.source(), self.condition());
+            let label = self.labels;
+            self.op(BRCOND, &[a, b, cond, label]);
+            self.leave(0x2000);
+            self.op(0x02, &[label]);
+        }
+        self.leave(0x3000);
+    }
+
+    fn case(mut self) -> Case {
+        Case {
+            memory: (0..MEMORY).map(|_| self.random.next() as u8).collect(),
+            block: self.block,
+            globals: self.globals,
+        }
+    }
+}
+
+/// A block of 10 to 60 ops.
+fn short(number: u64) -> Case {
+    let mut front_end = FrontEnd::new(Random::new(SEED, number));
+    front_end.state();
+    // An instruction has at most 14 ops with its pc, the end 8.
+    let most = 4 + front_end.random.below(34);
+    let keeps_pc = front_end.random.chance(50);
+    while front_end.ops <= most {
+        if keeps_pc {
+            front_end.advance();
+        }
+        front_end.instruction();
+    }
+    while front_end.ops < 7 {
+        front_end.compute();
+    }
+    front_end.end();
+    front_end.case()
+}
+
+/// A block of 100 to 200 ops on 64 globals alone, with many stores and loads.
+fn crowded(number: u64) -> Case {
+    let mut front_end = FrontEnd::new(Random::new(SEED, number));
+    front_end.crowded_state();
+    let most = 96 + front_end.random.below(84);
+    while front_end.ops <= most {
+        if front_end.random.chance(40) {
+            front_end.store();
+        } else {
+            front_end.instruction();
+        }
+    }
+    front_end.end();
+    front_end.case()
+}
