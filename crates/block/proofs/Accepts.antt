@@ -49,7 +49,7 @@ numbered-rules s r = go (isDeclaration r)
     go true = (omega arith, tt)
     go false = numbered-op s r
 
-numbered-end : (s : Seen) → Numbered (endRules s)
+pub numbered-end : (s : Seen) → Numbered (endRules s)
 numbered-end s = (omega arith, (omega arith, tt))
 
 answer-accepted : (number place : ℕ) (go : Verdict) → answer number place go ≡ Accepted → (eqb number 0 ≡ true) × (go ≡ Accepted)

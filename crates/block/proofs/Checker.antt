@@ -1,5 +1,5 @@
 -- The check of the ops as a check in order, with the rule of temporaries apart; and the check of the declarations before them. Assumes nothing.
-use mathlib.Core.Path.{_≡_, refl, sym, ap, _∙_}
+use mathlib.Core.Path.{_≡_, refl, sym, ap, ap₂, _∙_}
 use mathlib.Core.Bool.{Bool, true, false, cond, not, _&&_, _||_, false≢true}
 use mathlib.Core.List.{List, [], _∷_, _++_, append-assoc, append-nil}
 use Prim.Native.Nat.{ℕ, _+_, _≤_, _<_}
@@ -8,14 +8,16 @@ use lib.Dec.{eqb, ltb, leb, eqb·suc-zero}
 use lib.ListN.{length, length-append}
 use borrow.Author.Tests.{ltb-true, not-true}
 use Rattle.theory.specs.Checker.{Checker, checks}
-use Rattle.theory.specs.Scope.{mayRead, scoped}
+use Rattle.theory.specs.Scope.{scoped}
+use Rattle.theory.specs.Sets.{Vars, allIn}
 use Rattle.theory.proofs.Sets.{and-l, and-r, and-i, clash}
 use Rattle.theory.proofs.Simulation.{more}
-use Rattle.ops.specs.Kinds.{at}
-use Rattle.ops.specs.Ops.{viewOf, tcg}
+use Rattle.ops.specs.Rows.{at}
+use Rattle.ops.specs.Ops.{tcg}
+use Rattle.ops.proofs.Traits.{inputs-at, wrote-at}
 use Rattle.block.specs.Checks.{asks, opRules, rulesOf, endRules}
 use Rattle.block.specs.Meaning.{seen}
-use Rattle.block.specs.Records.{isDeclaration, classOf, typeOf, widthOf, classesOf, widthsOf}
+use Rattle.block.specs.Records.{isDeclaration, classOf, typeOf, classesOf, declaredTypes}
 use Rattle.block.specs.Rules.{allGlobal}
 use Rattle.block.proofs.Accepts.{allMet, accepts, meet}
 use Rattle.block.proofs.Cut.{whole, AllWhole, AllDeclared, headOp}
@@ -71,9 +73,11 @@ op-next : (s : Seen) (o : List ℕ) → isDeclaration o ≡ false → next s o �
 unfolding next
 op-next s o e = rw e
 
-in-scope : (s : Seen) (o : List ℕ) (os : List (List ℕ)) → rule8 s o ≡ true → inScope (passed s o) os ≡ true → inScope s (o ∷ os) ≡ true
+-- the rule of temporaries, op by op
+scope-step : (s : Seen) (o : List ℕ) (os : List (List ℕ)) → inScope s (o ∷ os) ≡ (rule8 s o && inScope (passed s o) os)
 unfolding rule8
-in-scope s o os h k = and-i (mayRead (keptIn (s .classes)) (s .written) (viewOf o)) (inScope (passed s o) os) h k
+scope-step s o os =
+    ap₂ (λ (is : List ℕ) (w : Vars). allIn (keptIn (s .classes)) is (s .written) && scoped tcg (keptIn (s .classes)) w os) (inputs-at o) (wrote-at o (s .written))
 
 pub accepts-ops : (s : Seen) (os : List (List ℕ)) → headOp os ≡ true → AllWhole os → accepts s os ≡ true
     → (checks tcg checker s os ≡ true) × (inScope s os ≡ true)
@@ -89,15 +93,8 @@ accepts-ops s (o ∷ os) n w h =
       and-i (opOk s o) (checks tcg checker (passed s o) os)
           (and-i (whole o) (not (isDeclaration o) && (rule9 s o && (rule4 s o && (rule5 s o && (rule6 s o && rule7 s o))))) (w .0)
           (and-i (not (isDeclaration o)) (rule9 s o && (rule4 s o && (rule5 s o && (rule6 s o && rule7 s o)))) n (p .0))) (q .0),
-      in-scope s o os (p .1) (q .1),
+      scope-step s o os ∙ and-i (rule8 s o) (inScope (passed s o) os) (p .1) (q .1),
     )
-
-scope-parts : (s : Seen) (o : List ℕ) (os : List (List ℕ)) → inScope s (o ∷ os) ≡ true → (rule8 s o ≡ true) × (inScope (passed s o) os ≡ true)
-unfolding rule8
-scope-parts s o os k = (
-  and-l (mayRead (keptIn (s .classes)) (s .written) (viewOf o)) (inScope (passed s o) os) k,
-  and-r (mayRead (keptIn (s .classes)) (s .written) (viewOf o)) (inScope (passed s o) os) k,
-)
 
 pub ops-accepts : (s : Seen) (os : List (List ℕ)) → checks tcg checker s os ≡ true → inScope s os ≡ true
     → AllWhole os × (headOp os ≡ true) × (accepts s os ≡ true)
@@ -107,9 +104,9 @@ ops-accepts s (o ∷ os) h k =
     let more : (not (isDeclaration o) && (rule9 s o && (rule4 s o && (rule5 s o && (rule6 s o && rule7 s o))))) ≡ true = and-r (whole o) _ ok in
     let n : not (isDeclaration o) ≡ true = and-l (not (isDeclaration o)) _ more in
     let e : isDeclaration o ≡ false = not-true (isDeclaration o) n in
-    let p = scope-parts s o os k in
-    let q = ops-accepts (passed s o) os (and-r (opOk s o) (checks tcg checker (passed s o) os) h) (p .1) in
-    let m : allMet (opRules s o) ≡ true = sixth-joined (rule9 s o) (rule4 s o) (rule5 s o) (rule6 s o) (rule7 s o) (rule8 s o) (and-r (not (isDeclaration o)) _ more) (p .0) in
+    let k′ : (rule8 s o && inScope (passed s o) os) ≡ true = sym (scope-step s o os) ∙ k in
+    let q = ops-accepts (passed s o) os (and-r (opOk s o) (checks tcg checker (passed s o) os) h) (and-r (rule8 s o) _ k′) in
+    let m : allMet (opRules s o) ≡ true = sixth-joined (rule9 s o) (rule4 s o) (rule5 s o) (rule6 s o) (rule7 s o) (rule8 s o) (and-r (not (isDeclaration o)) _ more) (and-l (rule8 s o) _ k′) in
     let m′ : allMet (rulesOf s o) ≡ true = ap allMet (op-rules s o e) ∙ m in
     let r : accepts (next s o) os ≡ true = ap (λ (t : Seen). accepts t os) (op-next s o e) ∙ q .2 in
     ((and-l (whole o) _ ok, q .0), n, and-i (allMet (rulesOf s o)) (accepts (next s o) os) m′ r)
@@ -119,7 +116,7 @@ abbrev pub declaredIn : Seen → List (List ℕ) → Seen
 declaredIn s ds =
     record {
       classes = s .classes ++ classesOf ds;
-      widths = s .widths ++ widthsOf ds;
+      types = s .types ++ declaredTypes ds;
       written = s .written;
       labels = s .labels;
       targets = s .targets;
@@ -132,15 +129,15 @@ unfolding next
 declared-next s d e = rw e
 
 pub seen-declared : (s : Seen) (ds : List (List ℕ)) → AllDeclared ds → seen s ds ≡ declaredIn s ds
-seen-declared s [] h = rw (append-nil (s .classes), append-nil (s .widths))
+seen-declared s [] h = rw (append-nil (s .classes), append-nil (s .types))
 seen-declared s (d ∷ ds) h =
-    rw (declared-next s d (h .0), seen-declared (declared s d) ds (h .1), append-assoc (s .classes) (classOf d ∷ []) (classesOf ds), append-assoc (s .widths) (widthOf (typeOf d) ∷ []) (widthsOf ds))
+    rw (declared-next s d (h .0), seen-declared (declared s d) ds (h .1), append-assoc (s .classes) (classOf d ∷ []) (classesOf ds), append-assoc (s .types) (typeOf d ∷ []) (declaredTypes ds))
 
-room3 : (s : Seen) (d : List ℕ) → rule3 s d ≡ true → length (s .classes) < 64
+pub room3 : (s : Seen) (d : List ℕ) → rule3 s d ≡ true → length (s .classes) < 64
 unfolding rule3
 room3 s d h = ltb-true (length (s .classes)) 64 (and-r (eqb (s .ops) 0 && leb (classOf d) 2 && leb (typeOf d) 1 && (not (eqb (classOf d) 0) || allGlobal (s .classes))) (ltb (length (s .classes)) 64) h)
 
-room9 : (s : Seen) (o : List ℕ) → rule9 s o ≡ true → s .ops < 256
+pub room9 : (s : Seen) (o : List ℕ) → rule9 s o ≡ true → s .ops < 256
 unfolding rule9
 room9 s o h = ltb-true (s .ops) 256 h
 

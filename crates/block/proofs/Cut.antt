@@ -4,14 +4,14 @@ use mathlib.Core.Bool.{Bool, true, false, cond, not, _&&_}
 use mathlib.Core.List.{List, [], _∷_, _++_}
 use Prim.Native.Nat.{ℕ, zero, suc, _≤_}
 use native.Mathlib.Omega.{arith}
-use lib.Dec.{eqb, ltb}
+use lib.Dec.{eqb, ltb, eqb·zero-suc}
 use lib.ListN.{length, take, drop, length-append}
 use lib.Seq.{take-at, drop-at, length-take-le}
 use borrow.Author.Tests.{ltb-false, eqb-true, not-true, le-ltb, eq-eqb}
 use Rattle.theory.specs.Machine.{All}
 use Rattle.theory.proofs.Sets.{and-l, and-r, and-i, clash}
 use Rattle.theory.proofs.Simulation.{more}
-use Rattle.ops.specs.Kinds.{rowOf, known, bodyLength}
+use Rattle.ops.specs.Kinds.{known, bodyLength}
 use Rattle.ops.specs.Ops.{kindOf}
 use Rattle.block.specs.Records.{Cut, nothingLeft, stray, cons, cutBy, cutOf, concat, isDeclaration, declarations, opsFrom}
 
@@ -58,8 +58,11 @@ cut-none zero = refl
 cut-none (suc n) = refl
 
 pub no-record : whole [] ≡ false
-unfolding rowOf
-no-record = refl
+no-record = go (known 0)
+  where
+    go : (b : Bool) → (b && eqb 0 (suc (bodyLength 0))) ≡ false
+    go true = eqb·zero-suc (bodyLength 0)
+    go false = refl
 
 cut-records : (rs : List (List ℕ)) (n : ℕ) → AllWhole rs → length (concat rs) ≤ n → cutBy n (concat rs) ≡ cut-clean rs
 cut-records [] n h l = cut-none n

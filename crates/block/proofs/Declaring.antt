@@ -1,7 +1,7 @@
 -- One turn of the loop over the declarations. Assumes nothing.
 use mathlib.Core.Path.{_≡_, refl, sym, ap, ap₂, _∙_}
 use mathlib.Core.Bool.{Bool, true, false, cond, not, _&&_, _||_}
-use mathlib.Core.List.{List, [], _∷_, _++_, append-assoc, map}
+use mathlib.Core.List.{List, [], _∷_, _++_, append-assoc}
 use Prim.Native.Nat.{ℕ, suc, _+_, _-_, _≤_, _<_}
 use native.Mathlib.Omega.{arith}
 use lib.Dec.{eqb, ltb, leb, eqb·zero-suc, eqb·suc-suc}
@@ -11,10 +11,11 @@ use borrow.Author.Tests.{ltb-true, eq-eqb, ne-eqb}
 use native.Mathlib.Numerals.{add-one}
 use Rattle.theory.specs.Prune.{before}
 use Rattle.theory.proofs.Sets.{and-l, and-r}
-use Rattle.ops.specs.Kinds.{at, rowOf, known, bodyLength}
+use Rattle.ops.specs.Rows.{roleNo, typesOf, at}
+use Rattle.ops.specs.Kinds.{kindTable, rowOf, known, bodyLength}
 use Rattle.ops.specs.Ops.{kindOf}
 use Rattle.block.specs.Checks.{asks, firstBroken, answer, checkOf}
-use Rattle.block.specs.Records.{Cut, cons, cutOf, recordsOf, isDeclaration, classOf, typeOf, widthOf, classesOf, widthsOf, globalCount}
+use Rattle.block.specs.Records.{Cut, cons, cutOf, recordsOf, isDeclaration, classOf, typeOf, classesOf, declaredTypes, globalCount}
 use Rattle.block.specs.Rules.{Seen}
 use Rattle.block.specs.Scan.{Stands, declarationOk, DeclaredBy, refuses, reads-on}
 use Rattle.block.proofs.Cut.{all-append}
@@ -49,13 +50,9 @@ classes-append : (ds : List (List ℕ)) (d : List ℕ) → classesOf (ds ++ (d �
 classes-append [] d = refl
 classes-append (x ∷ ds) d = ap (λ (q : List ℕ). classOf x ∷ q) (classes-append ds d)
 
-widths-append : (ds : List (List ℕ)) (d : List ℕ) → widthsOf (ds ++ (d ∷ [])) ≡ widthsOf ds ++ (widthOf (typeOf d) ∷ [])
-widths-append [] d = refl
-widths-append (x ∷ ds) d = ap (λ (q : List ℕ). widthOf (typeOf x) ∷ q) (widths-append ds d)
-
-map-append : (f : ℕ → ℕ) (xs : List ℕ) (y : ℕ) → map f (xs ++ (y ∷ [])) ≡ map f xs ++ (f y ∷ [])
-map-append f [] y = refl
-map-append f (x ∷ xs) y = ap (λ (q : List ℕ). f x ∷ q) (map-append f xs y)
+types-append : (ds : List (List ℕ)) (d : List ℕ) → declaredTypes (ds ++ (d ∷ [])) ≡ declaredTypes ds ++ (typeOf d ∷ [])
+types-append [] d = refl
+types-append (x ∷ ds) d = ap (λ (q : List ℕ). typeOf x ∷ q) (types-append ds d)
 
 count-small : (cs : List ℕ) → globalCount cs ≤ length cs
 count-small [] = omega arith
@@ -77,7 +74,7 @@ declaring-start b classes types lc lt =
       records-are = refl;
       all-declared = tt;
       classes-are = refl;
-      widths-are = refl;
+      types-are = refl;
       globals-are = refl;
       place-is = refl;
       reached = omega arith;
@@ -87,11 +84,11 @@ declaring-start b classes types lc lt =
     }
 
 declares : bodyLength 0x01 ≡ 2
-unfolding rowOf
+unfolding rowOf kindTable roleNo typesOf
 declares = refl
 
 declares-known : known 0x01 ≡ true
-unfolding rowOf
+unfolding rowOf kindTable roleNo typesOf
 declares-known = refl
 
 module _ {b classes types : List ℕ} {p n globals : ℕ} (d : Declaring b classes types p n globals) (h : p < length b) (k : getD b p 0 ≡ 1) where
@@ -166,13 +163,11 @@ module _ {b classes types : List ℕ} {p n globals : ℕ} (d : Declaring b class
       classes-more : take (n + 1) (set classes n (getD b (p + 1) 0)) ≡ take n classes ++ (getD b (p + 1) 0 ∷ [])
       classes-more = ap (λ (m : ℕ). take m (set classes n (getD b (p + 1) 0))) (add-one n) ∙ take-suc-set classes n (getD b (p + 1) 0) hc
 
-      widths-more : map widthOf (take (n + 1) (set types n (getD b (p + 2) 0))) ≡ map widthOf (take n types) ++ (widthOf (getD b (p + 2) 0) ∷ [])
-      widths-more =
-          ap (λ (m : ℕ). map widthOf (take m (set types n (getD b (p + 2) 0)))) (add-one n) ∙ ap (map widthOf) (take-suc-set types n (getD b (p + 2) 0) ht)
-          ∙ map-append widthOf (take n types) (getD b (p + 2) 0)
+      types-more : take (n + 1) (set types n (getD b (p + 2) 0)) ≡ take n types ++ (getD b (p + 2) 0 ∷ [])
+      types-more = ap (λ (m : ℕ). take m (set types n (getD b (p + 2) 0))) (add-one n) ∙ take-suc-set types n (getD b (p + 2) 0) ht
 
       seen-more : declared (declaredSeen classes types n) (recordAt b p) ≡ declaredSeen (set classes n (getD b (p + 1) 0)) (set types n (getD b (p + 2) 0)) (n + 1)
-      seen-more = rw (classes-more, widths-more, class, type)
+      seen-more = rw (classes-more, types-more, class, type)
 
       goes : checkAt (declaredSeen (set classes n (getD b (p + 1) 0)) (set types n (getD b (p + 2) 0)) (n + 1)) b (p + 3) ≡ checkOf b
       unfolding firstBroken
@@ -195,7 +190,7 @@ module _ {b classes types : List ℕ} {p n globals : ℕ} (d : Declaring b class
             records-are = records-more;
             all-declared = all-append (λ r. isDeclaration r ≡ true) (d .before) (recordAt b p ∷ []) (d .all-declared) (kind, tt);
             classes-are = classes-append (d .before) (recordAt b p) ∙ ap₂ (λ (x : List ℕ) (y : ℕ). x ++ (y ∷ [])) (d .classes-are) class ∙ sym classes-more;
-            widths-are = widths-append (d .before) (recordAt b p) ∙ ap₂ (λ (x : List ℕ) (y : ℕ). x ++ (widthOf y ∷ [])) (d .widths-are) type ∙ sym widths-more;
+            types-are = types-append (d .before) (recordAt b p) ∙ ap₂ (λ (x : List ℕ) (y : ℕ). x ++ (y ∷ [])) (d .types-are) type ∙ sym types-more;
             globals-are = e ∙ ap globalCount (sym classes-more);
             place-is = omega (arith, d .place-is);
             reached = omega (arith, within, body);

@@ -9,18 +9,21 @@ use lib.ListN.{length, getD}
 use borrow.Author.Tests.{ltb-true, eqb-true, lt-ltb, eq-eqb}
 use native.Mathlib.Nat.{le-trans, le-refl}
 use Rattle.theory.specs.Fold.{Known, Rewrite, baseRule}
-use Rattle.theory.specs.Machine.{View, calc, access, label, flow, headOr, pure}
+use Rattle.theory.specs.Machine.{headOr, pure}
 use Rattle.theory.proofs.Views.{computes-calc}
 use Rattle.theory.specs.Sets.{Vars}
 use Rattle.theory.proofs.Accept.{Lenient, Cutting, Admitted, Admits}
 use Rattle.theory.proofs.Rule.{Puts, same, folds, puts}
 use Rattle.theory.proofs.Sets.{and-l, and-r, and-i, clash}
-use Rattle.ops.specs.Kinds.{at, one, rowOf, known, bodyLength}
-use Rattle.ops.specs.Ops.{leave, kindOf, rowAt, insBy, Fault, viewBy, viewOf, tcg, moviOf, folding}
+use Rattle.ops.specs.Rows.{Row, exits, isSetting, isJumping, at}
+use Rattle.ops.specs.Kinds.{rowOf, known, bodyLength}
+use Rattle.ops.specs.Ops.{leave, kindOf, rowAt, insBy, labelBy, viewFor, viewOf, tcg, moviOf, folding}
+use Rattle.ops.proofs.Table.{rowWith, row-of, exit-role}
+use Rattle.ops.proofs.Traits.{pure-at, pure-quiet}
 use Rattle.ops.proofs.Folding.{Movi, movi-facts, states, movi-for, const-view, constants}
 use Rattle.block.specs.Checks.{endRules}
 use Rattle.block.specs.Records.{isDeclaration}
-use Rattle.block.specs.Rules.{Seen, allBelow, operandsOf, rule4, haveWidths, rule5, rule6, labelFree, nextLabels, nextTargets, rule7, rule9, rule10}
+use Rattle.block.specs.Rules.{Seen, allBelow, operandsOf, rule4, haveTypes, rule5, rule6, markedBy, rule7, rule9, rule10}
 use Rattle.block.specs.Rules.{rule7end, passed}
 use Rattle.block.proofs.Accepts.{allMet}
 use Rattle.block.proofs.Checker.{opOk, checker}
@@ -29,7 +32,7 @@ use Rattle.block.proofs.Cut.{whole}
 -- whatever is accepted after x is accepted after y
 pub record Le (x y : Seen) : Type 0 where
   pub classes : y .classes ≡ x .classes
-  pub widths : y .widths ≡ x .widths
+  pub types : y .types ≡ x .types
   pub labels : y .labels ≡ x .labels
   pub targets : y .targets ≡ x .targets
   pub ops : y .ops ≤ x .ops
@@ -40,7 +43,7 @@ rules-le : (x y : Seen) (o : List ℕ) → Le x y → (rule9 x o && (rule4 x o &
 unfolding rule9 rule4 rule5 rule6 rule7
 rules-le x y o l h =
     and-i (rule9 y o) _ (lt-ltb (y .ops) 256 (omega (arith, l .ops, ltb-true (x .ops) 256 (and-l (rule9 x o) _ h))))
-    (rw (l .classes, l .widths, l .labels) (and-r (rule9 x o) (rule4 x o && (rule5 x o && (rule6 x o && rule7 x o))) h))
+    (rw (l .classes, l .types, l .labels) (and-r (rule9 x o) (rule4 x o && (rule5 x o && (rule6 x o && rule7 x o))) h))
 
 ok-le : (x y : Seen) (o : List ℕ) → Le x y → opOk x o ≡ true → opOk y o ≡ true
 ok-le x y o l h =
@@ -55,9 +58,9 @@ next-le : (x y : Seen) (o : List ℕ) → Le x y → Le (passed x o) (passed y o
 next-le x y o l =
     record {
       classes = l .classes;
-      widths = l .widths;
-      labels = ap (λ (f : Vars). nextLabels f (viewOf o)) (l .labels);
-      targets = ap (λ (f : Vars). nextTargets f (viewOf o)) (l .targets);
+      types = l .types;
+      labels = ap (λ (f : Vars). markedBy (isSetting ((rowAt o) .role)) f (labelBy (rowAt o) o)) (l .labels);
+      targets = ap (λ (f : Vars). markedBy (isJumping ((rowAt o) .role)) f (labelBy (rowAt o) o)) (l .targets);
       ops = omega (arith, l .ops);
       last = λ e. e;
     }
@@ -69,29 +72,28 @@ end-le x y l h =
     (rw (l .targets, l .labels) (and-r (rule10 x) (rule7end x && true) h))
 
 -- a pure op marks no label and jumps to none, and is no exit
-calc-labels : (labels targets : Vars) (w : View ℕ (List ℕ) ℕ Fault) → pure w ≡ true → (nextLabels labels w ≡ labels) × (nextTargets targets w ≡ targets)
-calc-labels labels targets (calc outs ins f) c = (refl, refl)
-calc-labels labels targets (access outs ins f) c = absurd (false≢true c)
-calc-labels labels targets (label k) c = absurd (false≢true c)
-calc-labels labels targets (flow ins t y) c = absurd (false≢true c)
+calc-labels : (labels targets : Vars) (o : List ℕ) → pure (viewOf o) ≡ true
+    → (markedBy (isSetting ((rowAt o) .role)) labels (labelBy (rowAt o) o) ≡ labels) × (markedBy (isJumping ((rowAt o) .role)) targets (labelBy (rowAt o) o) ≡ targets)
+calc-labels labels targets o c =
+    let q = pure-quiet ((rowAt o) .role) (sym (pure-at o) ∙ c) in
+    (ap (λ (b : Bool). markedBy b labels (labelBy (rowAt o) o)) (q .0), ap (λ (b : Bool). markedBy b targets (labelBy (rowAt o) o)) (q .1))
 
-exit-row : (k : ℕ) (r : List ℕ) → k ≡ 0x04 → viewBy (rowOf k) ((rowOf k) .does) r ≡ leave (at r 1)
-unfolding rowOf
-exit-row k r e = rw e
-
-pub exit-view : (o : List ℕ) → kindOf o ≡ 0x04 → viewOf o ≡ leave (at o 1)
+pub exit-view : (o : List ℕ) → kindOf o ≡ 0x04 → viewOf o ≡ leave (at o 1 ∷ [])
 unfolding viewOf
-exit-view o e = exit-row (kindOf o) o e
+exit-view o e = ap (λ (row : Row). viewFor (row .role) row o) (exit-row (kindOf o) e)
+  where
+    exit-row : (k : ℕ) → k ≡ 0x04 → rowOf k ≡ rowWith [] (1 ∷ []) 0 0 exits
+    exit-row k e = ap rowOf e ∙ row-of exits 0x04 exit-role
 
 no-exit : {A : Type 0} (o : List ℕ) → pure (viewOf o) ≡ true → kindOf o ≡ 0x04 → A
 no-exit o c e = clash (pure (viewOf o)) c (ap pure (exit-view o e))
 
 drop-ok : (x : Seen) (o : List ℕ) → pure (viewOf o) ≡ true → Le (passed x o) x
 drop-ok x o c =
-    let l = calc-labels (x .labels) (x .targets) (viewOf o) c in
+    let l = calc-labels (x .labels) (x .targets) o c in
     record {
       classes = refl;
-      widths = refl;
+      types = refl;
       labels = sym (l .0);
       targets = sym (l .1);
       ops = omega arith;
@@ -102,10 +104,10 @@ pub lenient : Lenient tcg checker
 lenient =
     record {
       Le = Le;
-      le-refl = λ x. record { classes = refl; widths = refl; labels = refl; targets = refl; ops = omega arith; last = λ e. e };
+      le-refl = λ x. record { classes = refl; types = refl; labels = refl; targets = refl; ops = omega arith; last = λ e. e };
       le-trans = λ x y z a b. record {
         classes = b .classes ∙ a .classes;
-        widths = b .widths ∙ a .widths;
+        types = b .types ∙ a .types;
         labels = b .labels ∙ a .labels;
         targets = b .targets ∙ a .targets;
         ops = omega (arith, a .ops, b .ops);
@@ -138,10 +140,10 @@ module _ (x : Seen) (o : List ℕ) (w v : ℕ) (one : (rowAt o) .outs ≡ w ∷ 
   movi-5 : rule5 x o ≡ true → rule5 x (moviOf w (at o 1) v) ≡ true
   unfolding rule5
   movi-5 h =
-      let k : (eqb (getD (x .widths) (at o 1) 0) w && haveWidths (x .widths) (insBy (rowAt o) o) ((rowAt o) .ins)) ≡ true =
-      sym (ap₂ (haveWidths (x .widths)) first-operand (ap (λ (t : List ℕ). t ++ (rowAt o) .ins) one)) ∙ h in
-      ap₂ (haveWidths (x .widths)) movi-operands (ap₂ (λ (s t : List ℕ). s ++ t) (m .widths) (m .no-inputs))
-      ∙ and-i (eqb (getD (x .widths) (at o 1) 0) w) true (and-l (eqb (getD (x .widths) (at o 1) 0) w) _ k) refl
+      let k : (eqb (getD (x .types) (at o 1) 0) w && haveTypes (x .types) (insBy (rowAt o) o) ((rowAt o) .ins)) ≡ true =
+      sym (ap₂ (haveTypes (x .types)) first-operand (ap (λ (t : List ℕ). t ++ (rowAt o) .ins) one)) ∙ h in
+      ap₂ (haveTypes (x .types)) movi-operands (ap₂ (λ (s t : List ℕ). s ++ t) (m .types) (m .no-inputs))
+      ∙ and-i (eqb (getD (x .types) (at o 1) 0) w) true (and-l (eqb (getD (x .types) (at o 1) 0) w) _ k) refl
 
   movi-9 : rule9 x o ≡ true → rule9 x (moviOf w (at o 1) v) ≡ true
   unfolding rule9
@@ -153,7 +155,9 @@ module _ (x : Seen) (o : List ℕ) (w v : ℕ) (one : (rowAt o) .outs ≡ w ∷ 
 
   movi-7 : rule7 x (moviOf w (at o 1) v) ≡ true
   unfolding rule7
-  movi-7 = ap (labelFree (x .labels)) (m .view)
+  movi-7 =
+      let q = pure-quiet ((rowAt (moviOf w (at o 1) v)) .role) (sym (pure-at (moviOf w (at o 1) v)) ∙ ap pure (m .view)) in
+      rw (q .0, q .1)
 
   movi-whole : whole (moviOf w (at o 1) v) ≡ true
   movi-whole =
@@ -167,7 +171,7 @@ module _ (x : Seen) (o : List ℕ) (w v : ℕ) (one : (rowAt o) .outs ≡ w ∷ 
       let b = and-r (rule9 x o) (rule4 x o && (rule5 x o && (rule6 x o && rule7 x o))) a in
       let c = and-r (rule4 x o) (rule5 x o && (rule6 x o && rule7 x o)) b in
       and-i (whole o′) _ movi-whole
-      (and-i (not (isDeclaration o′)) _ (ap not (movi-kind (eqb w 32)))
+      (and-i (not (isDeclaration o′)) _ (ap not (movi-kind (eqb w 0)))
       (and-i (rule9 x o′) _ (movi-9 (and-l (rule9 x o) _ a))
       (and-i (rule4 x o′) _ (movi-4 (and-l (rule4 x o) _ b))
       (and-i (rule5 x o′) _ (movi-5 (and-l (rule5 x o) _ c))
@@ -193,19 +197,19 @@ cutting =
 admitted : (x : Seen) (k : Known ℕ) (o : List ℕ) (y : Rewrite (List ℕ)) → Puts tcg folding constants k o y → opOk x o ≡ true
     → Admitted tcg checker lenient cutting x k o y
 unfolding lenient cutting
-admitted x k o y same h = (h, record { classes = refl; widths = refl; labels = refl; targets = refl; ops = omega arith; last = λ q. q }, tt)
+admitted x k o y same h = (h, record { classes = refl; types = refl; labels = refl; targets = refl; ops = omega arith; last = λ q. q }, tt)
 admitted x k o y (folds xs vs t a g) h =
     let o′ = folding .const o (headOr 0 vs) in
     let s = states o xs vs t g in
-    let q : o′ ≡ moviOf (s .width) (at o 1) (s .value) = movi-for o vs s in
-    let m = movi-facts (s .width) (at o 1) (s .value) (s .wide) (s .fits) in
+    let q : o′ ≡ moviOf (s .type) (at o 1) (s .value) = movi-for o vs s in
+    let m = movi-facts (s .type) (at o 1) (s .value) (s .small) (s .fits) in
     let c : pure (viewOf o) ≡ true = ap pure (computes-calc (viewOf o) xs vs g) in
-    let l = calc-labels (x .labels) (x .targets) (viewOf o) c in
-    let l′ = calc-labels (x .labels) (x .targets) (viewOf o′) (ap pure (const-view o xs vs t g)) in (
-      ap (opOk x) q ∙ movi-ok x o (s .width) (s .value) (s .one-out) m h,
+    let l = calc-labels (x .labels) (x .targets) o c in
+    let l′ = calc-labels (x .labels) (x .targets) o′ (ap pure (const-view o xs vs t g)) in (
+      ap (opOk x) q ∙ movi-ok x o (s .type) (s .value) (s .one-out) m h,
       record {
         classes = refl;
-        widths = refl;
+        types = refl;
         labels = l′ .0 ∙ sym (l .0);
         targets = l′ .1 ∙ sym (l .1);
         ops = omega arith;

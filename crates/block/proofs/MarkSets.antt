@@ -1,19 +1,20 @@
 -- The sets of variables and labels that arrays hold, and how stores change them. Assumes nothing.
-use mathlib.Core.Path.{_≡_, refl, sym, ap, _∙_, subst, fun-ext}
+use mathlib.Core.Path.{_≡_, refl, sym, ap, ap₂, _∙_, subst, fun-ext}
 use mathlib.Core.Bool.{Bool, true, false, cond, not, _&&_, _||_}
 use mathlib.Core.List.{List, [], _∷_}
 use mathlib.Core.Logic.{_⊎_, inl, inr}
-use Prim.Native.Nat.{ℕ, zero, suc, _-_, _≤_, _<_}
+use Prim.Native.Nat.{ℕ, zero, suc, _+_, _-_, _≤_, _<_}
 use native.Mathlib.Omega.{arith}
 use lib.Dec.{eqb}
 use lib.ListN.{length, getD, set, replicate}
 use lib.Seq.{getD-set-same, getD-set-other}
 use borrow.Author.Tests.{eqb-true, eqb-false, ne-eqb}
 use Rattle.theory.specs.Machine.{upd}
-use Rattle.theory.specs.Sets.{empty, plus}
+use Rattle.theory.specs.Sets.{Vars, empty, plus}
 use Rattle.theory.proofs.Sets.{tell}
-use Rattle.block.specs.Rules.{allSet}
-use Rattle.block.specs.Scan.{marked, numbered, SetAt}
+use Rattle.ops.specs.Rows.{Row, isClosing, isSetting, isJumping}
+use Rattle.block.specs.Rules.{allSet, labelFree, wroteBy, markedBy}
+use Rattle.block.specs.Scan.{marked, numbered, SetAt, LabelledAs}
 
 pub set-here : (xs : List ℕ) (i x : ℕ) → i < length xs → SetAt xs i x (set xs i x)
 set-here xs i x h = record { inside = h; becomes = refl }
@@ -79,3 +80,43 @@ module _ {targets labels : List ℕ} {n i : ℕ} (l : SetBelow targets labels n 
 
 pub set-ends : {targets labels : List ℕ} {n i : ℕ} → SetBelow targets labels n i → i ≤ 0 → true ≡ allSet (marked targets) (numbered labels) n
 set-ends {i = i} l h = let e : i ≡ 0 = omega arith in rw e at (l .left)
+
+-- rule 7, by the columns of the role
+module _ (row : Row) (labels : Vars) {s j : Bool} (es : s ≡ isSetting (row .role)) (ej : j ≡ isJumping (row .role)) where
+  named-is : (s || j) ≡ (isSetting (row .role) || isJumping (row .role))
+  named-is = ap₂ (λ (a b : Bool). a || b) es ej
+
+  pub free-named : (l : ℕ) {m : ℕ} {u : Bool} → (s || j) ≡ true → m ≡ l → u ≡ labels m → not u ≡ labelFree row labels l
+  free-named l t e f = rw (sym named-is ∙ t, f, e)
+
+  pub free-other : (l : ℕ) → (s || j) ≡ false → true ≡ labelFree row labels l
+  free-other l t = rw (sym named-is ∙ t)
+
+-- what an op leaves, by the columns of its role
+module _ (row : Row) (w : Vars) (outs : List ℕ) {c : Bool} (e : c ≡ isClosing (row .role)) {x : Vars} where
+  pub wrote-none : c ≡ true → x ≡ empty → x ≡ wroteBy row w outs
+  wrote-none t q = q ∙ ap (λ (b : Bool). cond b empty (plus w outs)) (sym (sym e ∙ t))
+
+  pub wrote-more : c ≡ false → x ≡ plus w outs → x ≡ wroteBy row w outs
+  wrote-more t q = q ∙ ap (λ (b : Bool). cond b empty (plus w outs)) (sym (sym e ∙ t))
+
+module _ (row : Row) (l op : ℕ) {xs : List ℕ} {s : Bool} (e : s ≡ isSetting (row .role)) where
+  pub labelled-so : {m : ℕ} {ys : List ℕ} → s ≡ true → m ≡ l → SetAt xs m (op + 1) ys → LabelledAs row l op xs ys
+  labelled-so {m} {ys} t q w =
+      let b : isSetting (row .role) ≡ true = sym e ∙ t in
+      record {
+        labels-so = numbered-upd w (omega arith) ∙ ap (λ (n : ℕ). upd (numbered xs) n true) q ∙ ap (λ (b : Bool). markedBy b (numbered xs) l) (sym b);
+        numbers-so = w .becomes ∙ ap (λ (n : ℕ). set xs n (op + 1)) q ∙ ap (λ (b : Bool). cond b (set xs l (op + 1)) xs) (sym b);
+      }
+
+  pub labelled-not : s ≡ false → LabelledAs row l op xs xs
+  labelled-not t =
+      let b : isSetting (row .role) ≡ false = sym e ∙ t in
+      record { labels-so = ap (λ (b : Bool). markedBy b (numbered xs) l) (sym b); numbers-so = ap (λ (b : Bool). cond b (set xs l (op + 1)) xs) (sym b) }
+
+module _ (l : ℕ) (xs : List ℕ) {t : Bool} where
+  pub target-so : {s : Bool} {m : ℕ} {ys : List ℕ} → s ≡ t → s ≡ true → m ≡ l → SetAt xs m 1 ys → marked ys ≡ markedBy t (marked xs) l
+  target-so e q d w = marked-upd w ∙ ap (λ (n : ℕ). upd (marked xs) n true) d ∙ ap (λ (b : Bool). markedBy b (marked xs) l) (sym (sym e ∙ q))
+
+  pub target-not : {s : Bool} → s ≡ t → s ≡ false → marked xs ≡ markedBy t (marked xs) l
+  target-not e q = ap (λ (b : Bool). markedBy b (marked xs) l) (sym (sym e ∙ q))

@@ -11,13 +11,13 @@ use borrow.Author.Tests.{ltb-true, ltb-false, eqb-true, eqb-false, lt-ltb, le-lt
 use Rattle.theory.proofs.Sets.{and-l, and-r, and-i, clash}
 use Rattle.ops.specs.Kinds.{known, bodyLength}
 use Rattle.ops.specs.Ops.{kindOf}
-use Rattle.block.specs.Checks.{Finding, asks, firstBroken, opRules, rulesOf, endRules, answer, checkFrom, checkOf}
-use Rattle.block.specs.Meaning.{seen, Meets, EachMeets, Obeys, RecordBreaks, breaks3, breaks9, breaks4, breaks5, breaks6, breaks7, breaks8, Breaks, unknown2, short1, record-breaks, ending10, ending7, Broken, AcceptedMeans, RefusedMeans}
-use Rattle.block.specs.Records.{Cut, stray, cons, cutBy, cutOf, recordsOf, concat, isDeclaration}
-use Rattle.block.specs.Rules.{Seen, start, rule3, rule4, rule5, rule6, rule7, rule8, rule9, rule10, rule7end, next}
+use Rattle.block.specs.Checks.{Finding, firstBroken, rulesOf, endRules, answer, checkFrom, checkOf}
+use Rattle.block.specs.Meaning.{seen, AllMet, FirstBroken, here, later, Meets, EachMeets, Obeys, Breaks, unknown2, short1, record-breaks, ending, Broken, AcceptedMeans, RefusedMeans}
+use Rattle.block.specs.Records.{Cut, stray, cons, cutBy, cutOf, recordsOf, concat}
+use Rattle.block.specs.Rules.{Seen, start, next}
 use Rattle.block.specs.declared.Verdict.{Verdict}
 use Rattle.block.specs.declared.Verdict.the-variants.{Accepted, Refused}
-use Rattle.block.proofs.Accepts.{allMet, accepts, none-broken, numbered-rules, check-accepts, accepted-records, records-accepted}
+use Rattle.block.proofs.Accepts.{allMet, accepts, Numbered, none-broken, numbered-rules, numbered-end, check-accepts, accepted-records, records-accepted}
 use Rattle.block.proofs.Cut.{whole, AllWhole, no-record}
 use Rattle.block.proofs.Steps.{cut-first}
 
@@ -29,47 +29,40 @@ whole-met r w =
 met-whole : (r : List ℕ) → known (kindOf r) ≡ true → length r ≡ suc (bodyLength (kindOf r)) → whole r ≡ true
 met-whole r k l = and-i (known (kindOf r)) (eqb (length r) (suc (bodyLength (kindOf r)))) k (eq-eqb (length r) (suc (bodyLength (kindOf r))) l)
 
+-- a list of rules: all are met, or the first that is not is found
+all-met : (xs : List Finding) → AllMet xs → allMet xs ≡ true
+all-met [] h = refl
+all-met (x ∷ xs) h = and-i (x .met) (allMet xs) (h .0) (all-met xs (h .1))
+
+met-all : (xs : List Finding) → allMet xs ≡ true → AllMet xs
+met-all [] h = tt
+met-all (x ∷ xs) h = (and-l (x .met) (allMet xs) h, met-all xs (and-r (x .met) (allMet xs) h))
+
+found : (xs : List Finding) → (firstBroken xs ≡ 0 → ⊥) → FirstBroken xs (firstBroken xs)
+unfolding firstBroken
+found [] h = absurd (h refl)
+found (x ∷ xs) h = go (x .met) refl (found xs) h
+  where
+    go : (b : Bool) → x .met ≡ b → ((firstBroken xs ≡ 0 → ⊥) → FirstBroken xs (firstBroken xs)) → (cond b (firstBroken xs) (x .number) ≡ 0 → ⊥)
+        → FirstBroken (x ∷ xs) (cond b (firstBroken xs) (x .number))
+    go true e ih q = later e (ih q)
+    go false e ih q = here e
+
+is-first : {xs : List Finding} {number : ℕ} → FirstBroken xs number → firstBroken xs ≡ number
+unfolding firstBroken
+is-first (here e) = rw e
+is-first (later e f) = rw e (is-first f)
+
+no-zero : {xs : List Finding} {number : ℕ} → Numbered xs → FirstBroken xs number → number ≡ 0 → ⊥
+no-zero h (here e) z = omega (arith, h .0)
+no-zero h (later e f) z = no-zero (h .1) f z
+
 module _ (s : Seen) (r : List ℕ) where
   meets-all : Meets s r → allMet (rulesOf s r) ≡ true
-  meets-all m = go (isDeclaration r) refl
-    where
-      go : (b : Bool) → isDeclaration r ≡ b → allMet (cond b (asks 3 (rule3 s r) ∷ []) (opRules s r)) ≡ true
-      go true e = and-i (rule3 s r) true (m .met3 e) refl
-      go false e = rw (m .met9 e, m .met4 e, m .met5 e, m .met6 e, m .met7 e, m .met8 e)
+  meets-all m = all-met (rulesOf s r) (m .rules)
 
   all-meets : whole r ≡ true → allMet (rulesOf s r) ≡ true → Meets s r
-  all-meets w m = go (isDeclaration r) refl m
-    where
-      go : (b : Bool) → isDeclaration r ≡ b → allMet (cond b (asks 3 (rule3 s r) ∷ []) (opRules s r)) ≡ true → Meets s r
-      go true e h =
-          record {
-            met1 = (whole-met r w) .1;
-            met2 = (whole-met r w) .0;
-            met3 = λ f. and-l (rule3 s r) true h;
-            met4 = λ f. clash (isDeclaration r) e f;
-            met5 = λ f. clash (isDeclaration r) e f;
-            met6 = λ f. clash (isDeclaration r) e f;
-            met7 = λ f. clash (isDeclaration r) e f;
-            met8 = λ f. clash (isDeclaration r) e f;
-            met9 = λ f. clash (isDeclaration r) e f;
-          }
-      go false e h =
-          let h4 = and-r (rule9 s r) _ h in
-          let h5 = and-r (rule4 s r) _ h4 in
-          let h6 = and-r (rule5 s r) _ h5 in
-          let h7 = and-r (rule6 s r) _ h6 in
-          let h8 = and-r (rule7 s r) _ h7 in
-          record {
-            met1 = (whole-met r w) .1;
-            met2 = (whole-met r w) .0;
-            met3 = λ f. clash (isDeclaration r) f e;
-            met4 = λ f. and-l (rule4 s r) _ h4;
-            met5 = λ f. and-l (rule5 s r) _ h5;
-            met6 = λ f. and-l (rule6 s r) _ h6;
-            met7 = λ f. and-l (rule7 s r) _ h7;
-            met8 = λ f. and-l (rule8 s r) _ h8;
-            met9 = λ f. and-l (rule9 s r) _ h;
-          }
+  all-meets w m = record { met1 = (whole-met r w) .1; met2 = (whole-met r w) .0; rules = met-all (rulesOf s r) m }
 
 -- records one by one
 each-none : (s : Seen) → EachMeets s []
@@ -92,18 +85,17 @@ module _ {s : Seen} {r : List ℕ} {rs : List (List ℕ)} where
 
 -- accepted
 met-records : (s : Seen) (rs : List (List ℕ)) → AllWhole rs → accepts s rs ≡ true
-    → EachMeets s rs × ((rule10 (seen s rs) ≡ true) × (rule7end (seen s rs) ≡ true))
-met-records s [] w h = (each-none s, (and-l (rule10 s) _ h, and-l (rule7end s) _ (and-r (rule10 s) _ h)))
+    → EachMeets s rs × AllMet (endRules (seen s rs))
+met-records s [] w h = (each-none s, met-all (endRules s) h)
 met-records s (r ∷ rs) w h =
     let q = met-records (next s r) rs (w .1) (and-r (allMet (rulesOf s r)) (accepts (next s r) rs) h) in
     (each-cons (all-meets s r (w .0) (and-l (allMet (rulesOf s r)) (accepts (next s r) rs) h)) (q .0), q .1)
 
-records-met : (s : Seen) (rs : List (List ℕ)) → EachMeets s rs → rule10 (seen s rs) ≡ true → rule7end (seen s rs) ≡ true
-    → AllWhole rs × (accepts s rs ≡ true)
-records-met s [] h t u = (tt, rw (t, u))
-records-met s (r ∷ rs) h t u =
+records-met : (s : Seen) (rs : List (List ℕ)) → EachMeets s rs → AllMet (endRules (seen s rs)) → AllWhole rs × (accepts s rs ≡ true)
+records-met s [] h t = (tt, all-met (endRules s) t)
+records-met s (r ∷ rs) h t =
     let m : Meets s r = each-first h in
-    let q = records-met (next s r) rs (each-rest h) t u in
+    let q = records-met (next s r) rs (each-rest h) t in
     ((met-whole r (m .met2) (m .met1), q .0), and-i (allMet (rulesOf s r)) (accepts (next s r) rs) (meets-all s r m) (q .1))
 
 -- records that leave nothing over are the bytes
@@ -130,65 +122,15 @@ accepted-obeys block h =
     let a = accepted-records block h in
     let z = (check-accepts start 0 ((cutOf block) .records) ((cutOf block) .tail) h) .0 in
     let m = met-records start (recordsOf block) (a .0) (a .1) in
-    record { records = recordsOf block; together = cut-together (length block) block (omega arith) z; each = m .0; end10 = m .1 .0; end7 = m .1 .1 }
+    record { records = recordsOf block; together = cut-together (length block) block (omega arith) z; each = m .0; end = m .1 }
 
 obeys-accepted : (block : List ℕ) → Obeys block → checkOf block ≡ Accepted
 obeys-accepted block o =
-    let m = records-met start (o .records) (o .each) (o .end10) (o .end7) in
+    let m = records-met start (o .records) (o .each) (o .end) in
     rw (← o .together) (records-accepted (o .records) (m .0) (m .1))
 
 pub accepted-means : (block : List ℕ) → AcceptedMeans block
 accepted-means block = record { accepted-obeys = accepted-obeys block; obeys-accepted = obeys-accepted block }
-
--- the first rule in the check's list that is broken
-op-breaks : (s : Seen) (r : List ℕ) → isDeclaration r ≡ false → (firstBroken (opRules s r) ≡ 0 → ⊥) → RecordBreaks s r (firstBroken (opRules s r))
-unfolding firstBroken
-op-breaks s r k h = go (rule9 s r) (rule4 s r) (rule5 s r) (rule6 s r) (rule7 s r) (rule8 s r) refl refl refl refl refl refl h
-  where
-    findings : Bool → Bool → Bool → Bool → Bool → Bool → List Finding
-    findings a b c d e f = asks 9 a ∷ asks 4 b ∷ asks 5 c ∷ asks 6 d ∷ asks 7 e ∷ asks 8 f ∷ []
-
-    go : (a b c d e f : Bool) → rule9 s r ≡ a → rule4 s r ≡ b → rule5 s r ≡ c → rule6 s r ≡ d → rule7 s r ≡ e → rule8 s r ≡ f
-        → (firstBroken (findings a b c d e f) ≡ 0 → ⊥) → RecordBreaks s r (firstBroken (findings a b c d e f))
-    go false b c d e f p9 p4 p5 p6 p7 p8 q = breaks9 k p9
-    go true false c d e f p9 p4 p5 p6 p7 p8 q = breaks4 k p9 p4
-    go true true false d e f p9 p4 p5 p6 p7 p8 q = breaks5 k p9 p4 p5
-    go true true true false e f p9 p4 p5 p6 p7 p8 q = breaks6 k p9 p4 p5 p6
-    go true true true true false f p9 p4 p5 p6 p7 p8 q = breaks7 k p9 p4 p5 p6 p7
-    go true true true true true false p9 p4 p5 p6 p7 p8 q = breaks8 k p9 p4 p5 p6 p7 p8
-    go true true true true true true p9 p4 p5 p6 p7 p8 q = absurd (q refl)
-
-first-breaks : (s : Seen) (r : List ℕ) → (firstBroken (rulesOf s r) ≡ 0 → ⊥) → RecordBreaks s r (firstBroken (rulesOf s r))
-unfolding firstBroken
-first-breaks s r h = go (isDeclaration r) refl h
-  where
-    declares : (b : Bool) → isDeclaration r ≡ true → rule3 s r ≡ b → (firstBroken (asks 3 b ∷ []) ≡ 0 → ⊥) → RecordBreaks s r (firstBroken (asks 3 b ∷ []))
-    declares true k e q = absurd (q refl)
-    declares false k e q = breaks3 k e
-
-    go : (b : Bool) → isDeclaration r ≡ b → (firstBroken (cond b (asks 3 (rule3 s r) ∷ []) (opRules s r)) ≡ 0 → ⊥)
-        → RecordBreaks s r (firstBroken (cond b (asks 3 (rule3 s r) ∷ []) (opRules s r)))
-    go true k q = declares (rule3 s r) k refl q
-    go false k q = op-breaks s r k q
-
-breaks-first : {s : Seen} {r : List ℕ} {number : ℕ} → RecordBreaks s r number → firstBroken (rulesOf s r) ≡ number
-unfolding firstBroken
-breaks-first (breaks3 k p3) = rw (k, p3)
-breaks-first (breaks9 k p9) = rw (k, p9)
-breaks-first (breaks4 k p9 p4) = rw (k, p9, p4)
-breaks-first (breaks5 k p9 p4 p5) = rw (k, p9, p4, p5)
-breaks-first (breaks6 k p9 p4 p5 p6) = rw (k, p9, p4, p5, p6)
-breaks-first (breaks7 k p9 p4 p5 p6 p7) = rw (k, p9, p4, p5, p6, p7)
-breaks-first (breaks8 k p9 p4 p5 p6 p7 p8) = rw (k, p9, p4, p5, p6, p7, p8)
-
-no-zero : {s : Seen} {r : List ℕ} {number : ℕ} → RecordBreaks s r number → number ≡ 0 → ⊥
-no-zero (breaks3 k p3) z = omega arith
-no-zero (breaks9 k p9) z = omega arith
-no-zero (breaks4 k p9 p4) z = omega arith
-no-zero (breaks5 k p9 p4 p5) z = omega arith
-no-zero (breaks6 k p9 p4 p5 p6) z = omega arith
-no-zero (breaks7 k p9 p4 p5 p6 p7) z = omega arith
-no-zero (breaks8 k p9 p4 p5 p6 p7 p8) z = omega arith
 
 -- refused: what Broken says, from any place on
 record BrokenFrom (s : Seen) (place : ℕ) (bytes : List ℕ) (number p : ℕ) : Type 0 where
@@ -218,14 +160,11 @@ module _ {s : Seen} {place number p : ℕ} where
       }
 
   broken-end : answer (firstBroken (endRules s)) place Accepted ≡ Refused number p → BrokenFrom s place [] number p
-  unfolding firstBroken
-  broken-end h = go (rule10 s) refl (rule7end s) refl h
+  broken-end h = go (eqb (firstBroken (endRules s)) 0) refl h
     where
-      go : (a : Bool) → rule10 s ≡ a → (b : Bool) → rule7end s ≡ b → answer (firstBroken (asks 10 a ∷ asks 7 b ∷ [])) place Accepted ≡ Refused number p
-          → BrokenFrom s place [] number p
-      go false e b f q = broken-here (ending10 refl e) q
-      go true e false f q = broken-here (ending7 refl e f) q
-      go true e true f q = let z : _≡_ {A = ℕ} 0 1 = cc in absurd (omega arith)
+      go : (b : Bool) → eqb (firstBroken (endRules s)) 0 ≡ b → cond b Accepted (Refused (firstBroken (endRules s)) place) ≡ Refused number p → BrokenFrom s place [] number p
+      go true e q = let z : _≡_ {A = ℕ} 0 1 = cc in absurd (omega arith)
+      go false e q = broken-here (ending refl (found (endRules s) (eqb-false (firstBroken (endRules s)) 0 e))) q
 
 refusal : (n : ℕ) (bytes : List ℕ) (s : Seen) (place number p : ℕ) → length bytes ≤ n
     → checkFrom s place ((cutBy n bytes) .records) ((cutBy n bytes) .tail) ≡ Refused number p → BrokenFrom s place bytes number p
@@ -255,7 +194,7 @@ refusal (suc n) (k ∷ bytes) s place number p l h =
     along false go-on e f z ih q =
         broken-here
         (record-breaks r (drop m bytes) (ap (λ (t : List ℕ). k ∷ t) (take-append-drop m bytes)) e (whole-r f)
-        (first-breaks s r (eqb-false (firstBroken (rulesOf s r)) 0 z))) q
+        (found (rulesOf s r) (eqb-false (firstBroken (rulesOf s r)) 0 z))) q
 
     go : (more : Cut) (t : Bool) → known k ≡ t → (u : Bool) → ltb (length bytes) m ≡ u
         → (checkFrom (next s r) (place + length r) (more .records) (more .tail) ≡ Refused number p
@@ -305,10 +244,9 @@ answer-here s place (k ∷ bytes) number (short1 l e q) = rw (e, lt-ltb (length 
 answer-here s place rest number (record-breaks r after e k l b) =
     rw (← e)
     (answer-record s place r after (met-whole r k l)
-    ∙ ap (λ (m : ℕ). answer m place (answerFrom (next s r) (place + length r) after)) (breaks-first b)
-    ∙ rw (ne-eqb number 0 (no-zero b)))
-answer-here s place rest number (ending10 e t) = rw (e, t)
-answer-here s place rest number (ending7 e t u) = rw (e, t, u)
+    ∙ ap (λ (m : ℕ). answer m place (answerFrom (next s r) (place + length r) after)) (is-first b)
+    ∙ rw (ne-eqb number 0 (no-zero (numbered-rules s r) b)))
+answer-here s place rest number (ending e b) = rw e (rw (is-first b, ne-eqb number 0 (no-zero (numbered-end s) b)))
 
 answer-after : (before : List (List ℕ)) (s : Seen) (place : ℕ) (rest : List ℕ) (number : ℕ) → EachMeets s before → Breaks (seen s before) rest number
     → answerFrom s place (concat before ++ rest) ≡ Refused number (place + length (concat before))

@@ -1,24 +1,22 @@
 -- The rules of the op at a place, one after the other. Assumes nothing.
 use mathlib.Core.Path.{_≡_, refl, sym, ap, ap₂, _∙_}
 use mathlib.Core.Bool.{Bool, true, false}
-use mathlib.Core.List.{List, [], map}
+use mathlib.Core.List.{List, []}
 use Prim.Native.Nat.{ℕ, zero, suc, _+_, _-_, _≤_, _<_}
 use native.Mathlib.Omega.{arith}
-use lib.ListN.{length, getD, take, drop, length-append}
+use lib.ListN.{length, getD, take, drop}
 use lib.Seq.{length-take-le}
 use borrow.Author.Tests.{lt-ltb, le-ltb}
-use Rattle.theory.specs.Scope.{mayRead}
 use Rattle.theory.specs.Sets.{allIn}
-use Rattle.ops.specs.Kinds.{rowOf, outputCount}
-use Rattle.ops.specs.Ops.{rowAt, bytesAt, outsBy, insBy, viewBy, viewOf, restOk}
-use Rattle.ops.specs.Table.{operandWidths, operandCount, wideBits}
-use Rattle.ops.proofs.Fits.{operands-wide}
+use Rattle.ops.specs.Rows.{outsIn, insIn, restIn, testIn, typesIn, typesOf, rowIn, Row, testOk}
+use Rattle.ops.specs.Kinds.{rowOf, bodyLength, outputCount, operandTypes, operandCount}
+use Rattle.ops.specs.Ops.{rowAt, bytesAt, outsBy, insBy, labelBy}
+use Rattle.ops.proofs.Entry.{Digits}
 use Rattle.block.specs.Checks.{firstBroken, opRules}
-use Rattle.block.specs.Records.{widthOf}
-use Rattle.block.specs.Rules.{Seen, keptIn, allBelow, operandsOf, rule4, haveWidths, rule5, rule6, labelFree, rule7, rule8, rule9}
+use Rattle.block.specs.Rules.{Seen, keptIn, allBelow, operandsOf, rule4, haveTypes, rule5, rule6, labelFree, rule7, rule8, rule9}
 use Rattle.block.specs.Scan.{recordAt, Stands, typesMatch, mayReadAll, marked, numbered, seenOf, OpAt}
-use Rattle.block.proofs.Fields.{mayRead-row, widths-match, reads-match, below-right}
-use Rattle.block.proofs.Views.{kind-byte, operand-bytes, input-bytes, rule4-at, rule6-at}
+use Rattle.block.proofs.Fields.{types-match, reads-match, below-right}
+use Rattle.block.proofs.Views.{kind-byte, row-at, operand-bytes, input-bytes, label-byte, rule4-at, rule6-at}
 
 bytes-length : (b : List ℕ) (q m : ℕ) → length (bytesAt b q m) ≡ m
 bytes-length b q zero = refl
@@ -35,6 +33,7 @@ stands-here o = record { its-kind = refl; whole = o .within }
 pub record Op : Type 0 where
   pub block : List ℕ
   pub place : ℕ
+  pub entry : ℕ
   pub classes : List ℕ
   pub types : List ℕ
   pub written : List ℕ
@@ -67,13 +66,13 @@ module _ (q : Op) where
   Below t = allBelow (q .n) named ≡ t
 
   abbrev pub Match : Bool → Type 0
-  Match t = typesMatch (q .types) (wideBits (operandWidths kind)) named ≡ t
+  Match t = typesMatch (q .types) (typesIn (q .entry)) named ≡ t
 
   abbrev pub RestOk : Bool → Type 0
-  RestOk t = restOk ((rowOf kind) .does) after ≡ t
+  RestOk t = testOk (testIn (q .entry)) after ≡ t
 
   abbrev pub Free : Bool → Type 0
-  Free t = labelFree (numbered (q .labels)) (viewOf its) ≡ t
+  Free t = labelFree (rowIn (q .entry)) (numbered (q .labels)) (getD (q .block) (q .place + bodyLength kind) 0) ≡ t
 
   abbrev pub MayRead : Bool → Type 0
   MayRead t = mayReadAll (q .classes) (q .written) reads ≡ t
@@ -86,6 +85,7 @@ module _ (q : Op) where
   pub record Met9 : Type 0 where
     pub stands : OpAt (q .block) (q .classes) (q .types) (q .place) (q .n)
     pub few : q .ops < 256
+    pub digits : Digits (q .entry) kind
 
   pub record Met4 : Type 0 where
     pub before : Met9
@@ -118,40 +118,40 @@ module _ {q : Op} where
   met-4 : Met4 q → rule4 (seen q) (its q) ≡ true
   met-4 m = rule-4 (m .before) ∙ m .test
 
-  rule-5 : Met4 q → rule5 (seen q) (its q) ≡ typesMatch (q .types) (wideBits (operandWidths (kind q))) (named q)
+  rule-5 : Met4 q → rule5 (seen q) (its q) ≡ typesMatch (q .types) (typesIn (q .entry)) (named q)
   unfolding rule5
   rule-5 m =
       let s = its-stands (m .before) in
-      ap₂ (haveWidths (map widthOf (take (q .n) (q .types)))) (operand-bytes s) (ap operandWidths (kind-byte s))
-      ∙ widths-match (q .n) (q .types) (m .before .stands .few-types) (named q) (operandWidths (kind q)) (operands-wide (kind q))
-      (bytes-length (q .block) (q .place + 1) (operandCount (kind q))) (m .test)
+      let d = m .before .digits in
+      ap₂ (haveTypes (take (q .n) (q .types))) (operand-bytes s) (ap operandTypes (kind-byte s) ∙ d .types)
+      ∙ types-match (q .n) (q .types) (m .before .stands .few-types) (named q) (outsIn (q .entry) + insIn (q .entry)) (typesIn (q .entry))
+      (bytes-length (q .block) (q .place + 1) (operandCount (kind q)) ∙ d .operands) (m .test)
 
   met-5 : Met5 q → rule5 (seen q) (its q) ≡ true
   met-5 m = rule-5 (m .before) ∙ m .test
 
-  rule-6 : Met9 q → rule6 (seen q) (its q) ≡ restOk ((rowOf (kind q)) .does) (after q)
-  rule-6 m = rule6-at (its-stands m) (seen q)
+  rule-6 : Met9 q → rule6 (seen q) (its q) ≡ testOk (testIn (q .entry)) (after q)
+  rule-6 m = rule6-at (its-stands m) (seen q) ∙ ap (λ (row : Row). testOk (row .test) (after q)) (m .digits .row)
 
   met-6 : Met6 q → rule6 (seen q) (its q) ≡ true
   met-6 m = rule-6 (m .before .before .before) ∙ m .test
 
-  met-7 : Met7 q → rule7 (seen q) (its q) ≡ true
+  rule-7 : Met9 q → rule7 (seen q) (its q) ≡ labelFree (rowIn (q .entry)) (numbered (q .labels)) (getD (q .block) (q .place + bodyLength (kind q)) 0)
   unfolding rule7
-  met-7 m = m .test
+  rule-7 m = let s = its-stands m in ap₂ (λ (row : Row) (l : ℕ). labelFree row (numbered (q .labels)) l) (row-at s ∙ m .digits .row) (label-byte s)
+
+  met-7 : Met7 q → rule7 (seen q) (its q) ≡ true
+  met-7 m = rule-7 (m .before .before .before .before) ∙ m .test
 
   rule-8 : Met4 q → rule8 (seen q) (its q) ≡ mayReadAll (q .classes) (q .written) (reads q)
-  unfolding rule8 viewOf
+  unfolding rule8
   rule-8 m =
-      let o = m .before .stands in
       let s = its-stands (m .before) in
       let below : allBelow (q .n) (operandsOf (its q)) ≡ true = ap (allBelow (q .n)) (operand-bytes s) ∙ m .test in
       let inputs : allBelow (q .n) (reads q) ≡ true =
       sym (ap (allBelow (q .n)) (input-bytes s)) ∙ below-right (q .n) (outsBy (rowAt (its q)) (its q)) (insBy (rowAt (its q)) (its q)) below in
-      let kept = keptIn (take (q .n) (q .classes)) in
-      ap (λ (j : ℕ). mayRead kept (marked (q .written)) (viewBy (rowOf j) ((rowOf j) .does) (its q))) (kind-byte s)
-      ∙ mayRead-row kept (marked (q .written)) (kind q) (its q) (o .is-known) (o .is-op)
-      ∙ ap (λ (vs : List ℕ). allIn kept vs (marked (q .written))) (ap (λ (j : ℕ). insBy (rowOf j) (its q)) (sym (kind-byte s)) ∙ input-bytes s)
-      ∙ reads-match (q .n) (q .classes) (q .written) (o .few-classes) (reads q) inputs
+      ap (λ (vs : List ℕ). allIn (keptIn (take (q .n) (q .classes))) vs (marked (q .written))) (input-bytes s)
+      ∙ reads-match (q .n) (q .classes) (q .written) (m .before .stands .few-classes) (reads q) inputs
 
   -- the first rule that is broken, test by test
   pub is-4 : Met9 q → Below q false → First q 4
@@ -167,8 +167,10 @@ module _ {q : Op} where
   is-6 m t = rw (met-9 (m .before .before), met-4 (m .before), met-5 m, rule-6 (m .before .before), t)
 
   pub is-7 : Met6 q → Free q false → First q 7
-  unfolding firstBroken rule7
-  is-7 m t = rw (met-9 (m .before .before .before), met-4 (m .before .before), met-5 (m .before), met-6 m, t)
+  unfolding firstBroken
+  is-7 m t =
+      let nine = m .before .before .before in
+      rw (met-9 nine, met-4 (m .before .before), met-5 (m .before), met-6 m, rule-7 nine, t)
 
   pub is-8 : Met7 q → MayRead q false → First q 8
   unfolding firstBroken
@@ -186,43 +188,46 @@ pub is-9 : (q : Op) → 256 ≤ q .ops → First q 9
 unfolding firstBroken rule9
 is-9 q l = rw (le-ltb (q .ops) 256 l)
 
--- how many variables it names, once the table has said it
+-- how many variables it names, and how many it writes
 pub record Counted (q : Op) (count : ℕ) : Type 0 where
   pub met : Met9 q
-  pub counted : count ≡ operandCount (kind q)
+  pub counted : count ≡ outsIn (q .entry) + insIn (q .entry)
 
 -- what the leaves answer, in these terms
 module _ {q : Op} {count : ℕ} (c : Counted q count) where
-  parts : operandCount (kind q) ≡ outputCount (kind q) + length ((rowOf (kind q)) .ins)
-  parts = length-append ((rowOf (kind q)) .outs) ((rowOf (kind q)) .ins)
+  d : Digits (q .entry) (kind q)
+  d = c .met .digits
 
   pub count-inside : q .place + 1 + count ≤ length (q .block)
-  count-inside = omega (arith, parts, c .counted, c .met .stands .within)
+  count-inside = omega (arith, d .body, c .counted, c .met .stands .within)
 
-  pub rest-inside : q .place + 1 + count + (rowOf (kind q)) .rest ≤ length (q .block)
-  rest-inside = omega (arith, parts, c .counted, c .met .stands .within)
+  pub rest-inside : q .place + 1 + count + restIn (q .entry) ≤ length (q .block)
+  rest-inside = omega (arith, d .body, c .counted, c .met .stands .within)
+
+  counts : count ≡ operandCount (kind q)
+  counts = c .counted ∙ sym (d .operands)
 
   module _ {r t : Bool} where
     pub below-by : r ≡ allBelow (q .n) (bytesAt (q .block) (q .place + 1) count) → r ≡ t → Below q t
-    below-by e a = sym (e ∙ ap (λ (m : ℕ). allBelow (q .n) (bytesAt (q .block) (q .place + 1) m)) (c .counted)) ∙ a
+    below-by e a = sym (e ∙ ap (λ (m : ℕ). allBelow (q .n) (bytesAt (q .block) (q .place + 1) m)) counts) ∙ a
 
-    pub match-by : {bits : ℕ} → bits ≡ wideBits (operandWidths (kind q)) → r ≡ typesMatch (q .types) bits (bytesAt (q .block) (q .place + 1) count) → r ≡ t → Match q t
-    match-by w e a = sym (e ∙ ap₂ (λ (x m : ℕ). typesMatch (q .types) x (bytesAt (q .block) (q .place + 1) m)) w (c .counted)) ∙ a
+    pub match-by : {codes : ℕ} → codes ≡ typesIn (q .entry) → r ≡ typesMatch (q .types) codes (bytesAt (q .block) (q .place + 1) count) → r ≡ t → Match q t
+    match-by w e a = sym (e ∙ ap₂ (λ (x m : ℕ). typesMatch (q .types) x (bytesAt (q .block) (q .place + 1) m)) w counts) ∙ a
 
-    pub rest-by : r ≡ restOk ((rowOf (kind q)) .does) (take ((rowOf (kind q)) .rest) (drop (q .place + 1 + count) (q .block))) → r ≡ t → RestOk q t
+    pub rest-by : r ≡ testOk (testIn (q .entry)) (take (restIn (q .entry)) (drop (q .place + 1 + count) (q .block))) → r ≡ t → RestOk q t
     rest-by e a =
-        let m : q .place + 1 + count ≡ q .place + (1 + operandCount (kind q)) = omega (arith, c .counted) in
-        sym (e ∙ ap (λ (m : ℕ). restOk ((rowOf (kind q)) .does) (take ((rowOf (kind q)) .rest) (drop m (q .block)))) m) ∙ a
+        let m : q .place + 1 + count ≡ q .place + (1 + operandCount (kind q)) = omega (arith, counts) in
+        sym (e ∙ ap₂ (λ (n m : ℕ). testOk (testIn (q .entry)) (take n (drop m (q .block)))) (sym (d .rest)) m) ∙ a
 
-  module _ {outs : ℕ} (u : outs ≡ outputCount (kind q)) where
-    pub outs-few : outs ≤ count
-    outs-few = omega (arith, c .counted, parts)
+    pub free-by : r ≡ labelFree (rowIn (q .entry)) (numbered (q .labels)) (getD (q .block) (q .place + (outsIn (q .entry) + insIn (q .entry) + restIn (q .entry))) 0) → r ≡ t → Free q t
+    free-by e a = sym (e ∙ ap (λ (m : ℕ). labelFree (rowIn (q .entry)) (numbered (q .labels)) (getD (q .block) (q .place + m) 0)) (sym (d .body))) ∙ a
 
-    pub reads-inside : q .place + 1 + outs + (count - outs) ≤ length (q .block)
-    reads-inside = omega (arith, count-inside, outs-few)
+  module _ {outs ins : ℕ} (u : outs ≡ outsIn (q .entry)) (v : ins ≡ insIn (q .entry)) where
+    pub reads-inside : q .place + 1 + outs + ins ≤ length (q .block)
+    reads-inside = omega (arith, count-inside, c .counted)
 
-    pub reads-by : {r t : Bool} → r ≡ mayReadAll (q .classes) (q .written) (bytesAt (q .block) (q .place + 1 + outs) (count - outs)) → r ≡ t → MayRead q t
+    pub reads-by : {r t : Bool} → r ≡ mayReadAll (q .classes) (q .written) (bytesAt (q .block) (q .place + 1 + outs) ins) → r ≡ t → MayRead q t
     reads-by e a =
-        let m : count - outs ≡ length ((rowOf (kind q)) .ins) = omega (arith, c .counted, parts) in
-        let x : q .place + 1 + outs ≡ q .place + (1 + outputCount (kind q)) = omega arith in
+        let m : ins ≡ length ((rowOf (kind q)) .ins) = v ∙ sym (d .ins) in
+        let x : q .place + 1 + outs ≡ q .place + (1 + outputCount (kind q)) = omega (arith, d .outs) in
         sym (e ∙ ap₂ (λ (x y : ℕ). mayReadAll (q .classes) (q .written) (bytesAt (q .block) x y)) x m) ∙ a

@@ -2,17 +2,17 @@
 use mathlib.Core.Path.{_≡_, refl, sym, ap, ap₂, _∙_}
 use mathlib.Core.Bool.{Bool, true, false, _&&_}
 use mathlib.Core.List.{List, [], _∷_}
-use Prim.Native.Nat.{ℕ, suc, _+_, _-_, _/_, _≤_, _<_}
+use Prim.Native.Nat.{ℕ, suc, _+_, _-_, _/_, _%_, _≤_, _<_}
 use native.Mathlib.Omega.{arith}
-use lib.Dec.{ltb}
+use lib.Dec.{eqb, ltb}
 use lib.ListN.{getD}
 use borrow.Author.Tests.{lt-ltb, le-ltb}
 use native.Mathlib.Nat.{sub-zero, add-zero}
 use Rattle.theory.specs.Machine.{step}
-use Rattle.ops.specs.Kinds.{at}
+use Rattle.ops.specs.Rows.{at}
 use Rattle.ops.specs.Ops.{bytesAt}
 use Rattle.block.specs.Rules.{allBelow}
-use Rattle.block.specs.Scan.{wideAs, typesMatch, readable, mayReadAll}
+use Rattle.block.specs.Scan.{typesMatch, readable, mayReadAll}
 
 -- the test f passes at each value; s goes along
 abbrev pub eachBy : (ℕ → ℕ → Bool) → (ℕ → ℕ) → ℕ → List ℕ → Bool
@@ -66,27 +66,27 @@ module _ {b : List ℕ} {p count n i x : ℕ} (l : Below b p count n i) (e : x �
 pub below-ends : {b : List ℕ} {p count n i : ℕ} → Below b p count n i → count ≤ i → true ≡ allBelow n (bytesAt b p count)
 below-ends {b} {p} {count} {n} l h = left-ends (l .left) h ∙ below-each n (bytesAt b p count)
 
--- rule 5: each has 64 bits exactly where its bit is 1
-widths-each : (types : List ℕ) (bits : ℕ) (vs : List ℕ) → eachBy (λ s v. wideAs (getD types v 0) s) (λ s. s / 2) bits vs ≡ typesMatch types bits vs
+-- rule 5: each has its type
+types-each : (types : List ℕ) (codes : ℕ) (vs : List ℕ) → eachBy (λ s v. eqb (getD types v 0) (s % 4)) (λ s. s / 4) codes vs ≡ typesMatch types codes vs
 unfolding typesMatch
-widths-each types bits [] = refl
-widths-each types bits (v ∷ vs) = rw (widths-each types (bits / 2) vs)
+types-each types codes [] = refl
+types-each types codes (v ∷ vs) = rw (types-each types (codes / 4) vs)
 
-pub record Widths (b types : List ℕ) (p count bits i rest : ℕ) : Type 0 where
-  pub left : Left (λ s v. wideAs (getD types v 0) s) (λ s. s / 2) b p count bits i rest
+pub record Types (b types : List ℕ) (p count codes i rest : ℕ) : Type 0 where
+  pub left : Left (λ s v. eqb (getD types v 0) (s % 4)) (λ s. s / 4) b p count codes i rest
 
-pub widths-start : (b types : List ℕ) (p count bits : ℕ) → Widths b types p count bits 0 bits
-widths-start b types p count bits = record { left = left-start (λ s v. wideAs (getD types v 0) s) (λ s. s / 2) b p count bits }
+pub types-start : (b types : List ℕ) (p count codes : ℕ) → Types b types p count codes 0 codes
+types-start b types p count codes = record { left = left-start (λ s v. eqb (getD types v 0) (s % 4)) (λ s. s / 4) b p count codes }
 
-module _ {b types : List ℕ} {p count bits i rest t : ℕ} (l : Widths b types p count bits i rest) (e : t ≡ getD types (at b (p + i)) 0) (h : i < count) where
-  pub widths-next : wideAs t rest ≡ true → Widths b types p count bits (i + 1) (rest / 2)
-  widths-next q = record { left = left-next (l .left) h (sym (ap (λ (n : ℕ). wideAs n rest) e) ∙ q) }
+module _ {b types : List ℕ} {p count codes i rest t : ℕ} (l : Types b types p count codes i rest) (e : t ≡ getD types (at b (p + i)) 0) (h : i < count) where
+  pub types-next : eqb t (rest % 4) ≡ true → Types b types p count codes (i + 1) (rest / 4)
+  types-next q = record { left = left-next (l .left) h (sym (ap (λ (n : ℕ). eqb n (rest % 4)) e) ∙ q) }
 
-  pub widths-stops : wideAs t rest ≡ false → false ≡ typesMatch types bits (bytesAt b p count)
-  widths-stops q = left-stops (l .left) h (sym (ap (λ (n : ℕ). wideAs n rest) e) ∙ q) ∙ widths-each types bits (bytesAt b p count)
+  pub types-stops : eqb t (rest % 4) ≡ false → false ≡ typesMatch types codes (bytesAt b p count)
+  types-stops q = left-stops (l .left) h (sym (ap (λ (n : ℕ). eqb n (rest % 4)) e) ∙ q) ∙ types-each types codes (bytesAt b p count)
 
-pub widths-ends : {b types : List ℕ} {p count bits i rest : ℕ} → Widths b types p count bits i rest → count ≤ i → true ≡ typesMatch types bits (bytesAt b p count)
-widths-ends {b} {types} {p} {count} {bits} l h = left-ends (l .left) h ∙ widths-each types bits (bytesAt b p count)
+pub types-ends : {b types : List ℕ} {p count codes i rest : ℕ} → Types b types p count codes i rest → count ≤ i → true ≡ typesMatch types codes (bytesAt b p count)
+types-ends {b} {types} {p} {count} {codes} l h = left-ends (l .left) h ∙ types-each types codes (bytesAt b p count)
 
 -- rule 8: each outlives the basic block, or is written in it
 may-each : (classes written vs : List ℕ) → eachBy (λ s v. readable (getD classes v 0) (getD written v 0)) same 0 vs ≡ mayReadAll classes written vs

@@ -1,73 +1,76 @@
--- What rule 6 asks of the bytes from p on that follow the operands, from the kind's role. Assumes nothing.
-use mathlib.Core.Path.{_≡_, ap, ap₂, _∙_}
+-- What rule 6 asks of the bytes from p on that follow the operands, from the number of their test. Assumes nothing.
+use mathlib.Core.Path.{_≡_, refl, sym, ap, ap₂, _∙_, subst}
 use mathlib.Core.Bool.{Bool, true, false, _&&_}
 use mathlib.Core.List.{List}
-use mathlib.Core.Logic.{⊎-elim}
-use Prim.Native.Nat.{ℕ, _+_, _<_}
+use Prim.Native.Nat.{ℕ, zero, suc, _+_, _^_, _≤_, _<_}
 use native.Mathlib.Omega.{arith}
+use native.Mathlib.Nat.{zero-add, add-zero}
+use lib.Dec.{eqb, ltb}
 use lib.ListN.{take, drop}
 use lib.Seq.{getD-take, getD-drop}
-use native.Mathlib.Nat.{zero-add, add-zero}
+use borrow.Author.Tests.{ne-eqb}
 use Rattle.memory.specs.Access.{flagsOk}
 use Rattle.memory.specs.Bytes.{lowFirst}
 use Rattle.memory.proofs.Numbers.{low-same}
-use Rattle.ops.specs.Kinds.{Does, Row, at, condOk, labelOk, narrowOk, rowOf}
-use Rattle.ops.specs.Ops.{restOk}
-use Rattle.ops.specs.Table.{roleOf, opWidth}
-use Rattle.ops.proofs.RoleRows.{Computing, row-of}
-use Rattle.ops.specs.declared.Role.the-variants.{Unknown, Declares, SetsLabel, Jumps, Exits, Constant, Computes, Branches, Loads, Stores}
+use Rattle.ops.specs.Rows.{restIn, testIn, at, condOk, labelOk, testOk, asksFor}
 
-abbrev pub restAt : List ℕ → ℕ → ℕ → Bool
-restAt b p k = restOk ((rowOf k) .does) (take ((rowOf k) .rest) (drop p b))
+-- none of the numbers 1 to n
+abbrev pub Past : ℕ → ℕ → Type 0
+Past t zero = Unit {0}
+Past t (suc n) = Past t n × (t ≡ 1 + n → ⊥)
 
-module _ (b : List ℕ) (p k : ℕ) where
-  abbrev asked : Row → Bool
-  asked row = restOk (row .does) (take (row .rest) (drop p b))
+-- an entry whose test asks for no more bytes than there are
+module _ (b : List ℕ) (p e : ℕ) (few : asksFor (testIn e) ≤ restIn e) where
+  byte : (i : ℕ) → i < restIn e → at (take (restIn e) (drop p b)) i ≡ at b (p + i)
+  byte i h = getD-take (restIn e) (drop p b) i 0 h ∙ getD-drop p b i 0
 
-  byte : (n i : ℕ) → i < n → at (take n (drop p b)) i ≡ at b (p + i)
-  byte n i h = getD-take n (drop p b) i 0 h ∙ getD-drop p b i 0
+  first : 0 < restIn e → at (take (restIn e) (drop p b)) 0 ≡ at b p
+  first h = byte 0 h ∙ ap (at b) (add-zero p)
 
-  first : (n : ℕ) → 0 < n → at (take n (drop p b)) 0 ≡ at b p
-  first n h = byte n 0 h ∙ ap (at b) (add-zero p)
+  -- a test by its number, and how many bytes it asks for
+  pub asked : {t : ℕ} → testIn e ≡ t → asksFor t ≤ restIn e
+  asked q = subst (λ (n : ℕ). asksFor n ≤ restIn e) q few
 
-  pub label-rest : roleOf k ≡ SetsLabel → restAt b p k ≡ labelOk (at b p)
-  label-rest e = ap asked (row-of SetsLabel k e) ∙ ap labelOk (first 1 (omega arith))
+  numbered : {t : ℕ} → testIn e ≡ t → testOk (testIn e) (take (restIn e) (drop p b)) ≡ testOk t (take (restIn e) (drop p b))
+  numbered q = ap (λ (n : ℕ). testOk n (take (restIn e) (drop p b))) q
 
-  pub jump-rest : roleOf k ≡ Jumps → restAt b p k ≡ labelOk (at b p)
-  jump-rest e = ap asked (row-of Jumps k e) ∙ ap labelOk (first 1 (omega arith))
+  pub label-test : testIn e ≡ 1 → testOk (testIn e) (take (restIn e) (drop p b)) ≡ labelOk (at b p)
+  unfolding testOk
+  label-test q = numbered q ∙ ap labelOk (first (omega (arith, asked q)))
 
-  pub branch-rest : roleOf k ≡ Branches → restAt b p k ≡ (condOk (at b p) && labelOk (at b (p + 1)))
-  branch-rest e = ap asked (row-of Branches k e) ∙ ap₂ (λ (c l : ℕ). condOk c && labelOk l) (first 2 (omega arith)) (byte 2 1 (omega arith))
+  pub cond-test : testIn e ≡ 2 → testOk (testIn e) (take (restIn e) (drop p b)) ≡ condOk (at b p)
+  unfolding testOk
+  cond-test q = numbered q ∙ ap condOk (first (omega (arith, asked q)))
 
-  pub load-rest : roleOf k ≡ Loads → restAt b p k ≡ flagsOk (opWidth k) false (at b p)
-  load-rest e = ap asked (row-of Loads k e) ∙ ap (flagsOk (opWidth k) false) (first 1 (omega arith))
+  pub branch-test : testIn e ≡ 3 → testOk (testIn e) (take (restIn e) (drop p b)) ≡ (condOk (at b p) && labelOk (at b (p + 1)))
+  unfolding testOk
+  branch-test q = numbered q ∙ ap₂ (λ (c l : ℕ). condOk c && labelOk l) (first (omega (arith, asked q))) (byte 1 (omega (arith, asked q)))
 
-  pub store-rest : roleOf k ≡ Stores → restAt b p k ≡ flagsOk (opWidth k) true (at b p)
-  store-rest e = ap asked (row-of Stores k e) ∙ ap (flagsOk (opWidth k) true) (first 1 (omega arith))
+  pub load32-test : testIn e ≡ 4 → testOk (testIn e) (take (restIn e) (drop p b)) ≡ flagsOk 32 false (at b p)
+  unfolding testOk
+  load32-test q = numbered q ∙ ap (flagsOk 32 false) (first (omega (arith, asked q)))
 
-  pub constant-rest : roleOf k ≡ Constant → restAt b p k ≡ narrowOk (opWidth k) (lowFirst b p 8)
-  constant-rest e =
-      ap asked (row-of Constant k e)
-      ∙ ap (narrowOk (opWidth k)) (low-same (take 8 (drop p b)) b 0 p 8 (λ i l. ap (at (take 8 (drop p b))) (zero-add i) ∙ byte 8 i l))
+  pub load64-test : testIn e ≡ 5 → testOk (testIn e) (take (restIn e) (drop p b)) ≡ flagsOk 64 false (at b p)
+  unfolding testOk
+  load64-test q = numbered q ∙ ap (flagsOk 64 false) (first (omega (arith, asked q)))
 
-  -- a pure op that reads something: nothing follows, or a condition
-  pure-ok : (c : Computing (rowOf k)) → restAt b p k ≡ c .ok (take ((rowOf k) .rest) (drop p b))
-  pure-ok c = ap (λ (d : Does). restOk d (take ((rowOf k) .rest) (drop p b))) (c .does-is)
+  pub store32-test : testIn e ≡ 6 → testOk (testIn e) (take (restIn e) (drop p b)) ≡ flagsOk 32 true (at b p)
+  unfolding testOk
+  store32-test q = numbered q ∙ ap (flagsOk 32 true) (first (omega (arith, asked q)))
 
-  pub pure-rest : roleOf k ≡ Computes → (rowOf k) .rest ≡ 0 → restAt b p k ≡ true
-  pure-rest e z = let c = row-of Computes k e in pure-ok c ∙ ⊎-elim (λ h. h .1 (take ((rowOf k) .rest) (drop p b))) (λ h. absurd (omega (arith, h .0))) (c .rest-is)
+  pub store64-test : testIn e ≡ 7 → testOk (testIn e) (take (restIn e) (drop p b)) ≡ flagsOk 64 true (at b p)
+  unfolding testOk
+  store64-test q = numbered q ∙ ap (flagsOk 64 true) (first (omega (arith, asked q)))
 
-  pub cond-rest : roleOf k ≡ Computes → ((rowOf k) .rest ≡ 0 → ⊥) → restAt b p k ≡ condOk (at b p)
-  cond-rest e z =
-      let c = row-of Computes k e in
-      pure-ok c
-      ∙ ⊎-elim (λ h. absurd (z (h .0))) (λ h. h .1 (take ((rowOf k) .rest) (drop p b)) ∙ ap condOk (first ((rowOf k) .rest) (omega (arith, h .0)))) (c .rest-is)
+  pub constant-test : testIn e ≡ 8 → testOk (testIn e) (take (restIn e) (drop p b)) ≡ ltb (lowFirst b p 8) (2 ^ 32)
+  unfolding testOk
+  constant-test q =
+      let room : 8 ≤ restIn e = asked q in
+      numbered q
+      ∙ ap (λ (x : ℕ). ltb x (2 ^ 32)) (low-same (take (restIn e) (drop p b)) b 0 p 8 (λ i l. ap (at (take (restIn e) (drop p b))) (zero-add i) ∙ byte i (omega arith)))
 
-  pub unknown-rest : roleOf k ≡ Unknown → restAt b p k ≡ true
-  unknown-rest e = ap asked (row-of Unknown k e)
-
-  pub declare-rest : roleOf k ≡ Declares → restAt b p k ≡ true
-  declare-rest e = ap asked (row-of Declares k e)
-
-  pub leave-rest : roleOf k ≡ Exits → restAt b p k ≡ true
-  leave-rest e = ap asked (row-of Exits k e)
+  -- what a match on the numbers 1 to 8 leaves over
+  pub no-test : {t : ℕ} → testIn e ≡ t → Past t 8 → true ≡ testOk (testIn e) (take (restIn e) (drop p b))
+  unfolding testOk
+  no-test {t} q ((((((((u, n1), n2), n3), n4), n5), n6), n7), n8) =
+      rw (q, ne-eqb t 1 n1, ne-eqb t 2 n2, ne-eqb t 3 n3, ne-eqb t 4 n4, ne-eqb t 5 n5, ne-eqb t 6 n6, ne-eqb t 7 n7, ne-eqb t 8 n8)

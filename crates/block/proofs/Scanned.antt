@@ -8,7 +8,7 @@ use borrow.Author.Tests.{ne-eqb}
 use Rattle.theory.specs.Machine.{after}
 use Rattle.ops.specs.Ops.{kindOf}
 use Rattle.block.specs.Checks.{checkOf}
-use Rattle.block.specs.Records.{recordsOf, declarations, opsFrom, classesOf, widthsOf, globalCount}
+use Rattle.block.specs.Records.{recordsOf, declarations, opsFrom, classesOf, declaredTypes, globalCount}
 use Rattle.block.specs.Rules.{start}
 use Rattle.block.specs.Scan.{DeclaredBy, refuses, reads-on, placesFrom, labelsFrom, recordsAt, ScannedBy, refuses-op, accepts-ops, Begins, Approved}
 use Rattle.block.specs.Scan.{Scanned, rejected, approved}
@@ -45,7 +45,7 @@ module _ {b classes types : List ℕ} {p n : ℕ} (g : Begins b classes types p 
       record {
         accepted = a;
         classes-are = ap classesOf (split .0) ∙ g .after .classes-are;
-        widths-are = ap widthsOf (split .0) ∙ g .after .widths-are;
+        types-are = ap declaredTypes (split .0) ∙ g .after .types-are;
         globals-are = g .after .globals-are ∙ ap globalCount (sym (ap classesOf (split .0) ∙ g .after .classes-are));
         few = g .after .few;
         long-classes = g .after .long-classes;

@@ -1,5 +1,5 @@
 -- One turn of the loop over the ops. Assumes nothing.
-use mathlib.Core.Path.{_≡_, refl, sym, ap, ap₂, _∙_}
+use mathlib.Core.Path.{_≡_, refl, sym, ap, ap₂, _∙_, subst}
 use mathlib.Core.Bool.{Bool, true, false, cond, not, _&&_, _||_}
 use mathlib.Core.List.{List, [], _∷_}
 use Prim.Native.Nat.{ℕ, suc, _+_, _-_, _%_, _≤_, _<_}
@@ -9,16 +9,18 @@ use lib.ListN.{length, getD, drop, set, replicate}
 use borrow.Author.Tests.{ltb-true, ltb-false, eqb-true, eqb-false, lt-ltb, le-ltb, eq-eqb, ne-eqb}
 use native.Mathlib.Nat.{zero-add}
 use native.Mathlib.Numerals.{add-one}
-use Rattle.theory.specs.Scope.{wrote}
 use Rattle.theory.specs.Sets.{empty}
 use Rattle.theory.proofs.Sets.{and-l}
 use Rattle.ops.specs.Kinds.{known, bodyLength}
-use Rattle.ops.specs.Ops.{kindOf, viewOf}
+use Rattle.ops.specs.Rows.{outsIn, insIn, restIn, roleIn, rowIn, Row, roleNo, isSetting, isJumping}
+use Rattle.ops.specs.Ops.{kindOf, rowAt, bytesAt, outsBy, labelBy}
+use Rattle.ops.proofs.Entry.{Digits}
+use Rattle.block.proofs.Views.{row-at, output-bytes, label-byte}
 use Rattle.block.specs.Checks.{asks, firstBroken, opRules, rulesOf, endRules, answer, checkOf}
 use Rattle.block.specs.Records.{Cut, cons, cutOf, isDeclaration, classOf, typeOf}
-use Rattle.block.specs.Rules.{Seen, allGlobal, rule3, rule4, rule5, rule6, nextLabels, nextTargets, rule7, rule8, rule9, rule10, allSet}
+use Rattle.block.specs.Rules.{Seen, allGlobal, rule3, rule4, rule5, rule6, wroteBy, markedBy, rule7, rule8, rule9, rule10, allSet}
 use Rattle.block.specs.Rules.{rule7end, passed, next}
-use Rattle.block.specs.Scan.{Stands, recordsAt, ScannedBy, refuses-op, accepts-ops, OpAt, Marks, Begins, RecordAt}
+use Rattle.block.specs.Scan.{Stands, LabelledAs, recordsAt, ScannedBy, refuses-op, accepts-ops, OpAt, Marks, Begins, RecordAt}
 use Rattle.block.proofs.Accepts.{allMet, none-broken, numbered-rules}
 use Rattle.block.proofs.Fields.{kind-at}
 use Rattle.block.proofs.MarkSets.{marked-none, numbered-none}
@@ -183,9 +185,9 @@ module _ {b : List ℕ} {start : ℕ} {places₀ classes types written labels ta
     unfolding next
     seen-next = rw kind-here
 
-    module _ (written′ labels′ targets′ : List ℕ) (w : marked written′ ≡ wrote (marked written) (viewOf (recordAt b p)))
-        (ls : (numbered labels′ ≡ nextLabels (numbered labels) (viewOf (recordAt b p))) × (labels′ ≡ labelledBy (viewOf (recordAt b p)) ops labels))
-        (ts : marked targets′ ≡ nextTargets (marked targets) (viewOf (recordAt b p))) where
+    module _ (written′ labels′ targets′ : List ℕ) (w : marked written′ ≡ wroteBy (rowAt (recordAt b p)) (marked written) (outsBy (rowAt (recordAt b p)) (recordAt b p)))
+        (ls : (numbered labels′ ≡ markedBy (isSetting ((rowAt (recordAt b p)) .role)) (numbered labels) (labelBy (rowAt (recordAt b p)) (recordAt b p))) × (labels′ ≡ labelledBy (rowAt (recordAt b p)) (labelBy (rowAt (recordAt b p)) (recordAt b p)) ops labels))
+        (ts : marked targets′ ≡ markedBy (isJumping ((rowAt (recordAt b p)) .role)) (marked targets) (labelBy (rowAt (recordAt b p)) (recordAt b p))) where
       seen-is : passed seenHere (recordAt b p) ≡ seenOf classes types written′ labels′ targets′ n (ops + 1) (getD b p 0)
       seen-is = rw (w, ls .0, ts, kind-at b p (whole-here .within), add-one ops)
 
@@ -280,7 +282,7 @@ module _ {b : List ℕ} {start : ℕ} {places₀ classes types written labels ta
 
   pub again-at : {m : ℕ} → m ≡ bodyLength (getD b p 0) → (written′ labels′ targets′ : List ℕ) → Marks (recordAt b p) ops written written′ labels labels′ targets targets′
       → Scanning b start places₀ classes types written′ labels′ targets′ (set places ops (p % 65536)) n (p + (1 + m)) (ops + 1) (getD b p 0)
-  again-at q written′ labels′ targets′ m = rw q (scanning-next s k written′ labels′ targets′ (m .writes-so) (m .labels-so, m .numbers-so) (m .targets-so))
+  again-at q written′ labels′ targets′ m = rw q (scanning-next s k written′ labels′ targets′ (m .writes-so) (m .labelled .labels-so, m .labelled .numbers-so) (m .targets-so))
 
 pub record-asked : {b : List ℕ} {start : ℕ} {places₀ classes types written labels targets places : List ℕ} {n p ops last : ℕ}
     → Begins b classes types start n → Scanning b start places₀ classes types written labels targets places n p ops last → p < length b → RecordAt b classes types p n ops
@@ -299,3 +301,26 @@ begins-start places₀ g = scanning-start places₀ (g .after) (g .no-more) (mar
 
 pub begins-inside : {b classes types : List ℕ} {p n : ℕ} → Begins b classes types p n → p ≤ length b
 begins-inside g = g .after .reached
+
+-- what an op leaves in the arrays, from the digits of its entry
+module _ {b : List ℕ} {p k e : ℕ} (s : Stands b p k) (d : Digits e k) where
+  label-is : labelBy (rowAt (recordAt b p)) (recordAt b p) ≡ getD b (p + (outsIn e + insIn e + restIn e)) 0
+  label-is = label-byte s ∙ ap (λ (n : ℕ). getD b (p + n) 0) (d .body)
+
+  row-is : rowAt (recordAt b p) ≡ rowIn e
+  row-is = row-at s ∙ d .row
+
+  pub last-inside : p + (outsIn e + insIn e + restIn e) < length b
+  last-inside = omega (arith, s .whole, d .body)
+
+  pub marks-by : {op : ℕ} {written written′ labels labels′ targets targets′ : List ℕ} → marked written′ ≡ wroteBy (rowIn e) (marked written) (bytesAt b (p + 1) (outsIn e))
+      → LabelledAs (rowIn e) (getD b (p + (outsIn e + insIn e + restIn e)) 0) op labels labels′
+      → marked targets′ ≡ markedBy (isJumping (roleNo (roleIn e))) (marked targets) (getD b (p + (outsIn e + insIn e + restIn e)) 0)
+      → Marks (recordAt b p) op written written′ labels labels′ targets targets′
+  marks-by {op} {written} {written′} {labels} {labels′} {targets} w l t =
+      record {
+        writes-so = w ∙ sym (ap₂ (λ (row : Row) (os : List ℕ). wroteBy row (marked written) os) row-is (output-bytes s ∙ ap (bytesAt b (p + 1)) (d .outs)));
+        labelled = subst (λ (row : Row). LabelledAs row (labelBy (rowAt (recordAt b p)) (recordAt b p)) op labels labels′) (sym row-is)
+            (subst (λ (n : ℕ). LabelledAs (rowIn e) n op labels labels′) (sym label-is) l);
+        targets-so = t ∙ sym (ap₂ (λ (row : Row) (n : ℕ). markedBy (isJumping (row .role)) (marked targets) n) row-is label-is);
+      }

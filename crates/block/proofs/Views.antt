@@ -1,38 +1,36 @@
--- What the op that starts at a place of a block does, from its kind's role and the block's bytes. Assumes nothing.
-use mathlib.Core.Path.{_≡_, refl, sym, ap, ap₂, _∙_, subst}
-use mathlib.Core.Bool.{Bool}
-use mathlib.Core.Option.{Option, some}
+-- What the op that starts at a place of a block does, from its kind's row and the block's bytes. Assumes nothing.
+use mathlib.Core.Path.{_≡_, refl, sym, ap, ap₂, _∙_, subst, fun-ext}
+use mathlib.Core.Bool.{Bool, cond}
+use mathlib.Core.Option.{some}
 use mathlib.Core.List.{List, [], _∷_, _++_}
-use Prim.Native.Nat.{ℕ, zero, suc, _+_, _≤_, _<_}
+use Prim.Native.Nat.{ℕ, zero, suc, _+_, _/_, _≤_, _<_}
 use native.Mathlib.Omega.{arith}
+use lib.Dec.{eqb}
 use lib.ListN.{length, getD, take, drop, length-append}
 use lib.Seq.{take-nil, getD-take, drop-drop, getD-drop}
 use native.Mathlib.Nat.{zero-add, suc-add, add-zero, add-suc, add-assoc}
-use Rattle.theory.specs.Machine.{View, calc, access, label}
+use Rattle.theory.specs.Machine.{always, when, to, View, calc, access, label, flow}
 use Rattle.word.specs.Condition.{condW}
 use Rattle.memory.specs.Access.{loadAt, storeAt}
 use Rattle.memory.specs.Bytes.{lowFirst}
 use Rattle.memory.proofs.Numbers.{low-same}
-use Rattle.ops.specs.Kinds.{Does, unknown, declares, sets, jumpsTo, leaves, computes, Row, at, movi, plain, brcond, load, store, rowOf, bodyLength}
-use Rattle.ops.specs.Kinds.{outputCount}
-use Rattle.ops.specs.Ops.{jump, branch, leave, kindOf, rowAt, bytesAt, outsBy, insBy, restBy, atWidths, evalBy, evalOf, Fault, afterLoad, afterStore, viewBy, viewOf}
-use Rattle.ops.specs.Ops.{restOk}
-use Rattle.ops.specs.Table.{operandCount, roleOf, opWidth}
-use Rattle.ops.proofs.RoleRows.{RowFor, row-of}
+use Rattle.ops.specs.Rows.{Role, unknown, declares, setsLabel, jumpsTo, exits, branches, loads, stores, constant, computing, Row, bodyOf, at, testOk}
+use Rattle.ops.specs.Kinds.{rowOf, roleOf, bodyLength, outputCount, operandCount}
+use Rattle.ops.specs.Ops.{kindOf, rowAt, bytesAt, outsBy, insBy, restBy, labelBy, atTypes, evalOf, opWidth, Fault, afterLoad, afterStore, loadOf, storeOf, holdsOf, leave, viewFor, viewOf}
+use Rattle.ops.proofs.Inputs.{constant-states}
+use Rattle.ops.proofs.Table.{typeAt, rowWith, RowFor, row-of}
 use Rattle.block.specs.Rules.{Seen, allBelow, operandsOf, rule4, rule6}
 use Rattle.block.specs.Scan.{recordAt, Stands}
-use Rattle.ops.specs.declared.Role.{Role}
-use Rattle.ops.specs.declared.Role.the-variants.{Unknown, Declares, SetsLabel, Jumps, Exits, Constant, Computes, Branches, Loads, Stores}
 
 -- the views, from the bytes that they read
 abbrev pub constantView : ℕ → ℕ → View ℕ (List ℕ) ℕ Fault
 constantView d x = calc (d ∷ []) [] (λ vs. some (x ∷ []))
 
-abbrev pub branchView : ℕ → ℕ → ℕ → ℕ → ℕ → View ℕ (List ℕ) ℕ Fault
-branchView w a b c l = branch (a ∷ b ∷ []) (λ vs. let xs = atWidths (w ∷ w ∷ []) vs in condW w c (at xs 0) (at xs 1)) l
+abbrev pub branchView : ℕ → ℕ → ℕ → ℕ → ℕ → ℕ → View ℕ (List ℕ) ℕ Fault
+branchView k t a b c l = flow (a ∷ b ∷ []) (when (λ m vs. let xs = atTypes (t ∷ t ∷ []) vs in condW (opWidth k) c (at xs 0) (at xs 1))) (to l)
 
 abbrev pub loadView : ℕ → ℕ → ℕ → ℕ → View ℕ (List ℕ) ℕ Fault
-loadView w d a f = access (d ∷ []) (a ∷ []) (λ m vs. let p = at vs 0 in afterLoad m p f (loadAt w f m p))
+loadView k d a f = access (d ∷ []) (a ∷ []) (λ m vs. let p = at vs 0 in afterLoad m p f (loadAt (opWidth k) f m p))
 
 abbrev pub storeView : ℕ → ℕ → ℕ → View ℕ (List ℕ) ℕ Fault
 storeView x a f = access [] (x ∷ a ∷ []) (λ m vs. let p = at vs 1 in afterStore p f (storeAt f m p (at vs 0)))
@@ -40,42 +38,33 @@ storeView x a f = access [] (x ∷ a ∷ []) (λ m vs. let p = at vs 1 in afterS
 abbrev pub pureView : ℕ → ℕ → List ℕ → List ℕ → View ℕ (List ℕ) ℕ Fault
 pureView k d ins rest = calc (d ∷ []) ins (evalOf k rest)
 
--- no op of a role names fewer variables than this, and no fewer bytes than this follow them
-abbrev least : Role → ℕ × ℕ
-least Unknown = (0, 0)
-least Declares = (0, 2)
-least SetsLabel = (0, 1)
-least Jumps = (0, 1)
-least Exits = (1, 0)
-least Constant = (1, 8)
-least Computes = (1, 0)
-least Branches = (2, 2)
-least Loads = (2, 1)
-least Stores = (2, 1)
-
-abbrev pub restFrom : Role → ℕ
-restFrom r = least r .1
-
+-- no record of a role has fewer bytes after its kind than this
 abbrev pub bodyFrom : Role → ℕ
-bodyFrom r = least r .0 + least r .1
+bodyFrom unknown = 0
+bodyFrom declares = 2
+bodyFrom setsLabel = 1
+bodyFrom jumpsTo = 1
+bodyFrom exits = 1
+bodyFrom branches = 4
+bodyFrom loads = 3
+bodyFrom stores = 3
+bodyFrom constant = 9
+bodyFrom computing = 1
 
-sized : (r : Role) (k : ℕ) (row : Row) → RowFor r k row → (least r .0 ≤ length (row .outs) + length (row .ins)) × (least r .1 ≤ row .rest)
-sized Unknown k row e = rw e (omega arith, omega arith)
-sized Declares k row e = rw e (omega arith, omega arith)
-sized SetsLabel k row e = rw e (omega arith, omega arith)
-sized Jumps k row e = rw e (omega arith, omega arith)
-sized Exits k row e = rw e (omega arith, omega arith)
-sized Constant k row e = rw e (omega arith, omega arith)
-sized Computes k row c = (omega (arith, ap length (c .one-out)), omega arith)
-sized Branches k row e = rw e (omega arith, omega arith)
-sized Loads k row e = rw e (omega arith, omega arith)
-sized Stores k row e = rw e (omega arith, omega arith)
-
-pub rest-from : {r : Role} (k : ℕ) → roleOf k ≡ r → restFrom r ≤ (rowOf k) .rest
-rest-from {r} k e = sized r k (rowOf k) (row-of r k e) .1
+sized : (r : Role) (t : ℕ) (row : Row) → RowFor r t row → bodyFrom r ≤ bodyOf row
+sized unknown t row e = rw e (omega arith)
+sized declares t row e = rw e (omega arith)
+sized setsLabel t row e = rw e (omega arith)
+sized jumpsTo t row e = rw e (omega arith)
+sized exits t row e = rw e (omega arith)
+sized branches t row e = rw e (omega arith)
+sized loads t row e = rw e (omega arith)
+sized stores t row e = rw e (omega arith)
+sized constant t row e = rw e (omega arith)
+sized computing t row c = omega (arith, ap length (c .one-out))
 
 pub body-from : (r : Role) (k : ℕ) → roleOf k ≡ r → bodyFrom r ≤ bodyLength k
-body-from r k e = let s = sized r k (rowOf k) (row-of r k e) in omega arith
+body-from r k e = sized r (typeAt k) (rowOf k) (row-of r k e)
 
 -- lists
 drop-take : (j n : ℕ) (l : List ℕ) → drop j (take (j + n) l) ≡ take n (drop j l)
@@ -86,16 +75,6 @@ drop-take (suc j) n (x ∷ l) = rw (suc-add j n) (drop-take j n l)
 bytes-append : (r : List ℕ) (n i m : ℕ) → bytesAt r i n ++ bytesAt r (i + n) m ≡ bytesAt r i (n + m)
 bytes-append r zero i m = rw (add-zero i, zero-add m)
 bytes-append r (suc n) i m = rw (suc-add n m) (ap (λ (xs : List ℕ). at r i ∷ xs) (ap (λ (j : ℕ). bytesAt r (suc i) n ++ bytesAt r j m) (add-suc i n ∙ sym (suc-add i n)) ∙ bytes-append r n (suc i) m))
-
--- a pure op's function is the one that states its result
-shaped : (row : Row) (d : Does) {ok : List ℕ → Bool} {f : List ℕ → List ℕ → Option (List ℕ)} → d ≡ computes ok f → (r : List ℕ)
-    → viewBy row d r ≡ calc (outsBy row r) (insBy row r) (evalBy row d (restBy row r))
-shaped row d e r = rw e
-
-pure-shape : (k : ℕ) {ok : List ℕ → Bool} {f : List ℕ → List ℕ → Option (List ℕ)} → (rowOf k) .does ≡ computes ok f → (r : List ℕ)
-    → viewBy (rowOf k) ((rowOf k) .does) r ≡ calc (outsBy (rowOf k) r) (insBy (rowOf k) r) (evalOf k (restBy (rowOf k) r))
-unfolding evalOf
-pure-shape k e r = shaped (rowOf k) ((rowOf k) .does) e r
 
 -- the record at a place: its bytes are the block's
 module _ {b : List ℕ} {p k : ℕ} (s : Stands b p k) where
@@ -139,18 +118,26 @@ module _ {b : List ℕ} {p k : ℕ} (s : Stands b p k) where
       ∙ ap (λ (n : ℕ). take (row .rest) (drop (p + (1 + n)) b)) (sym (length-append (row .outs) (row .ins)))
 
   -- rule 6 is asked of them
-  pub rule6-at : (t : Seen) → rule6 t (recordAt b p) ≡ restOk ((rowOf k) .does) (take ((rowOf k) .rest) (drop (p + (1 + operandCount k)) b))
+  pub rule6-at : (t : Seen) → rule6 t (recordAt b p) ≡ testOk ((rowOf k) .test) (take ((rowOf k) .rest) (drop (p + (1 + operandCount k)) b))
   unfolding rule6
-  rule6-at t = ap (λ (row : Row). restOk (row .does) (restBy row (recordAt b p))) row-at ∙ ap (restOk ((rowOf k) .does)) rest-bytes
+  rule6-at t = ap (λ (row : Row). testOk (row .test) (restBy row (recordAt b p))) row-at ∙ ap (testOk ((rowOf k) .test)) rest-bytes
 
   -- and rule 4 of the operands
   pub rule4-at : (t : Seen) → rule4 t (recordAt b p) ≡ allBelow (length (t .classes)) (bytesAt b (p + 1) (operandCount k))
   unfolding rule4
   rule4-at t = ap (allBelow (length (t .classes))) operand-bytes
 
-  by-row : (row : Row) → rowOf k ≡ row → viewOf (recordAt b p) ≡ viewBy row (row .does) (recordAt b p)
+  -- its label, if it has one
+  pub label-byte : labelBy (rowAt (recordAt b p)) (recordAt b p) ≡ at b (p + bodyLength k)
+  label-byte = ap (λ (row : Row). labelBy row (recordAt b p)) row-at ∙ byte (bodyLength k) (omega arith)
+
+  pub output-bytes : outsBy (rowAt (recordAt b p)) (recordAt b p) ≡ bytesAt b (p + 1) (outputCount k)
+  output-bytes = ap (λ (row : Row). outsBy row (recordAt b p)) row-at ∙ some-bytes (outputCount k) 1 (omega arith)
+
+  -- what the op does, by its role
+  by-row : (row : Row) → rowOf k ≡ row → viewOf (recordAt b p) ≡ viewFor (row .role) row (recordAt b p)
   unfolding viewOf
-  by-row row e = ap (λ (x : Row). viewBy x (x .does) (recordAt b p)) (row-at ∙ e)
+  by-row row e = ap (λ (x : Row). viewFor (x .role) x (recordAt b p)) (row-at ∙ e)
 
   after : (j i : ℕ) → j + i ≤ bodyLength k → at (drop j (recordAt b p)) i ≡ at b (p + (j + i))
   after j i h = getD-drop j (recordAt b p) i 0 ∙ byte (j + i) h
@@ -160,46 +147,59 @@ module _ {b : List ℕ} {p k : ℕ} (s : Stands b p k) where
       low-same (drop j (recordAt b p)) b 0 (p + j) n
       (λ i l. ap (at (drop j (recordAt b p))) (zero-add i) ∙ after j i (omega arith) ∙ ap (at b) (sym (add-assoc p j i)))
 
-  pub unknown-view : roleOf k ≡ Unknown → viewOf (recordAt b p) ≡ leave 0
-  unknown-view e = by-row (plain [] 0 unknown) (row-of Unknown k e)
+  body-is : (row : Row) → rowOf k ≡ row → bodyOf row ≡ bodyLength k
+  body-is row e = sym (ap bodyOf e)
 
-  pub declare-view : roleOf k ≡ Declares → viewOf (recordAt b p) ≡ leave 0
-  declare-view e = by-row (plain [] 2 declares) (row-of Declares k e)
+  pub unknown-view : roleOf k ≡ unknown → viewOf (recordAt b p) ≡ leave []
+  unknown-view e = by-row _ (row-of unknown k e)
 
-  pub label-view : roleOf k ≡ SetsLabel → viewOf (recordAt b p) ≡ label (at b (p + 1))
-  label-view e = by-row (plain [] 1 sets) (row-of SetsLabel k e) ∙ ap label (after 1 0 (body-from SetsLabel k e))
+  pub declare-view : roleOf k ≡ declares → viewOf (recordAt b p) ≡ leave []
+  declare-view e = by-row _ (row-of declares k e)
 
-  pub jump-view : roleOf k ≡ Jumps → viewOf (recordAt b p) ≡ jump (at b (p + 1))
-  jump-view e = by-row (plain [] 1 jumpsTo) (row-of Jumps k e) ∙ ap jump (after 1 0 (body-from Jumps k e))
+  pub label-view : roleOf k ≡ setsLabel → viewOf (recordAt b p) ≡ label (at b (p + 1))
+  label-view e = by-row _ (row-of setsLabel k e) ∙ ap label (byte 1 (omega (arith, body-is _ (row-of setsLabel k e))))
 
-  pub leave-view : roleOf k ≡ Exits → viewOf (recordAt b p) ≡ leave (at b (p + 1))
-  leave-view e = by-row (plain (64 ∷ []) 0 leaves) (row-of Exits k e) ∙ ap leave (byte 1 (body-from Exits k e))
+  pub jump-view : roleOf k ≡ jumpsTo → viewOf (recordAt b p) ≡ flow [] always (to (at b (p + 1)))
+  jump-view e = by-row _ (row-of jumpsTo k e) ∙ ap (λ (l : ℕ). flow [] always (to l)) (byte 1 (omega (arith, body-is _ (row-of jumpsTo k e))))
 
-  pub branch-view : roleOf k ≡ Branches → viewOf (recordAt b p) ≡ branchView (opWidth k) (at b (p + 1)) (at b (p + 2)) (at b (p + 3)) (at b (p + 4))
+  pub leave-view : roleOf k ≡ exits → viewOf (recordAt b p) ≡ leave (at b (p + 1) ∷ [])
+  leave-view e = by-row _ (row-of exits k e) ∙ ap (λ (x : ℕ). leave (x ∷ [])) (byte 1 (omega (arith, body-is _ (row-of exits k e))))
+
+  pub branch-view : roleOf k ≡ branches → viewOf (recordAt b p) ≡ branchView k (typeAt k) (at b (p + 1)) (at b (p + 2)) (at b (p + 3)) (at b (p + 4))
+  unfolding holdsOf
   branch-view e =
-      let l : 4 ≤ bodyLength k = body-from Branches k e in
-      by-row (brcond (opWidth k)) (row-of Branches k e) ∙ rw (byte 1 (omega arith), byte 2 (omega arith), after 3 0 (omega arith), after 3 1 l)
+      let l = body-is _ (row-of branches k e) in
+      by-row _ (row-of branches k e) ∙ rw (kind-byte, byte 1 (omega (arith, l)), byte 2 (omega (arith, l)), after 3 0 (omega (arith, l)), byte 4 (omega (arith, l)))
 
-  pub load-view : roleOf k ≡ Loads → viewOf (recordAt b p) ≡ loadView (opWidth k) (at b (p + 1)) (at b (p + 2)) (at b (p + 3))
+  pub load-view : roleOf k ≡ loads → viewOf (recordAt b p) ≡ loadView k (at b (p + 1)) (at b (p + 2)) (at b (p + 3))
+  unfolding loadOf
   load-view e =
-      let l : 3 ≤ bodyLength k = body-from Loads k e in
-      by-row (load (opWidth k)) (row-of Loads k e) ∙ rw (byte 1 (omega arith), byte 2 (omega arith), after 3 0 l)
+      let l = body-is _ (row-of loads k e) in
+      by-row _ (row-of loads k e)
+      ∙ rw (byte 1 (omega (arith, l)), byte 2 (omega (arith, l)))
+      (ap (access (at b (p + 1) ∷ []) (at b (p + 2) ∷ [])) (fun-ext (λ m. fun-ext (λ vs. rw (kind-byte, after 3 0 (omega (arith, l)))))))
 
-  pub store-view : roleOf k ≡ Stores → viewOf (recordAt b p) ≡ storeView (at b (p + 1)) (at b (p + 2)) (at b (p + 3))
+  pub store-view : roleOf k ≡ stores → viewOf (recordAt b p) ≡ storeView (at b (p + 1)) (at b (p + 2)) (at b (p + 3))
+  unfolding storeOf
   store-view e =
-      let l : 3 ≤ bodyLength k = body-from Stores k e in
-      by-row (store (opWidth k)) (row-of Stores k e) ∙ rw (byte 1 (omega arith), byte 2 (omega arith), after 3 0 l)
+      let l = body-is _ (row-of stores k e) in
+      by-row _ (row-of stores k e)
+      ∙ rw (byte 1 (omega (arith, l)), byte 2 (omega (arith, l)))
+      (ap (access [] (at b (p + 1) ∷ at b (p + 2) ∷ [])) (fun-ext (λ m. fun-ext (λ vs. rw (after 3 0 (omega (arith, l)))))))
 
-  pub constant-view : roleOf k ≡ Constant → viewOf (recordAt b p) ≡ constantView (at b (p + 1)) (lowFirst b (p + 2) 8)
+  pub constant-view : roleOf k ≡ constant → viewOf (recordAt b p) ≡ constantView (at b (p + 1)) (lowFirst b (p + 2) 8)
   constant-view e =
-      let l : 9 ≤ bodyLength k = body-from Constant k e in
-      by-row (movi (opWidth k)) (row-of Constant k e) ∙ rw (byte 1 (omega arith), low-after 2 8 (omega arith))
+      let l = body-is _ (row-of constant k e) in
+      by-row _ (row-of constant k e)
+      ∙ rw (byte 1 (omega (arith, l)))
+      (ap (calc (at b (p + 1) ∷ []) [])
+      (fun-ext (λ vs. constant-states (kindOf (recordAt b p)) (ap roleOf kind-byte ∙ e) _ vs ∙ ap (λ (x : ℕ). some (x ∷ [])) (low-after 2 8 (omega (arith, l))))))
 
-  pub pure-view : roleOf k ≡ Computes
+  pub pure-view : roleOf k ≡ computing
       → viewOf (recordAt b p) ≡ pureView k (at b (p + 1)) (bytesAt b (p + 2) (length ((rowOf k) .ins))) (take ((rowOf k) .rest) (drop (p + (1 + operandCount k)) b))
   pure-view e =
-      let c = row-of Computes k e in
+      let c = row-of computing k e in
       let single : length ((rowOf k) .outs) ≡ 1 = ap length (c .one-out) in
       let o : outsBy (rowOf k) (recordAt b p) ≡ at b (p + 1) ∷ [] = ap (bytesAt (recordAt b p) 1) single ∙ some-bytes 1 1 (omega arith) in
       let i : insBy (rowOf k) (recordAt b p) ≡ bytesAt b (p + 2) (length ((rowOf k) .ins)) = ap (λ (n : ℕ). bytesAt (recordAt b p) (1 + n) (length ((rowOf k) .ins))) single ∙ some-bytes (length ((rowOf k) .ins)) 2 (omega arith) in
-      by-row (rowOf k) refl ∙ pure-shape k (c .does-is) (recordAt b p) ∙ rw (o, i, rest-bytes)
+      by-row (rowOf k) refl ∙ ap (λ (r : Role). viewFor r (rowOf k) (recordAt b p)) e ∙ rw (o, i, rest-bytes, kind-byte)

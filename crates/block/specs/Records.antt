@@ -4,7 +4,8 @@ use mathlib.Core.Bool.{Bool, cond}
 use mathlib.Core.List.{List, [], _∷_, _++_}
 use lib.Dec.{eqb, ltb}
 use lib.ListN.{length, take, drop}
-use Rattle.ops.specs.Kinds.{known, bodyLength, at}
+use Rattle.ops.specs.Rows.{at}
+use Rattle.ops.specs.Kinds.{known, bodyLength}
 use Rattle.ops.specs.Ops.{kindOf}
 
 -- the whole records of a block, and the rule that the record after them breaks: 2, unknown kind; 1, it runs past the end; 0, none follows
@@ -59,17 +60,14 @@ classOf r = at r 1
 abbrev pub typeOf : List ℕ → ℕ
 typeOf r = at r 2
 
-abbrev pub widthOf : ℕ → ℕ
-widthOf type = cond (eqb type 0) 32 64
-
--- the classes and widths of the variables, "numbered from 0 in order"
+-- the classes and types of the variables, "numbered from 0 in order"
 abbrev pub classesOf : List (List ℕ) → List ℕ
 classesOf [] = []
 classesOf (d ∷ ds) = classOf d ∷ classesOf ds
 
-abbrev pub widthsOf : List (List ℕ) → List ℕ
-widthsOf [] = []
-widthsOf (d ∷ ds) = widthOf (typeOf d) ∷ widthsOf ds
+abbrev pub declaredTypes : List (List ℕ) → List ℕ
+declaredTypes [] = []
+declaredTypes (d ∷ ds) = typeOf d ∷ declaredTypes ds
 
 -- the number of globals, which stand before the rest
 abbrev pub globalCount : List ℕ → ℕ

@@ -1,21 +1,21 @@
 -- The rules that a record must meet, each by itself, after the records before it. Assumes nothing.
 use Prim.Native.Nat.{ℕ, zero, suc}
 use mathlib.Core.Bool.{Bool, true, cond, not, _&&_, _||_}
-use mathlib.Core.Option.{Option, none, some}
 use mathlib.Core.List.{List, [], _∷_, _++_}
 use lib.Dec.{eqb, ltb, leb}
 use lib.ListN.{length, getD}
-use Rattle.theory.specs.Machine.{View, labelOf, target, upd}
-use Rattle.theory.specs.Sets.{Vars, empty}
-use Rattle.theory.specs.Scope.{mayRead, wrote}
-use Rattle.ops.specs.Ops.{kindOf, rowAt, outsBy, insBy, restBy, restOk, viewOf}
-use Rattle.block.specs.Records.{isDeclaration, classOf, typeOf, widthOf}
+use Rattle.theory.specs.Machine.{upd}
+use Rattle.theory.specs.Sets.{Vars, empty, plus, allIn}
+use Rattle.ops.specs.Limits.{maxVariables, maxOps, labelCount}
+use Rattle.ops.specs.Rows.{Row, isClosing, isSetting, isJumping, testOk}
+use Rattle.ops.specs.Ops.{kindOf, rowAt, outsBy, insBy, restBy, labelBy}
+use Rattle.block.specs.Records.{isDeclaration, classOf, typeOf}
 
--- what the records read so far come to: the class and width of each variable, the variables written in this basic block,
+-- what the records read so far come to: the class and type of each variable, the variables written in this basic block,
 -- the labels set and jumped to, the number of ops, and the last op's kind (0: no op yet)
 pub record Seen : Type 0 where
   pub classes : List ℕ
-  pub widths : List ℕ
+  pub types : List ℕ
   pub written : Vars
   pub labels : Vars
   pub targets : Vars
@@ -23,7 +23,7 @@ pub record Seen : Type 0 where
   pub last : ℕ
 
 abbrev pub start : Seen
-start = record { classes = []; widths = []; written = empty; labels = empty; targets = empty; ops = 0; last = 0 }
+start = record { classes = []; types = []; written = empty; labels = empty; targets = empty; ops = 0; last = 0 }
 
 -- the globals, and the variables that outlive a basic block: globals and local temporaries
 abbrev pub globalsIn : List ℕ → Vars
@@ -38,7 +38,7 @@ allGlobal (c ∷ cs) = eqb c 0 && allGlobal cs
 
 -- 3: "declaration after an op, bad class or type, global after a temporary of either class, 65th variable"
 unfoldable pub rule3 : Seen → List ℕ → Bool
-rule3 s r = eqb (s .ops) 0 && leb (classOf r) 2 && leb (typeOf r) 1 && (not (eqb (classOf r) 0) || allGlobal (s .classes)) && ltb (length (s .classes)) 64
+rule3 s r = eqb (s .ops) 0 && leb (classOf r) 2 && leb (typeOf r) 1 && (not (eqb (classOf r) 0) || allGlobal (s .classes)) && ltb (length (s .classes)) maxVariables
 
 -- 4: "variable not declared"
 abbrev pub allBelow : ℕ → List ℕ → Bool
@@ -52,44 +52,32 @@ unfoldable pub rule4 : Seen → List ℕ → Bool
 rule4 s r = allBelow (length (s .classes)) (operandsOf r)
 
 -- 5: "an operand has the wrong width"
-abbrev pub haveWidths : List ℕ → List ℕ → List ℕ → Bool
-haveWidths widths [] ws = true
-haveWidths widths (v ∷ vs) [] = true
-haveWidths widths (v ∷ vs) (w ∷ ws) = eqb (getD widths v 0) w && haveWidths widths vs ws
+abbrev pub haveTypes : List ℕ → List ℕ → List ℕ → Bool
+haveTypes types [] ts = true
+haveTypes types (v ∷ vs) [] = true
+haveTypes types (v ∷ vs) (t ∷ ts) = eqb (getD types v 0) t && haveTypes types vs ts
 
 unfoldable pub rule5 : Seen → List ℕ → Bool
-rule5 s r = haveWidths (s .widths) (operandsOf r) ((rowAt r) .outs ++ (rowAt r) .ins)
+rule5 s r = haveTypes (s .types) (operandsOf r) ((rowAt r) .outs ++ (rowAt r) .ins)
 
 -- 6: "cond above 9, bad flags, label above 31, 32-bit movi of 2^32 or more"
 unfoldable pub rule6 : Seen → List ℕ → Bool
-rule6 s r = restOk ((rowAt r) .does) (restBy (rowAt r) r)
+rule6 s r = testOk ((rowAt r) .test) (restBy (rowAt r) r)
 
--- by the label that an op names, if it names one
-abbrev pub named : {A : Type 0} → A → (ℕ → A) → Option ℕ → A
-named a f none = a
-named a f (some l) = f l
-
-module _ {Val Mem Out Flt : Type 0} where
-  -- 7: "label set twice, or jump to a label already set"
-  abbrev pub labelFree : Vars → View Val Mem Out Flt → Bool
-  labelFree labels w = named (named true (λ l. not (labels l)) (target w)) (λ l. not (labels l)) (labelOf w)
-
-  abbrev pub nextLabels : Vars → View Val Mem Out Flt → Vars
-  nextLabels labels w = named labels (λ l. upd labels l true) (labelOf w)
-
-  abbrev pub nextTargets : Vars → View Val Mem Out Flt → Vars
-  nextTargets targets w = named targets (λ l. upd targets l true) (target w)
+-- 7: "label set twice, or jump to a label already set"
+abbrev pub labelFree : Row → Vars → ℕ → Bool
+labelFree row labels l = not (isSetting (row .role) || isJumping (row .role)) || not (labels l)
 
 unfoldable pub rule7 : Seen → List ℕ → Bool
-rule7 s r = labelFree (s .labels) (viewOf r)
+rule7 s r = labelFree (rowAt r) (s .labels) (labelBy (rowAt r) r)
 
 -- 8: "temporary read before a write in its basic block"; "reads come before the record's own write"
 unfoldable pub rule8 : Seen → List ℕ → Bool
-rule8 s r = mayRead (keptIn (s .classes)) (s .written) (viewOf r)
+rule8 s r = allIn (keptIn (s .classes)) (insBy (rowAt r) r) (s .written)
 
 -- 9: "257th op"
 unfoldable pub rule9 : Seen → List ℕ → Bool
-rule9 s r = ltb (s .ops) 256
+rule9 s r = ltb (s .ops) maxOps
 
 -- 10: "no op, or last op is not exit_tb"
 unfoldable pub rule10 : Seen → Bool
@@ -101,14 +89,14 @@ allSet targets labels zero = true
 allSet targets labels (suc n) = (not (targets n) || labels n) && allSet targets labels n
 
 unfoldable pub rule7end : Seen → Bool
-rule7end s = allSet (s .targets) (s .labels) 32
+rule7end s = allSet (s .targets) (s .labels) labelCount
 
 -- what is seen once the record is read
 abbrev pub declared : Seen → List ℕ → Seen
 declared s r =
     record {
       classes = s .classes ++ (classOf r ∷ []);
-      widths = s .widths ++ (widthOf (typeOf r) ∷ []);
+      types = s .types ++ (typeOf r ∷ []);
       written = s .written;
       labels = s .labels;
       targets = s .targets;
@@ -116,14 +104,21 @@ declared s r =
       last = s .last;
     }
 
+-- "A basic block starts at the first op, at set_label, or after br, brcond or exit_tb"
+abbrev pub wroteBy : Row → Vars → List ℕ → Vars
+wroteBy row w outs = cond (isClosing (row .role)) empty (plus w outs)
+
+abbrev pub markedBy : Bool → Vars → ℕ → Vars
+markedBy b labels l = cond b (upd labels l true) labels
+
 abbrev pub passed : Seen → List ℕ → Seen
 passed s r =
     record {
       classes = s .classes;
-      widths = s .widths;
-      written = wrote (s .written) (viewOf r);
-      labels = nextLabels (s .labels) (viewOf r);
-      targets = nextTargets (s .targets) (viewOf r);
+      types = s .types;
+      written = wroteBy (rowAt r) (s .written) (outsBy (rowAt r) r);
+      labels = markedBy (isSetting ((rowAt r) .role)) (s .labels) (labelBy (rowAt r) r);
+      targets = markedBy (isJumping ((rowAt r) .role)) (s .targets) (labelBy (rowAt r) r);
       ops = suc (s .ops);
       last = kindOf r;
     }

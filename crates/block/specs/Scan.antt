@@ -1,18 +1,18 @@
 -- What the scan's arrays hold. Assumes nothing.
 use mathlib.Core.Path.{_≡_}
-use mathlib.Core.Bool.{Bool, true, cond, not, _&&_, _||_, Bool·beq}
-use mathlib.Core.List.{List, [], _∷_, _++_, map}
+use mathlib.Core.Bool.{Bool, true, cond, not, _&&_, _||_}
+use mathlib.Core.List.{List, [], _∷_, _++_}
 use Prim.Native.Nat.{ℕ, suc, _+_, _*_, _/_, _%_, _≤_, _<_}
 use lib.Dec.{eqb, ltb, leb}
 use lib.ListN.{length, getD, take, drop, set, replicate}
-use Rattle.theory.specs.Machine.{View, labelOf, All}
-use Rattle.theory.specs.Scope.{wrote}
-use Rattle.theory.specs.Sets.{Vars, empty}
+use Rattle.theory.specs.Machine.{All}
+use Rattle.theory.specs.Sets.{Vars, empty, plus, without}
 use Rattle.ops.specs.Kinds.{known, bodyLength}
-use Rattle.ops.specs.Ops.{viewOf}
+use Rattle.ops.specs.Rows.{Row, isSetting, isJumping}
+use Rattle.ops.specs.Ops.{rowAt, outsBy, labelBy}
 use Rattle.block.specs.Checks.{firstBroken, rulesOf, checkFrom, checkOf}
-use Rattle.block.specs.Records.{cutOf, recordsOf, isDeclaration, declarations, opsFrom, widthOf, classesOf, widthsOf, globalCount}
-use Rattle.block.specs.Rules.{Seen, start, named, nextLabels, nextTargets}
+use Rattle.block.specs.Records.{cutOf, recordsOf, isDeclaration, declarations, opsFrom, classesOf, declaredTypes, globalCount}
+use Rattle.block.specs.Rules.{Seen, start, wroteBy, markedBy}
 use Rattle.block.specs.declared.Verdict.{Verdict}
 use Rattle.block.specs.declared.Verdict.the-variants.{Accepted, Refused}
 
@@ -34,14 +34,10 @@ pub record SetAt (xs : List ℕ) (i x : ℕ) (ys : List ℕ) : Type 0 where
 unfoldable pub checkAt : Seen → List ℕ → ℕ → Verdict
 checkAt s block place = checkFrom s place ((cutOf (drop place block)) .records) ((cutOf (drop place block)) .tail)
 
--- a variable's type agrees with the lowest bit: 0 for 32 bits
-abbrev pub wideAs : ℕ → ℕ → Bool
-wideAs type bits = Bool·beq (eqb type 0) (eqb (bits % 2) 0)
-
--- each variable has 64 bits exactly where its bit is 1, the first variable's bit lowest
+-- each variable has its type, two bits of the number, the first variable's lowest
 unfoldable pub typesMatch : List ℕ → ℕ → List ℕ → Bool
-typesMatch types bits [] = true
-typesMatch types bits (v ∷ vs) = wideAs (getD types v 0) bits && typesMatch types (bits / 2) vs
+typesMatch types codes [] = true
+typesMatch types codes (v ∷ vs) = eqb (getD types v 0) (codes % 4) && typesMatch types (codes / 4) vs
 
 -- a variable of this class, written in the basic block where the byte is 1, may be read
 abbrev pub readable : ℕ → ℕ → Bool
@@ -55,6 +51,10 @@ mayReadAll classes written (v ∷ vs) = readable (getD classes v 0) (getD writte
 abbrev pub marked : List ℕ → Vars
 marked bytes v = eqb (getD bytes v 0) 1
 
+-- and those, once the bytes of some hold x
+abbrev pub markedAs : ℕ → Vars → List ℕ → Vars
+markedAs x l vs = cond (eqb x 1) (plus l vs) (without l vs)
+
 abbrev pub numbered : List ℕ → Vars
 numbered numbers l = not (eqb (getD numbers l 0) 0)
 
@@ -64,7 +64,7 @@ abbrev pub seenOf : List ℕ → List ℕ → List ℕ → List ℕ → List ℕ
 seenOf classes types written labels targets n ops last =
     record {
       classes = take n classes;
-      widths = map widthOf (take n types);
+      types = take n types;
       written = marked written;
       labels = numbered labels;
       targets = marked targets;
@@ -73,13 +73,17 @@ seenOf classes types written labels targets n ops last =
     }
 
 -- the labels' numbers once an op has been read: a label's is one more than its op's
-abbrev pub labelledBy : {Val Mem Out Flt : Type 0} → View Val Mem Out Flt → ℕ → List ℕ → List ℕ
-labelledBy w op labels = named labels (λ l. set labels l (op + 1)) (labelOf w)
+abbrev pub labelledBy : Row → ℕ → ℕ → List ℕ → List ℕ
+labelledBy row l op labels = cond (isSetting (row .role)) (set labels l (op + 1)) labels
+
+pub record LabelledAs (row : Row) (l op : ℕ) (labels labels′ : List ℕ) : Type 0 where
+  pub labels-so : numbered labels′ ≡ markedBy (isSetting (row .role)) (numbered labels) l
+  pub numbers-so : labels′ ≡ labelledBy row l op labels
 
 -- what is seen after n declarations
 abbrev pub declaredSeen : List ℕ → List ℕ → ℕ → Seen
 declaredSeen classes types n =
-    record { classes = take n classes; widths = map widthOf (take n types); written = empty; labels = empty; targets = empty; ops = 0; last = 0 }
+    record { classes = take n classes; types = take n types; written = empty; labels = empty; targets = empty; ops = 0; last = 0 }
 
 -- n declarations have been read up to a place, and the check goes on from there
 pub record Declaring (block classes types : List ℕ) (place n globals : ℕ) : Type 0 where
@@ -88,7 +92,7 @@ pub record Declaring (block classes types : List ℕ) (place n globals : ℕ) : 
   pub records-are : recordsOf block ≡ before ++ (cutOf (drop place block)) .records
   pub all-declared : All (λ r. isDeclaration r ≡ true) before
   pub classes-are : classesOf before ≡ take n classes
-  pub widths-are : widthsOf before ≡ map widthOf (take n types)
+  pub types-are : declaredTypes before ≡ take n types
   pub globals-are : globals ≡ globalCount (take n classes)
   pub place-is : place ≡ 3 * n
   pub reached : place ≤ length block
@@ -119,7 +123,7 @@ placesFrom place i places (o ∷ os) = placesFrom (place + length o) (suc i) (se
 
 unfoldable pub labelsFrom : ℕ → List ℕ → List (List ℕ) → List ℕ
 labelsFrom i labels [] = labels
-labelsFrom i labels (o ∷ os) = labelsFrom (suc i) (labelledBy (viewOf o) i labels) os
+labelsFrom i labels (o ∷ os) = labelsFrom (suc i) (labelledBy (rowAt o) (labelBy (rowAt o) o) i labels) os
 
 -- the records from a place on
 abbrev pub recordsAt : List ℕ → ℕ → List (List ℕ)
@@ -141,10 +145,9 @@ pub record OpAt (b classes types : List ℕ) (p n : ℕ) : Type 0 where
 
 -- what an op leaves in the arrays: the variables written, the labels set and their numbers, the labels jumped to
 pub record Marks (r : List ℕ) (op : ℕ) (written written′ labels labels′ targets targets′ : List ℕ) : Type 0 where
-  pub writes-so : marked written′ ≡ wrote (marked written) (viewOf r)
-  pub labels-so : numbered labels′ ≡ nextLabels (numbered labels) (viewOf r)
-  pub numbers-so : labels′ ≡ labelledBy (viewOf r) op labels
-  pub targets-so : marked targets′ ≡ nextTargets (marked targets) (viewOf r)
+  pub writes-so : marked written′ ≡ wroteBy (rowAt r) (marked written) (outsBy (rowAt r) r)
+  pub labelled : LabelledAs (rowAt r) (labelBy (rowAt r) r) op labels labels′
+  pub targets-so : marked targets′ ≡ markedBy (isJumping ((rowAt r) .role)) (marked targets) (labelBy (rowAt r) r)
 
 -- the ops begin at a place, after n declarations
 pub record Begins (block classes types : List ℕ) (place n : ℕ) : Type 0 where
@@ -164,7 +167,7 @@ pub record RecordAt (block classes types : List ℕ) (place n ops : ℕ) : Type 
 pub record Approved (block places₀ classes types places labels : List ℕ) (start n globals ops : ℕ) : Type 0 where
   pub accepted : checkOf block ≡ Accepted
   pub classes-are : classesOf (declarations (recordsOf block)) ≡ take n classes
-  pub widths-are : widthsOf (declarations (recordsOf block)) ≡ map widthOf (take n types)
+  pub types-are : declaredTypes (declarations (recordsOf block)) ≡ take n types
   pub globals-are : globals ≡ globalCount (classesOf (declarations (recordsOf block)))
   pub few : n ≤ 64
   pub long-classes : length classes ≡ 256

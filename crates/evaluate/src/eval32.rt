@@ -1,10 +1,12 @@
 // The families of pure ops at 32 bits, each by the kind of its 32-bit form.
 ghost use mathlib.Core.Path.{_≡_};
 ghost use mathlib.Core.Option.{some};
+ghost use mathlib.Core.List.{[], _∷_};
 ghost use Rattle.word.specs.Answer.{statedOf};
 ghost use Rattle.ops.specs.Eval.{unaryOf, logicOf, divideOf, shiftOf};
-ghost use Rattle.ops.specs.Evaluate.{wideOf};
+ghost use Rattle.ops.specs.Kinds.{wideOf};
 use super::choice::choose;
+use super::choice::first;
 use widths::condition;
 use word::Stated;
 
@@ -64,16 +66,16 @@ fn shift(k: u8, a: u32, b: u32) -> Stated
 }
 
 // The family of a kind, and its operands.
-pub fn family(k: u8, c: u8, a: u32, b: u32, x: u32, y: u32) -> Stated
-    ensures { λ r. ⌜ r ≡ statedOf (wideOf 32 k c a b x y) ⌝ }
+pub fn family(k: u8, bytes: &[u8], a: u32, b: u32, x: u32, y: u32) -> Stated
+    ensures { λ r. ⌜ r ≡ statedOf (wideOf 32 k (now (bytes .entry)) (a ∷ b ∷ x ∷ y ∷ [])) ⌝ }
 {
     match k {
         0x11..=0x13 => Stated::Value(unary(k, a) as u64),
         0x14..=0x1e => Stated::Value(logic(k, a, b) as u64),
         0x1f..=0x22 => divide(k, a, b),
         0x23..=0x27 => shift(k, a, b),
-        0x28 => Stated::Value(choose(condition::holds32(c, a, b), 1, 0)),
-        0x29 => Stated::Value(choose(condition::holds32(c, a, b), x as u64, y as u64)),
+        0x28 => Stated::Value(choose(condition::holds32(first(bytes), a, b), 1, 0)),
+        0x29 => Stated::Value(choose(condition::holds32(first(bytes), a, b), x as u64, y as u64)),
         _ => Stated::NoResult,
     }
 }

@@ -23,21 +23,21 @@ fn converted(k: u8, a: u64) -> u64
     }
 }
 
-// The value that a kind states of its condition byte and its inputs, each read at its width.
-pub fn eval(kind: u8, c: u8, a: u64, b: u64, x: u64, y: u64) -> Stated
-    ensures { λ r. ⌜ r ≡ statedOf (foldedOf kind c a b x y) ⌝ }
+// The value that a kind states of the bytes after its operands and its inputs, each read at its width.
+pub fn eval(kind: u8, bytes: &[u8], a: u64, b: u64, x: u64, y: u64) -> Stated
+    ensures { λ r. ⌜ r ≡ statedOf (foldedOf kind (now (bytes .entry)) a b x y) ⌝ }
 {
     match kind {
         0x05..=0x07 => Stated::Value(converted(kind, a)),
         0x11..=0x29 => eval32::family(
             kind,
-            c,
+            bytes,
             convert::trunc_i64_i32(a),
             convert::trunc_i64_i32(b),
             convert::trunc_i64_i32(x),
             convert::trunc_i64_i32(y),
         ),
-        0x91..=0xa9 => eval64::family(kind - 0x80, c, a, b, x, y),
+        0x91..=0xa9 => eval64::family(kind - 0x80, bytes, a, b, x, y),
         _ => Stated::NoResult,
     }
 }

@@ -4,19 +4,21 @@ ghost use mathlib.Core.Option.{some};
 ghost use Prim.Native.Nat.{_+_, _≤_, _<_};
 ghost use lib.ListN.{length, getD};
 ghost use Rattle.theory.specs.Machine.{upd};
+ghost use Rattle.ops.specs.Kinds.{kindTable};
 ghost use Rattle.ops.specs.Ops.{bytesAt};
-ghost use Rattle.ops.specs.Table.{kindTable, roleOf};
 ghost use Rattle.block.specs.Records.{recordsOf, opsFrom};
 ghost use Rattle.block.specs.Scan.{Stands, marked};
-ghost use Rattle.runs.specs.Evaluates.{Computed};
 ghost use Rattle.passes.specs.Choose.{OpsHere};
-ghost use Rattle.passes.specs.Knows.{knownOf, allMarked, IfComputes, StatesKnown, Folds, FoldsAt, FoldsAll};
-use kinds::operand_count;
-use kinds::role_of;
+ghost use Rattle.passes.specs.Knows.{knownOf, allMarked, StatesKnown, Stays, Folds, FoldsAt, FoldsAll};
+use kinds::entry;
+use kinds::ins;
+use kinds::is_computing;
+use kinds::outs;
+use kinds::role;
 use marks::clear;
 use marks::put;
+use marks::unmark_all;
 use memory::low_first;
-use ops::Role;
 use values::evaluate;
 use word::Stated;
 
@@ -50,104 +52,64 @@ fn all_known(block: &[u8], from: usize, count: usize, known: &[u8; 256]) -> bool
     true
 }
 
-// What an op states where all its inputs are known.
-fn evaluate_known(
-    kinds: &[u32; 256],
-    block: &[u8],
-    at: usize,
-    kind: u8,
-    known: &[u8; 256],
-    values: &[u64; 256],
-) -> Stated
-    requires { ⌜ Computed (now block) at kind × (now kinds ≡ kindTable) ⌝ }
-    ensures { λ r. ⌜ StatesKnown (now (block .entry)) at kind (now (known .entry)) (now (values .entry)) r ⌝ }
+// What an op that may fold states, where all its inputs are known.
+fn stated_by(e: u32, block: &[u8], at: usize, known: &[u8; 256], values: &[u64; 256]) -> Stated
+    requires { ⌜ Stands (now block) at (getD (now block) at 0) × (e ≡ getD kindTable (getD (now block) at 0) 0) ⌝ }
+    ensures { λ r. ⌜ StatesKnown (now (block .entry)) at (now (known .entry)) (now (values .entry)) r ⌝ }
 {
-    if all_known(block, at + 2, operand_count(kinds, kind) - 1, known) {
-        return evaluate(kinds, block, at, kind, values);
+    if !is_computing(e) {
+        return Stated::NoResult;
+    }
+    if all_known(block, at + 1 + outs(e), ins(e), known) {
+        return evaluate(e, block, at, block[at], values);
     }
     Stated::NoResult
 }
 
-// Fold at a pure op that reads something.
-fn fold_computing(
-    kinds: &[u32; 256],
+// What is known after an op that stays as it is. Role 8 is a constant; those below 6 end a basic block.
+fn pass_over(e: u32, block: &[u8], at: usize, known: &mut [u8; 256], values: &mut [u64; 256])
+    requires { ⌜ Stands (now block) at (getD (now block) at 0) × (e ≡ getD kindTable (getD (now block) at 0) 0) × StatesKnown (now block) at (now known) (now values) Stated.NoResult ⌝ }
+    ensures { λ _. ⌜ Stays (now (block .entry)) at (now (known .entry)) (now (values .entry)) (now (known .exit)) (now (values .exit)) ⌝ }
+{
+    let r = role(e);
+    if r == 8 {
+        learn(known, values, block[at + 1], low_first(block, at + 2, 8));
+        return;
+    }
+    if r < 6 {
+        clear(known);
+        return;
+    }
+    unmark_all(block, at + 1, outs(e), known);
+}
+
+// Fold at one op: the constant's value if one takes its place.
+fn fold_op(
+    e: u32,
     block: &[u8],
     at: usize,
-    kind: u8,
     known: &mut [u8; 256],
     values: &mut [u64; 256],
 ) -> Stated
-    requires { ⌜ Computed (now block) at kind × (now kinds ≡ kindTable) ⌝ }
-    ensures { λ r. ⌜ Folds (now (block .entry)) at kind (now (known .entry)) (now (values .entry)) (now (known .exit)) (now (values .exit)) r ⌝ }
+    requires { ⌜ Stands (now block) at (getD (now block) at 0) × (e ≡ getD kindTable (getD (now block) at 0) 0) ⌝ }
+    ensures { λ r. ⌜ Folds (now (block .entry)) at (now (known .entry)) (now (values .entry)) (now (known .exit)) (now (values .exit)) r ⌝ }
 {
-    let stated = evaluate_known(kinds, block, at, kind, known, values);
+    let stated = stated_by(e, block, at, known, values);
     match stated {
         Stated::Value(x) => {
             learn(known, values, block[at + 1], x);
             Stated::Value(x)
         }
         Stated::NoResult => {
-            put(known, block[at + 1], 0);
+            pass_over(e, block, at, known, values);
             Stated::NoResult
         }
     }
 }
 
-// What is known after an op that fold leaves as it is.
-fn pass_over(
-    kinds: &[u32; 256],
-    block: &[u8],
-    at: usize,
-    kind: u8,
-    known: &mut [u8; 256],
-    values: &mut [u64; 256],
-)
-    requires { ⌜ Stands (now block) at kind × (roleOf kind ≡ Role.Computes → ⊥) × (now kinds ≡ kindTable) ⌝ }
-    ensures { λ _. ⌜ Folds (now (block .entry)) at kind (now (known .entry)) (now (values .entry)) (now (known .exit)) (now (values .exit)) Stated.NoResult ⌝ }
-{
-    let role = role_of(kinds, kind);
-    match role {
-        Role::Constant => learn(known, values, block[at + 1], low_first(block, at + 2, 8)),
-        Role::Loads => put(known, block[at + 1], 0),
-        Role::Stores => {}
-        _ => clear(known),
-    }
-}
-
-// Whether a kind is pure and reads something.
-fn is_computing(kinds: &[u32; 256], kind: u8) -> bool
-    requires { ⌜ now kinds ≡ kindTable ⌝ }
-    ensures { λ r. ⌜ IfComputes r kind ⌝ }
-{
-    let role = role_of(kinds, kind);
-    match role {
-        Role::Computes => true,
-        _ => false,
-    }
-}
-
-// Fold at one op: the constant's value if one takes its place.
-fn fold_op(
-    kinds: &[u32; 256],
-    block: &[u8],
-    at: usize,
-    kind: u8,
-    known: &mut [u8; 256],
-    values: &mut [u64; 256],
-) -> Stated
-    requires { ⌜ Stands (now block) at kind × (now kinds ≡ kindTable) ⌝ }
-    ensures { λ r. ⌜ Folds (now (block .entry)) at kind (now (known .entry)) (now (values .entry)) (now (known .exit)) (now (values .exit)) r ⌝ }
-{
-    if is_computing(kinds, kind) {
-        return fold_computing(kinds, block, at, kind, known, values);
-    }
-    pass_over(kinds, block, at, kind, known, values);
-    Stated::NoResult
-}
-
 // Fold at the i-th op: its byte, and its constant if it has one.
 fn fold_at(
-    kinds: &[u32; 256],
+    e: u32,
     block: &[u8],
     at: usize,
     i: usize,
@@ -156,10 +118,10 @@ fn fold_at(
     folded: &mut [u8],
     consts: &mut [u64],
 )
-    requires { ⌜ Stands (now block) at (getD (now block) at 0) × (i < length (now folded)) × (i < length (now consts)) × (now kinds ≡ kindTable) ⌝ }
+    requires { ⌜ Stands (now block) at (getD (now block) at 0) × (i < length (now folded)) × (i < length (now consts)) × (e ≡ getD kindTable (getD (now block) at 0) 0) ⌝ }
     ensures { λ _. ⌜ FoldsAt (now (block .entry)) at i (now (known .entry)) (now (values .entry)) (now (known .exit)) (now (values .exit)) (now (folded .entry)) (now (consts .entry)) (now (folded .exit)) (now (consts .exit)) ⌝ }
 {
-    let stated = fold_op(kinds, block, at, block[at], known, values);
+    let stated = fold_op(e, block, at, known, values);
     match stated {
         Stated::Value(x) => {
             folded[i] = 1;
@@ -185,16 +147,9 @@ pub fn fold(
     let mut values = [0u64; 256];
     let mut i: usize = 0;
     while i < ops {
-        fold_at(
-            kinds,
-            block,
-            places[i] as usize,
-            i,
-            &mut known,
-            &mut values,
-            folded,
-            consts,
-        );
+        let at = places[i] as usize;
+        let e = entry(kinds, block[at]);
+        fold_at(e, block, at, i, &mut known, &mut values, folded, consts);
         i += 1;
     }
 }

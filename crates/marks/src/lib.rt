@@ -1,8 +1,10 @@
 // Arrays of 256 entries, one for each byte: what is known of variables and labels.
 ghost use mathlib.Core.Path.{_≡_};
 ghost use lib.ListN.{length, getD, set, replicate};
-ghost use Prim.Native.Nat.{_<_};
-ghost use Rattle.block.specs.Scan.{SetAt};
+ghost use Prim.Native.Nat.{_+_, _≤_, _<_};
+ghost use Rattle.theory.specs.Sets.{plus, without};
+ghost use Rattle.ops.specs.Ops.{bytesAt};
+ghost use Rattle.block.specs.Scan.{SetAt, marked, markedAs};
 
 // A byte as an index.
 pub fn index(x: u8) -> usize
@@ -50,4 +52,32 @@ pub fn clear(a: &mut [u8; 256])
     ensures { λ _. ⌜ now (a .exit) ≡ replicate 256 0 ⌝ }
 {
     *a = [0u8; 256];
+}
+
+// The places that the bytes from a place on name hold x.
+fn put_all(block: &[u8], from: usize, count: usize, x: u8, marks: &mut [u8; 256])
+    requires { ⌜ from + count ≤ length (now block) ⌝ }
+    ensures { λ _. ⌜ marked (now (marks .exit)) ≡ markedAs x (marked (now (marks .entry))) (bytesAt (now (block .entry)) from count) ⌝ }
+{
+    let mut j: usize = 0;
+    while j < count {
+        put(marks, block[from + j], x);
+        j += 1;
+    }
+}
+
+// The variables that the bytes from a place on name are marked.
+pub fn mark_all(block: &[u8], from: usize, count: usize, marks: &mut [u8; 256])
+    requires { ⌜ from + count ≤ length (now block) ⌝ }
+    ensures { λ _. ⌜ marked (now (marks .exit)) ≡ plus (marked (now (marks .entry))) (bytesAt (now (block .entry)) from count) ⌝ }
+{
+    put_all(block, from, count, 1, marks);
+}
+
+// And unmarked.
+pub fn unmark_all(block: &[u8], from: usize, count: usize, marks: &mut [u8; 256])
+    requires { ⌜ from + count ≤ length (now block) ⌝ }
+    ensures { λ _. ⌜ marked (now (marks .exit)) ≡ without (marked (now (marks .entry))) (bytesAt (now (block .entry)) from count) ⌝ }
+{
+    put_all(block, from, count, 0, marks);
 }

@@ -1,42 +1,31 @@
 -- Places and lengths are small, so that the numbers fit. Assumes nothing.
 use mathlib.Core.Path.{_≡_, refl, sym, ap, _∙_, subst}
-use mathlib.Core.Bool.{Bool, true, false, cond, not, _&&_, _||_}
+use mathlib.Core.Bool.{Bool, true, false, cond}
 use mathlib.Core.List.{List, [], _∷_}
-use Prim.Native.Nat.{ℕ, suc, _+_, _-_, _*_, _≤_, _<_}
+use Prim.Native.Nat.{ℕ, suc, _+_, _-_, _*_, _≤_}
 use native.Mathlib.Omega.{arith}
-use lib.Dec.{eqb, ltb, leb}
+use lib.Dec.{leb}
 use lib.ListN.{length, length-append}
-use borrow.Author.Tests.{ltb-true}
 use Rattle.theory.specs.Machine.{End, exit, fault, unstated, fell, spent, Result}
-use Rattle.theory.proofs.Sets.{and-r}
 use Rattle.ops.specs.Ops.{kindOf, tcg}
-use Rattle.ops.proofs.Sizes.{body-short}
-use Rattle.block.specs.Checks.{checkOf}
-use Rattle.block.specs.Meaning.{Meets, EachMeets}
-use Rattle.block.specs.Records.{recordsOf, concat, isDeclaration, declarations, opsFrom, classOf, typeOf, classesOf}
+use Rattle.ops.proofs.Table.{body-short}
+use Rattle.block.specs.Checks.{asks, opRules, checkOf}
+use Rattle.block.specs.Meaning.{AllMet, EachMeets}
+use Rattle.block.specs.Records.{recordsOf, concat, isDeclaration, declarations, opsFrom, classOf, classesOf}
+use Rattle.block.proofs.Checker.{room3, room9}
 use Rattle.block.proofs.Meaning.{refused-means}
 use Rattle.block.proofs.Parts.{parts}
 use Rattle.runs.specs.Runs.{fits, entry, Ran, ranAs, answerOf, ranOf, opsRun, runOps, runRefused, runChecked, runOf}
 use Rattle.passes.specs.Passes.{passOps, resultOf, passRefused, written, passChecked, passOf}
 use Rattle.passes.proofs.Result.{parts-size, kept-parts, result-of}
 use Rattle.ngulo.specs.Numbers.{runNumber, reportOf, RunAnswer}
-use Rattle.block.specs.Rules.{Seen, start, allGlobal, rule3, rule9, declared, passed, next}
+use Rattle.block.specs.Rules.{Seen, start, rule3, declared, passed, next}
 use Rattle.block.specs.declared.Verdict.{Verdict}
 use Rattle.block.specs.declared.Verdict.the-variants.{Accepted, Refused}
 use Rattle.runs.specs.declared.Ending.{Ending}
 use Rattle.runs.specs.declared.Ending.the-variants.{Refused as RunRefused, Exit, Fault, NoResult}
 use Rattle.passes.specs.declared.Written.{Written}
 use Rattle.passes.specs.declared.Written.the-variants.{Refused as PassRefused, Length}
-
-room-declared : (s : Seen) (r : List ℕ) → rule3 s r ≡ true → length (s .classes) < 64
-unfolding rule3
-room-declared s r h =
-    ltb-true (length (s .classes)) 64
-    (and-r (eqb (s .ops) 0 && leb (classOf r) 2 && leb (typeOf r) 1 && (not (eqb (classOf r) 0) || allGlobal (s .classes))) (ltb (length (s .classes)) 64) h)
-
-room-op : (s : Seen) (r : List ℕ) → rule9 s r ≡ true → s .ops < 256
-unfolding rule9
-room-op s r h = ltb-true (s .ops) 256 h
 
 next-is : (s : Seen) (r : List ℕ) (b : Bool) → isDeclaration r ≡ b → next s r ≡ cond b (declared s r) (passed s r)
 unfolding next
@@ -52,8 +41,8 @@ each-few : (rs : List (List ℕ)) (s : Seen) → EachMeets s rs → length (s .c
 each-few [] s e l n = omega arith
 each-few (r ∷ rs) s e l n = go (isDeclaration r) refl (each-few rs (next s r) (λ before q after z. e (r ∷ before) q after (ap (λ (k : List (List ℕ)). r ∷ k) z)))
   where
-    m : Meets s r
-    m = e [] r rs refl
+    met : (b : Bool) → isDeclaration r ≡ b → AllMet (cond b (asks 3 (rule3 s r) ∷ []) (opRules s r))
+    met b d = subst (λ (t : Bool). AllMet (cond t (asks 3 (rule3 s r) ∷ []) (opRules s r))) d ((e [] r rs refl) .rules)
 
     go : (b : Bool) → isDeclaration r ≡ b → (length ((next s r) .classes) ≤ 64 → (next s r) .ops ≤ 256 → length rs + length ((next s r) .classes) + (next s r) .ops ≤ 320)
         → suc (length rs) + length (s .classes) + s .ops ≤ 320
@@ -61,13 +50,13 @@ each-few (r ∷ rs) s e l n = go (isDeclaration r) refl (each-few rs (next s r) 
         let q = next-is s r true d in
         let c : length ((next s r) .classes) ≡ length (s .classes) + 1 = ap (λ (t : Seen). length (t .classes)) q ∙ length-append (s .classes) (classOf r ∷ []) in
         let o : (next s r) .ops ≡ s .ops = ap (λ (t : Seen). t .ops) q in
-        let b = room-declared s r (m .met3 d) in
+        let b = room3 s r ((met true d) .0) in
         omega (arith, ih (omega arith) (omega arith))
     go false d ih =
         let q = next-is s r false d in
         let c : length ((next s r) .classes) ≡ length (s .classes) = ap (λ (t : Seen). length (t .classes)) q in
         let o : (next s r) .ops ≡ suc (s .ops) = ap (λ (t : Seen). t .ops) q in
-        let b = room-op s r (m .met9 d) in
+        let b = room9 s r ((met false d) .0) in
         omega (arith, ih (omega arith) (omega arith))
 
 -- a refusal stands at a place of at most 3,200

@@ -2,6 +2,7 @@
 use mathlib.Core.Path.{_≡_, refl, sym, ap}
 use mathlib.Core.Bool.{Bool, cond}
 use mathlib.Core.Option.{Option, some}
+use mathlib.Core.List.{List, [], _∷_}
 use Prim.Native.Nat.{ℕ, zero, suc, _+_, _%_, _^_, _≤_}
 use native.Mathlib.Omega.{arith}
 use native.Mathlib.Nat.{mod-mod}
@@ -14,8 +15,9 @@ use Rattle.word.specs.declared.Stated.{Stated}
 use Rattle.word.specs.declared.Stated.the-variants.{Value, NoResult}
 use Rattle.word.proofs.Tests.{cond-all}
 use Rattle.ops.specs.Eval.{convertOf, unaryOf, logicOf, divideOf, shiftOf, setcondOf, movcondOf}
-use Rattle.ops.specs.Evaluate.{wideOf}
-use Rattle.ops.proofs.Rows.{within, outside}
+use Rattle.ops.specs.Rows.{at}
+use Rattle.ops.specs.Kinds.{wideOf}
+use Rattle.ops.proofs.Inputs.{within, outside}
 
 -- what a match on n numbers from lo leaves over
 abbrev Past : ℕ → ℕ → ℕ → Type 0
@@ -66,20 +68,20 @@ module _ (a : ℕ) {k l r : ℕ} where
       (cond-all (λ (o : Option ℕ). some (a % 2 ^ 32) ≡ o) (eqb k 0x06) refl refl)
 
 -- the family of a kind
-module _ (w k c a b x y : ℕ) where
-  pub states-unary : {r : ℕ} → 0x11 ≤ k → k ≤ 0x13 → some r ≡ unaryOf w k a → Value r ≡ statedOf (wideOf w k c a b x y)
+module _ (w k : ℕ) (bytes : List ℕ) (a b x y : ℕ) where
+  pub states-unary : {r : ℕ} → 0x11 ≤ k → k ≤ 0x13 → some r ≡ unaryOf w k a → Value r ≡ statedOf (wideOf w k bytes (a ∷ b ∷ x ∷ y ∷ []))
   unfolding wideOf
   states-unary p q e = rw (within 0x11 0x13 k p q) (ap statedOf e)
 
-  pub states-logic : {r : ℕ} → 0x14 ≤ k → k ≤ 0x1E → some r ≡ logicOf w k a b → Value r ≡ statedOf (wideOf w k c a b x y)
+  pub states-logic : {r : ℕ} → 0x14 ≤ k → k ≤ 0x1E → some r ≡ logicOf w k a b → Value r ≡ statedOf (wideOf w k bytes (a ∷ b ∷ x ∷ y ∷ []))
   unfolding wideOf
   states-logic p q e = rw (outside 0x11 0x13 k (λ l m. omega arith), within 0x14 0x1E k p q) (ap statedOf e)
 
-  pub states-divide : {r : Stated} → 0x1F ≤ k → k ≤ 0x22 → r ≡ statedOf (divideOf w k a b) → r ≡ statedOf (wideOf w k c a b x y)
+  pub states-divide : {r : Stated} → 0x1F ≤ k → k ≤ 0x22 → r ≡ statedOf (divideOf w k a b) → r ≡ statedOf (wideOf w k bytes (a ∷ b ∷ x ∷ y ∷ []))
   unfolding wideOf
   states-divide p q e = rw (outside 0x11 0x13 k (λ l m. omega arith), outside 0x14 0x1E k (λ l m. omega arith), within 0x1F 0x22 k p q) e
 
-  pub states-shift : {r : Stated} → 0x23 ≤ k → k ≤ 0x27 → r ≡ statedOf (shiftOf w k a b) → r ≡ statedOf (wideOf w k c a b x y)
+  pub states-shift : {r : Stated} → 0x23 ≤ k → k ≤ 0x27 → r ≡ statedOf (shiftOf w k a b) → r ≡ statedOf (wideOf w k bytes (a ∷ b ∷ x ∷ y ∷ []))
   unfolding wideOf
   states-shift p q e =
       rw (
@@ -91,16 +93,16 @@ module _ (w k c a b x y : ℕ) where
       e
 
   -- setcond and movcond: a choice by the condition t
-  pub states-setcond : {t : Bool} {r : ℕ} → k ≡ 0x28 → t ≡ condW w c a b → r ≡ cond t 1 0 → Value r ≡ statedOf (wideOf w k c a b x y)
+  pub states-setcond : {t : Bool} {r f : ℕ} → k ≡ 0x28 → f ≡ at bytes 0 → t ≡ condW w f a b → r ≡ cond t 1 0 → Value r ≡ statedOf (wideOf w k bytes (a ∷ b ∷ x ∷ y ∷ []))
   unfolding wideOf setcondOf
-  states-setcond h d e = rw (h, sym d, e)
+  states-setcond h g d e = rw (h, sym g, sym d, e)
 
-  pub states-movcond : {t : Bool} {r : ℕ} → k ≡ 0x29 → t ≡ condW w c a b → r ≡ cond t x y → Value r ≡ statedOf (wideOf w k c a b x y)
+  pub states-movcond : {t : Bool} {r f : ℕ} → k ≡ 0x29 → f ≡ at bytes 0 → t ≡ condW w f a b → r ≡ cond t x y → Value r ≡ statedOf (wideOf w k bytes (a ∷ b ∷ x ∷ y ∷ []))
   unfolding wideOf movcondOf
-  states-movcond h d e = rw (h, sym d, e)
+  states-movcond h g d e = rw (h, sym g, sym d, e)
 
   -- every other kind
-  pub states-none : (0x11 ≤ k → k ≤ 0x29 → ⊥) → NoResult ≡ statedOf (wideOf w k c a b x y)
+  pub states-none : (0x11 ≤ k → k ≤ 0x29 → ⊥) → NoResult ≡ statedOf (wideOf w k bytes (a ∷ b ∷ x ∷ y ∷ []))
   unfolding wideOf
   states-none n =
       rw (

@@ -1,18 +1,18 @@
--- What a pure op that may fold states is one value that fits its output's width, for every kind. Assumes nothing.
-use mathlib.Core.Path.{_≡_, refl, subst}
-use mathlib.Core.Bool.{Bool, true, cond, false≢true}
+-- What an op that may fold states fits its output's type, for every kind. Assumes nothing.
+use mathlib.Core.Path.{_≡_, refl, sym, subst}
+use mathlib.Core.Bool.{Bool, true, false, cond, not, _&&_, _||_}
 use mathlib.Core.Option.{Option, none, some}
-use mathlib.Core.List.{List, [], _∷_, _++_}
+use mathlib.Core.List.{List, [], _∷_}
 use mathlib.Core.Logic.{_⊎_, inl, inr}
 use Prim.Native.Nat.{ℕ, zero, suc, _-_, _%_, _^_, _≤_, _<_}
 use native.Mathlib.Omega.{arith}
-use lib.Dec.{eqb, lit<, lit≤}
+use lib.Dec.{eqb, leb, lit<, lit≤}
 use lib.Bits.{and-lt, or-lt, xor-lt}
 use lib.ListN.{length}
-use borrow.Author.Tests.{eqb-true}
+use borrow.Author.Tests.{eqb-true, eqb-false, ne-eqb, leb-true, le-leb, lt-leb}
 use native.Mathlib.Nat.{lt-of-lt-of-le}
 use lib.Pow.{pow-pos}
-use Rattle.theory.specs.Machine.{All}
+use Rattle.theory.proofs.Sets.{and-l, and-r, tell}
 use Rattle.word.specs.Condition.{condW}
 use Rattle.word.specs.Word.{byDivisor, bySigned, byCount}
 use Rattle.word.proofs.Fits.{mod-fits, add-fits, sub-fits, mul-fits, neg-fits, shl-fits, not-fits, eqv-fits, nand-fits, nor-fits, andc-fits, orc-fits}
@@ -20,10 +20,12 @@ use Rattle.word.proofs.Fits.{divu-fits, remu-fits, shr-fits, rotl-fits, rotr-fi
 use Rattle.word.proofs.Fits.{signed-states, count-states}
 use Rattle.word.proofs.Tests.{cond-told, cond-all}
 use Rattle.ops.specs.Eval.{convertOf, unaryOf, logicOf, divideOf, shiftOf, setcondOf, movcondOf}
-use Rattle.ops.specs.Kinds.{Does, unknown, declares, sets, jumpsTo, leaves, branches, loads, stores, computes, Row, between, at, one, convert}
-use Rattle.ops.specs.Kinds.{movi, unary, binary, setcond, movcond, wideRow, rowOf}
-use Rattle.ops.specs.Ops.{atWidths, foldableRow}
-use Rattle.ops.specs.Table.{operandWidths}
+use Rattle.ops.specs.Rows.{Row, bitsOf, roleNo, typesOf, at}
+use Rattle.ops.specs.Kinds.{kindTable, rowOf, between, wideOf, computedOf}
+use Rattle.ops.specs.Ops.{atTypes, foldableRow}
+use Rattle.theory.proofs.Views.{no-some}
+use Rattle.ops.proofs.Ranges.{everyFrom, ranged}
+use Rattle.ops.proofs.Inputs.{within, outside, folds-small}
 
 -- a stated number fits the width
 abbrev Below : ℕ → Option ℕ → Type 0
@@ -103,157 +105,107 @@ movcond-below : (w c a b x y : ℕ) → x < 2 ^ w → y < 2 ^ w → Below w (mov
 unfolding movcondOf
 movcond-below w c a b x y hx hy = below w _ (cond-all (λ (n : ℕ). n < 2 ^ w) (condW w c a b) hx hy)
 
--- an op's width
-abbrev pub Wide : ℕ → Type 0
-Wide w = (w ≡ 32) ⊎ (w ≡ 64)
+-- the kinds 11 to 29 at a width of 32 or 64 bits, whose inputs all fit
+module _ (w : ℕ) (room : 1 < 2 ^ w) (j : ℕ) (bytes vs : List ℕ) (fits : (i : ℕ) → at vs i < 2 ^ w) where
+  wide-below : Below w (wideOf w j bytes vs)
+  unfolding wideOf
+  wide-below =
+      either w (between 0x11 0x13 j) (unary-below w j _ (fits 0))
+      (either w (between 0x14 0x1E j) (logic-below w j _ (fits 0) _ (fits 1))
+      (either w (between 0x1F 0x22 j) (divide-below w j _ (fits 0) _)
+      (either w (between 0x23 0x27 j) (shift-below w j _ (fits 0) _)
+      (either w (eqb j 0x28) (setcond-below w _ _ _ room)
+      (either w (eqb j 0x29) (movcond-below w _ _ _ _ _ (fits 2) (fits 3))
+      (λ x e. no-some e))))))
 
--- one output, of a width, and what the op states is one value that fits it
-pub record Sane (row : Row) (f : List ℕ → List ℕ → Option (List ℕ)) : Type 0 where
-  pub width : ℕ
-  pub one-out : row .outs ≡ width ∷ []
-  pub wide : Wide width
-  pub value : (bytes vs xs : List ℕ) → f bytes (atWidths (row .ins) vs) ≡ some xs → (x : ℕ) × (xs ≡ x ∷ []) × (x < 2 ^ width)
+-- the types of a kind that may fold: its output's, and its inputs'
+abbrev pub outType : ℕ → ℕ
+outType k = cond (between 0x05 0x06 k) 1 (cond (leb 0x80 k) 1 0)
 
--- asked of a pure op that may fold, and of nothing else
-abbrev pub SaneBy : Row → Does → Type 0
-SaneBy row unknown = Unit {0}
-SaneBy row declares = Unit {0}
-SaneBy row sets = Unit {0}
-SaneBy row jumpsTo = Unit {0}
-SaneBy row leaves = Unit {0}
-SaneBy row (branches w) = Unit {0}
-SaneBy row (loads w) = Unit {0}
-SaneBy row (stores w) = Unit {0}
-SaneBy row (computes ok f) = foldableRow row ≡ true → Sane row f
+abbrev pub inType : ℕ → ℕ
+inType k = cond (eqb k 0x07) 1 (cond (leb 0x80 k) 1 0)
 
--- the same of a row, as a record so that the row is inferred
-record SaneRow (row : Row) : Type 0 where
-  by : SaneBy row (row .does)
+abbrev pub allAre : ℕ → List ℕ → Bool
+allAre t [] = true
+allAre t (x ∷ xs) = eqb x t && allAre t xs
 
--- every input fits its width
-input : (ws vs : List ℕ) (i : ℕ) → i < length ws → at (atWidths ws vs) i < 2 ^ at ws i
-input [] vs i h = absurd (omega arith)
-input (w ∷ ws) [] zero h = pow-pos w
-input (w ∷ ws) [] (suc i) h = input ws [] i (omega arith)
-input (w ∷ ws) (v ∷ vs) zero h = mod-fits w v
-input (w ∷ ws) (v ∷ vs) (suc i) h = input ws vs i (omega arith)
+-- every value that is read fits
+read-fits : (t : ℕ) (ts vs : List ℕ) → allAre t ts ≡ true → (i : ℕ) → at (atTypes ts vs) i < 2 ^ bitsOf t
+read-fits t [] vs h i = pow-pos (bitsOf t)
+read-fits t (x ∷ ts) [] h zero = pow-pos (bitsOf t)
+read-fits t (x ∷ ts) [] h (suc i) = read-fits t ts [] (and-r (eqb x t) (allAre t ts) h) i
+read-fits t (x ∷ ts) (v ∷ vs) h zero = rw (eqb-true x t (and-l (eqb x t) (allAre t ts) h)) (mod-fits (bitsOf t) v)
+read-fits t (x ∷ ts) (v ∷ vs) h (suc i) = read-fits t ts vs (and-r (eqb x t) (allAre t ts) h) i
 
-single : (w : ℕ) (o : Option ℕ) (xs : List ℕ) → Below w o → one o ≡ some xs → (x : ℕ) × (xs ≡ x ∷ []) × (x < 2 ^ w)
-single w none xs h e = let z : _≡_ {A = ℕ} 0 1 = cc in absurd (omega arith)
-single w (some x) xs h e = (x, cc, h x refl)
+-- by their kinds
+pub record Types (k out inp : ℕ) : Type 0 where
+  pub out-is : outType k ≡ out
+  pub in-is : inType k ≡ inp
 
--- a family whose values fit is sane
-family : (w : ℕ) (ins : List ℕ) (rest : ℕ) (ok : List ℕ → Bool) (g : List ℕ → List ℕ → Option ℕ) → Wide w
-    → ((bytes vs : List ℕ) → Below w (g bytes (atWidths ins vs)))
-    → SaneRow (record { outs = w ∷ []; ins = ins; rest = rest; does = computes ok (λ bytes vs. one (g bytes vs)) })
-family w ins rest ok g wide h =
-    record { by = λ t. record { width = w; one-out = refl; wide = wide; value = λ bytes vs xs e. single w (g bytes (atWidths ins vs)) xs (h bytes vs) e } }
+pub extending : (k : ℕ) → 0x05 ≤ k → k ≤ 0x06 → Types k 1 0
+extending k p q = record { out-is = rw (within 0x05 0x06 k p q); in-is = rw (ne-eqb k 0x07 (omega arith), lt-leb 0x80 k (omega arith)) }
 
-convert-sane : (to from k : ℕ) → Wide to → ((a : ℕ) → a < 2 ^ from → Below to (convertOf k a)) → SaneRow (convert to from k)
-convert-sane to from k wide h =
-    family to (from ∷ []) 0 _ (λ bytes vs. convertOf k (at vs 0)) wide (λ bytes vs. h _ (input (from ∷ []) vs 0 (lit< tt)))
+pub narrow : (k : ℕ) → 0x11 ≤ k → k ≤ 0x29 → Types k 0 0
+narrow k p q =
+    record { out-is = rw (outside 0x05 0x06 k (λ l m. omega arith), lt-leb 0x80 k (omega arith)); in-is = rw (ne-eqb k 0x07 (omega arith), lt-leb 0x80 k (omega arith)) }
 
-module _ (w : ℕ) (wide : Wide w) where
-  -- movi reads nothing, so it does not fold
-  movi-sane : SaneRow (movi w)
-  movi-sane = record { by = λ t. absurd (false≢true t) }
+pub wide : (k : ℕ) → 0x91 ≤ k → k ≤ 0xA9 → Types k 1 1
+wide k p q =
+    record { out-is = rw (outside 0x05 0x06 k (λ l m. omega arith), le-leb 0x80 k (omega arith)); in-is = rw (ne-eqb k 0x07 (omega arith), le-leb 0x80 k (omega arith)) }
 
-  unary-sane : (k : ℕ) → SaneRow (unary w k)
-  unary-sane k = family w (w ∷ []) 0 _ (λ bytes vs. unaryOf w k (at vs 0)) wide (λ bytes vs. unary-below w k _ (input (w ∷ []) vs 0 (lit< tt)))
+module _ (k : ℕ) (bytes vs : List ℕ) (fits : (i : ℕ) → at vs i < 2 ^ bitsOf (inType k)) where
+  abbrev Fit : Option ℕ → Type 0
+  Fit o = Below (bitsOf (outType k)) o
 
-  binary-sane : (f : ℕ → ℕ → Option ℕ) → ((a : ℕ) → a < 2 ^ w → (b : ℕ) → b < 2 ^ w → Below w (f a b)) → SaneRow (binary w f)
-  binary-sane f h =
-      family w (w ∷ w ∷ []) 0 _ (λ bytes vs. f (at vs 0) (at vs 1)) wide
-      (λ bytes vs. h _ (input (w ∷ w ∷ []) vs 0 (lit< tt)) _ (input (w ∷ w ∷ []) vs 1 (lit< tt)))
+  at-types : {out inp : ℕ} {o : Option ℕ} → Types k out inp → (((i : ℕ) → at vs i < 2 ^ bitsOf inp) → Below (bitsOf out) o) → Fit o
+  at-types {o = o} t f =
+      subst (λ (n : ℕ). Below (bitsOf n) o) (sym (t .out-is)) (f (λ i. subst (λ (n : ℕ). at vs i < 2 ^ bitsOf n) (t .in-is) (fits i)))
 
-  setcond-sane : SaneRow (setcond w)
-  setcond-sane =
-      family w (w ∷ w ∷ []) 1 _ (λ bytes vs. setcondOf w (at bytes 0) (at vs 0) (at vs 1)) wide (λ bytes vs. setcond-below w _ _ _ (room wide))
+  range : {lo hi : ℕ} → between lo hi k ≡ true → (lo ≤ k) × (k ≤ hi)
+  range {lo} {hi} t = (leb-true lo k (and-l (leb lo k) (leb k hi) t), leb-true k hi (and-r (leb lo k) (leb k hi) t))
+
+  converted : between 0x05 0x07 k ≡ true → Fit (convertOf k (at vs 0))
+  converted t = go (tell (eqb k 0x07))
     where
-      room : Wide w → 1 < 2 ^ w
-      room (inl e) = rw e (lit< tt)
-      room (inr e) = rw e (lit< tt)
+      go : (eqb k 0x07 ≡ true) ⊎ (eqb k 0x07 ≡ false) → Fit (convertOf k (at vs 0))
+      go (inl e) = let q = eqb-true k 0x07 e in subst (λ (n : ℕ). Below (bitsOf (outType n)) (convertOf k (at vs 0))) (sym q) (convert-down k (at vs 0) q)
+      go (inr e) = at-types (extending k (range t .0) (omega (arith, range t .1, eqb-false k 0x07 e))) (λ f. convert-up k (at vs 0) (f 0))
 
-  movcond-sane : SaneRow (movcond w)
-  movcond-sane =
-      let ws = w ∷ w ∷ w ∷ w ∷ [] in
-      family w ws 1 _ (λ bytes vs. movcondOf w (at bytes 0) (at vs 0) (at vs 1) (at vs 2) (at vs 3)) wide
-      (λ bytes vs. movcond-below w _ _ _ _ _ (input ws vs 2 (lit< tt)) (input ws vs 3 (lit< tt)))
+  computed-below : Fit (computedOf k bytes vs)
+  unfolding computedOf
+  computed-below =
+      cond-told Fit (between 0x05 0x07 k) converted
+      (λ n. cond-told Fit (between 0x11 0x29 k) (λ t. at-types (narrow k (range t .0) (range t .1)) (wide-below 32 (lit< tt) k bytes vs))
+      (λ m. cond-told Fit (between 0x91 0xA9 k) (λ t. at-types (wide k (range t .0) (range t .1)) (wide-below 64 (lit< tt) (k - 0x80) bytes vs))
+      (λ o x e. no-some e)))
 
-  wide-sane : (k : ℕ) → SaneRow (wideRow w k)
-  unfolding wideRow
-  wide-sane k =
-      rows (eqb k 0x10) movi-sane
-      (rows (between 0x11 0x13 k) (unary-sane k)
-      (rows (between 0x14 0x1E k) (binary-sane (logicOf w k) (logic-below w k))
-      (rows (between 0x1F 0x22 k) (binary-sane (divideOf w k) (λ a ha b hb. divide-below w k a ha b))
-      (rows (between 0x23 0x27 k) (binary-sane (shiftOf w k) (λ a ha b hb. shift-below w k a ha b))
-      (rows (eqb k 0x28) setcond-sane
-      (rows (eqb k 0x29) movcond-sane
-      (rows (eqb k 0x2A) (record { by = tt })
-      (rows (eqb k 0x2B) (record { by = tt })
-      (record { by = tt })))))))))
-    where
-      rows : (b : Bool) {x y : Row} → SaneRow x → SaneRow y → SaneRow (cond b x y)
-      rows = cond-all SaneRow
+-- the row of such a kind has these types
+abbrev typed : ℕ → Bool
+typed k = let row = rowOf k in not (foldableRow row) || (eqb (at (row .outs) 0) (outType k) && allAre (inType k) (row .ins))
 
--- row by row; each side is told its test's answer
-table : (k : ℕ) → SaneRow (rowOf k)
-unfolding rowOf
-table k =
-    rows (eqb k 0x01) (λ t. record { by = tt })
-    (rows (eqb k 0x02) (λ t. record { by = tt })
-    (rows (eqb k 0x03) (λ t. record { by = tt })
-    (rows (eqb k 0x04) (λ t. record { by = tt })
-    (rows (between 0x05 0x06 k) (λ t. convert-sane 64 32 k (inr refl) (convert-up k))
-    (rows (eqb k 0x07) (λ t. convert-sane 32 64 k (inl refl) (λ a h. convert-down k a (eqb-true k 0x07 t)))
-    (rows (between 0x10 0x2C k) (λ t. wide-sane 32 (inl refl) k)
-    (rows (between 0x90 0xAC k) (λ t. wide-sane 64 (inr refl) (k - 0x80))
-    (record { by = tt }))))))))
-  where
-    rows : (b : Bool) {x y : Row} → (b ≡ true → SaneRow x) → SaneRow y → SaneRow (cond b x y)
-    rows b p q = cond-told SaneRow b p (λ t. q)
+all-typed : everyFrom typed 0 256 ≡ true
+unfolding rowOf kindTable roleNo typesOf
+all-typed = refl
 
--- every kind that may fold has one output of 32 or 64 bits, and what it states is one value that fits
-pub sane : (k : ℕ) → SaneBy (rowOf k) ((rowOf k) .does)
-sane k = table k .by
+-- what a kind that may fold states, of its inputs read at their types, fits its output's
+module _ (k : ℕ) (h : foldableRow (rowOf k) ≡ true) where
+  types-are : (eqb (at ((rowOf k) .outs) 0) (outType k) && allAre (inType k) ((rowOf k) .ins)) ≡ true
+  types-are =
+      let t : (not (foldableRow (rowOf k)) || (eqb (at ((rowOf k) .outs) 0) (outType k) && allAre (inType k) ((rowOf k) .ins))) ≡ true =
+      ranged typed 256 0 all-typed k (omega arith) (omega (arith, folds-small k h)) in
+      rw h at t
 
--- every operand has 32 or 64 bits
-record Widths (row : Row) : Type 0 where
-  all : All Wide (row .outs ++ row .ins)
+  pub ins-are : allAre (inType k) ((rowOf k) .ins) ≡ true
+  ins-are = and-r (eqb (at ((rowOf k) .outs) 0) (outType k)) _ types-are
 
-wide-widths : (w k : ℕ) → Wide w → Widths (wideRow w k)
-unfolding wideRow
-wide-widths w k h =
-    rows (eqb k 0x10) (record { all = (h, tt) })
-    (rows (between 0x11 0x13 k) (record { all = (h, (h, tt)) })
-    (rows (between 0x14 0x1E k) (record { all = (h, (h, (h, tt))) })
-    (rows (between 0x1F 0x22 k) (record { all = (h, (h, (h, tt))) })
-    (rows (between 0x23 0x27 k) (record { all = (h, (h, (h, tt))) })
-    (rows (eqb k 0x28) (record { all = (h, (h, (h, tt))) })
-    (rows (eqb k 0x29) (record { all = (h, (h, (h, (h, (h, tt))))) })
-    (rows (eqb k 0x2A) (record { all = (h, (h, tt)) })
-    (rows (eqb k 0x2B) (record { all = (h, (inr refl, tt)) })
-    (record { all = (h, (inr refl, tt)) })))))))))
-  where
-    rows : (b : Bool) {x y : Row} → Widths x → Widths y → Widths (cond b x y)
-    rows = cond-all Widths
+  out-is : at ((rowOf k) .outs) 0 ≡ outType k
+  out-is = eqb-true (at ((rowOf k) .outs) 0) (outType k) (and-l (eqb (at ((rowOf k) .outs) 0) (outType k)) _ types-are)
 
-table-widths : (k : ℕ) → Widths (rowOf k)
-unfolding rowOf
-table-widths k =
-    rows (eqb k 0x01) (record { all = tt })
-    (rows (eqb k 0x02) (record { all = tt })
-    (rows (eqb k 0x03) (record { all = tt })
-    (rows (eqb k 0x04) (record { all = (inr refl, tt) })
-    (rows (between 0x05 0x06 k) (record { all = (inr refl, (inl refl, tt)) })
-    (rows (eqb k 0x07) (record { all = (inl refl, (inr refl, tt)) })
-    (rows (between 0x10 0x2C k) (wide-widths 32 k (inl refl))
-    (rows (between 0x90 0xAC k) (wide-widths 64 (k - 0x80) (inr refl))
-    (record { all = tt }))))))))
-  where
-    rows : (b : Bool) {x y : Row} → Widths x → Widths y → Widths (cond b x y)
-    rows = cond-all Widths
+  pub out-small : at ((rowOf k) .outs) 0 < 2
+  out-small = rw out-is (cond-all (λ (n : ℕ). n < 2) (between 0x05 0x06 k) (lit< tt) (cond-all (λ (n : ℕ). n < 2) (leb 0x80 k) (lit< tt) (lit< tt)))
 
-pub operands-wide : (k : ℕ) → All Wide (operandWidths k)
-operands-wide k = table-widths k .all
+  pub folded-fits : (bytes vs : List ℕ) (x : ℕ) → computedOf k bytes (atTypes ((rowOf k) .ins) vs) ≡ some x → x < 2 ^ bitsOf (at ((rowOf k) .outs) 0)
+  folded-fits bytes vs x e =
+      rw out-is
+      (computed-below k bytes (atTypes ((rowOf k) .ins) vs)
+      (read-fits (inType k) ((rowOf k) .ins) vs ins-are) x e)

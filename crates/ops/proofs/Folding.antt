@@ -1,138 +1,150 @@
 -- The movi that fold puts in an op's place: what it does, and what the check finds in it. Assumes nothing.
-use mathlib.Core.Path.{_≡_, refl, sym, ap, _∙_}
-use mathlib.Core.Bool.{Bool, true, false, cond, not, _||_}
-use mathlib.Core.Option.{some}
+use mathlib.Core.Path.{_≡_, refl, sym, ap, _∙_, fun-ext}
+use mathlib.Core.Bool.{Bool, true, false, cond, _&&_}
+use mathlib.Core.Option.{Option, none, some}
 use mathlib.Core.List.{List, [], _∷_}
-use mathlib.Core.Logic.{inl, inr}
-use Prim.Native.Nat.{ℕ, suc, _+_, _^_, _<_}
+use Prim.Native.Nat.{ℕ, zero, suc, _+_, _^_, _<_}
 use native.Mathlib.Omega.{arith}
-use lib.Dec.{eqb, ltb, leb}
+use lib.Dec.{eqb, ltb}
 use lib.ListN.{length}
 use borrow.Author.Tests.{eqb-true, lt-ltb}
 use Rattle.theory.specs.Machine.{calc, computes as stated, outputs, headOr}
 use Rattle.theory.proofs.Views.{no-some}
 use Rattle.theory.proofs.Rule.{Constants}
-use Rattle.theory.proofs.Sets.{and-l, and-r}
+use Rattle.theory.proofs.Sets.{and-l, and-r, clash}
 use Rattle.memory.specs.Bytes.{lowFirst, bytesOf}
 use Rattle.memory.proofs.Numbers.{low-bytes, length-bytes}
-use Rattle.ops.specs.Kinds.{Does, unknown, declares, sets, jumpsTo, leaves, branches, loads, stores, computes, Row, at, narrowOk, movi, wideRow}
-use Rattle.ops.specs.Kinds.{rowOf, isKnown, isPure, known, bodyLength}
-use Rattle.ops.specs.Ops.{kindOf, rowAt, outsBy, insBy, restBy, viewBy, viewOf, tcg, foldableRow, moviKind, moviOf, folding}
-use Rattle.ops.specs.Ops.{restOk}
-use Rattle.ops.proofs.Fits.{Wide, SaneBy, sane}
+use Rattle.ops.specs.Rows.{Role, unknown, declares, setsLabel, jumpsTo, exits, branches, loads, stores, constant, computing, roleNo, Row, bitsOf, typesOf, bodyOf}
+use Rattle.ops.specs.Rows.{isKnown, isComputing, at, testOk}
+use Rattle.ops.specs.Kinds.{kindTable, rowOf, known, bodyLength, one, computedOf, statesOf}
+use Rattle.ops.specs.Ops.{kindOf, rowAt, bytesAt, outsBy, insBy, restBy, atTypes, evalOf, viewFor, viewOf, tcg, foldableRow, moviKind, moviOf, folding}
+use Rattle.ops.proofs.Table.{rowWith}
+use Rattle.ops.proofs.Inputs.{folds-small, no-movi, evaluated}
+use Rattle.ops.proofs.Fits.{folded-fits, out-small}
 
--- the bytes of a movi, as the check reads them; m is moviOf w d x
-pub record Movi (w d x : ℕ) (m : List ℕ) : Type 0 where
+-- the bytes of a movi, as the check reads them; m is moviOf t d x
+pub record Movi (t d x : ℕ) (m : List ℕ) : Type 0 where
   pub view : viewOf m ≡ calc (d ∷ []) [] (λ ys. some (x ∷ []))
   pub is-known : known (kindOf m) ≡ true
   pub long : length m ≡ suc (bodyLength (kindOf m))
-  pub kind : kindOf m ≡ moviKind w
+  pub kind : kindOf m ≡ moviKind t
   pub outs : outsBy (rowAt m) m ≡ d ∷ []
   pub ins : insBy (rowAt m) m ≡ []
-  pub widths : (rowAt m) .outs ≡ w ∷ []
+  pub types : (rowAt m) .outs ≡ t ∷ []
   pub no-inputs : (rowAt m) .ins ≡ []
-  pub rest : restOk ((rowAt m) .does) (restBy (rowAt m) m) ≡ true
+  pub rest : testOk ((rowAt m) .test) (restBy (rowAt m) m) ≡ true
 
-movi-row : (w : ℕ) → Wide w → rowOf (moviKind w) ≡ movi w
-unfolding rowOf wideRow
-movi-row w (inl e) = rw e
-movi-row w (inr e) = rw e
+abbrev moviRow : ℕ → Row
+moviRow t = rowWith (t ∷ []) [] 8 (cond (eqb t 0) 8 0) constant
 
-within-64 : (w x : ℕ) → Wide w → x < 2 ^ w → x < 2 ^ 64
-within-64 w x (inl e) h = let k : x < 2 ^ 32 = rw e at h in omega arith
-within-64 w x (inr e) h = rw e at h
+movi-row : (t : ℕ) → t < 2 → rowOf (moviKind t) ≡ moviRow t
+unfolding rowOf kindTable roleNo typesOf
+movi-row zero h = refl
+movi-row (suc zero) h = refl
+movi-row (suc (suc t)) h = absurd (omega arith)
 
-narrow-ok : (w x : ℕ) → x < 2 ^ w → narrowOk w x ≡ true
-narrow-ok w x h = go (eqb w 32) refl
-  where
-    go : (b : Bool) → eqb w 32 ≡ b → (not b || ltb x (2 ^ 32)) ≡ true
-    go true e = lt-ltb x (2 ^ 32) (rw (eqb-true w 32 e) at h)
-    go false e = refl
+movi-states : (t : ℕ) (bytes vs : List ℕ) → t < 2 → evalOf (moviKind t) bytes vs ≡ some (lowFirst bytes 0 8 ∷ [])
+unfolding evalOf statesOf
+movi-states zero bytes vs h = refl
+movi-states (suc zero) bytes vs h = refl
+movi-states (suc (suc t)) bytes vs h = absurd (omega arith)
 
-pub movi-facts : (w d x : ℕ) → Wide w → x < 2 ^ w → Movi w d x (moviOf w d x)
+within-64 : (t x : ℕ) → t < 2 → x < 2 ^ bitsOf t → x < 2 ^ 64
+within-64 zero x h l = omega arith
+within-64 (suc zero) x h l = l
+within-64 (suc (suc t)) x h l = absurd (omega arith)
+
+movi-test : (t x : ℕ) (bytes : List ℕ) → t < 2 → x < 2 ^ bitsOf t → lowFirst bytes 0 8 ≡ x → testOk (cond (eqb t 0) 8 0) bytes ≡ true
+unfolding testOk
+movi-test zero x bytes h l e = lt-ltb (lowFirst bytes 0 8) (2 ^ 32) (rw e l)
+movi-test (suc zero) x bytes h l e = refl
+movi-test (suc (suc t)) x bytes h l e = absurd (omega arith)
+
+pub movi-facts : (t d x : ℕ) → t < 2 → x < 2 ^ bitsOf t → Movi t d x (moviOf t d x)
 unfolding viewOf
-movi-facts w d x wide h =
-    let row = movi-row w wide in
-    let e : lowFirst (bytesOf 8 x) 0 8 ≡ x = low-bytes 8 x (within-64 w x wide h) in
+movi-facts t d x small h =
+    let row = movi-row t small in
+    let e : lowFirst (bytesOf 8 x) 0 8 ≡ x = low-bytes 8 x (within-64 t x small h) in
     record {
-      view = ap (λ (t : Row). viewBy t (t .does) (moviOf w d x)) row ∙ ap (λ (n : ℕ). calc (d ∷ []) [] (λ ys. some (n ∷ []))) e;
-      is-known = ap (λ (t : Row). isKnown (t .does)) row;
-      long = ap (λ (n : ℕ). suc (suc n)) (length-bytes 8 x) ∙ ap (λ (t : Row). suc (length (t .outs) + length (t .ins) + t .rest)) (sym row);
+      view =
+          ap (λ (y : Row). viewFor (y .role) y (moviOf t d x)) row
+          ∙ ap (calc (d ∷ []) []) (fun-ext (λ ys. movi-states t (bytesOf 8 x) ys small ∙ ap (λ (n : ℕ). some (n ∷ [])) e));
+      is-known = ap (λ (y : Row). isKnown (y .role)) row;
+      long = ap (λ (n : ℕ). suc (suc n)) (length-bytes 8 x) ∙ ap (λ (y : Row). suc (bodyOf y)) (sym row);
       kind = refl;
-      outs = ap (λ (t : Row). outsBy t (moviOf w d x)) row;
-      ins = ap (λ (t : Row). insBy t (moviOf w d x)) row;
-      widths = ap (λ (t : Row). t .outs) row;
-      no-inputs = ap (λ (t : Row). t .ins) row;
-      rest = ap (λ (t : Row). restOk (t .does) (restBy t (moviOf w d x))) row ∙ ap (narrowOk w) e ∙ narrow-ok w x h;
+      outs = ap (λ (y : Row). outsBy y (moviOf t d x)) row;
+      ins = ap (λ (y : Row). insBy y (moviOf t d x)) row;
+      types = ap (λ (y : Row). y .outs) row;
+      no-inputs = ap (λ (y : Row). y .ins) row;
+      rest = ap (λ (y : Row). testOk (y .test) (restBy y (moviOf t d x))) row ∙ movi-test t x (bytesOf 8 x) small h e;
     }
+
+-- a row that may fold: one output, and a pure op's view
+single : (row : Row) → foldableRow row ≡ true → row .outs ≡ at (row .outs) 0 ∷ []
+single row h = go (row .outs) (eqb-true (length (row .outs)) 1 (and-r (isComputing (row .role)) (eqb (length (row .outs)) 1) h))
+  where
+    go : (xs : List ℕ) → length xs ≡ 1 → xs ≡ at xs 0 ∷ []
+    go [] e = absurd (omega arith)
+    go (x ∷ []) e = refl
+    go (x ∷ y ∷ xs) e = absurd (omega arith)
+
+pub computing-role : (r : Role) → isComputing r ≡ true → r ≡ computing
+computing-role unknown h = clash false h refl
+computing-role declares h = clash false h refl
+computing-role setsLabel h = clash false h refl
+computing-role jumpsTo h = clash false h refl
+computing-role exits h = clash false h refl
+computing-role branches h = clash false h refl
+computing-role loads h = clash false h refl
+computing-role stores h = clash false h refl
+computing-role constant h = clash false h refl
+computing-role computing h = refl
+
+folds-view : (o : List ℕ) → foldableRow (rowAt o) ≡ true → viewOf o ≡ calc (outsBy (rowAt o) o) (insBy (rowAt o) o) (evalOf (kindOf o) (restBy (rowAt o) o))
+unfolding viewOf
+folds-view o h = ap (λ (r : Role). viewFor r (rowAt o) o) (computing-role ((rowAt o) .role) (and-l (isComputing ((rowAt o) .role)) _ h))
 
 -- what an op that may fold states
 pub record States (row : Row) (vs : List ℕ) : Type 0 where
-  pub width : ℕ
+  pub type : ℕ
   pub value : ℕ
-  pub one-out : row .outs ≡ width ∷ []
-  pub wide : Wide width
+  pub one-out : row .outs ≡ type ∷ []
+  pub small : type < 2
   pub one-value : vs ≡ value ∷ []
-  pub fits : value < 2 ^ width
-
-module _ (row : Row) (r : List ℕ) (t : foldableRow row ≡ true) where
-  states-by : (d : Does) → SaneBy row d → (xs vs : List ℕ) → stated (viewBy row d r) xs ≡ some vs → States row vs
-  states-by unknown s xs vs g = no-some g
-  states-by declares s xs vs g = no-some g
-  states-by sets s xs vs g = no-some g
-  states-by jumpsTo s xs vs g = no-some g
-  states-by leaves s xs vs g = no-some g
-  states-by (branches w) s xs vs g = no-some g
-  states-by (loads w) s xs vs g = no-some g
-  states-by (stores w) s xs vs g = no-some g
-  states-by (computes ok h) s xs vs g =
-      let a = s t in
-      let p = a .value (restBy row r) xs vs g in
-      record { width = a .width; value = p .0; one-out = a .one-out; wide = a .wide; one-value = p .1; fits = p .2 }
-
-  one-out-by : (d : Does) (xs vs : List ℕ) → stated (viewBy row d r) xs ≡ some vs → outputs (viewBy row d r) ≡ at r 1 ∷ []
-  one-out-by unknown xs vs g = no-some g
-  one-out-by declares xs vs g = no-some g
-  one-out-by sets xs vs g = no-some g
-  one-out-by jumpsTo xs vs g = no-some g
-  one-out-by leaves xs vs g = no-some g
-  one-out-by (branches w) xs vs g = no-some g
-  one-out-by (loads w) xs vs g = no-some g
-  one-out-by (stores w) xs vs g = no-some g
-  one-out-by (computes ok h) xs vs g =
-      let e : length (row .outs) ≡ 1 =
-      eqb-true (length (row .outs)) 1 (and-l (eqb (length (row .outs)) 1) (leb 1 (length (row .ins))) (and-r (isPure (row .does)) _ t)) in
-      rw e
+  pub fits : value < 2 ^ bitsOf type
 
 pub states : (o xs vs : List ℕ) → foldableRow (rowAt o) ≡ true → stated (viewOf o) xs ≡ some vs → States (rowAt o) vs
-unfolding viewOf
-states o xs vs t g = states-by (rowAt o) o t ((rowAt o) .does) (sane (kindOf o)) xs vs g
+states o xs vs t g =
+    let k = kindOf o in
+    let bytes = restBy (rowAt o) o in
+    let e : one (computedOf k bytes (atTypes ((rowAt o) .ins) xs)) ≡ some vs = sym (evaluated k t bytes xs) ∙ sym (ap (λ w. stated w xs) (folds-view o t)) ∙ g in
+    go (computedOf k bytes (atTypes ((rowAt o) .ins) xs)) refl e
+  where
+    go : (y : Option ℕ) → computedOf (kindOf o) (restBy (rowAt o) o) (atTypes ((rowAt o) .ins) xs) ≡ y → one y ≡ some vs → States (rowAt o) vs
+    go none q e = no-some e
+    go (some x) q e =
+        record {
+          type = at ((rowAt o) .outs) 0;
+          value = x;
+          one-out = single (rowAt o) t;
+          small = out-small (kindOf o) t;
+          one-value = cc;
+          fits = folded-fits (kindOf o) t (restBy (rowAt o) o) xs x q;
+        }
 
 -- what is put in the op's place
-pub movi-for : (o vs : List ℕ) (s : States (rowAt o) vs) → folding .const o (headOr 0 vs) ≡ moviOf (s .width) (at o 1) (s .value)
+pub movi-for : (o vs : List ℕ) (s : States (rowAt o) vs) → folding .const o (headOr 0 vs) ≡ moviOf (s .type) (at o 1) (s .value)
 movi-for o vs s = rw (s .one-out, s .one-value)
 
-no-fold : (b : Bool) → foldableRow (rowOf (cond b 0x10 0x90)) ≡ false
-unfolding rowOf wideRow
-no-fold true = refl
-no-fold false = refl
-
 one-out : (o xs vs : List ℕ) → foldableRow (rowAt o) ≡ true → stated (viewOf o) xs ≡ some vs → outputs (viewOf o) ≡ at o 1 ∷ []
-unfolding viewOf
-one-out o xs vs t g = one-out-by (rowAt o) o t ((rowAt o) .does) xs vs g
+one-out o xs vs t g = ap outputs (folds-view o t) ∙ ap (λ (ts : List ℕ). bytesAt o 1 (length ts)) (single (rowAt o) t)
 
 pub const-view : (o xs vs : List ℕ) → foldableRow (rowAt o) ≡ true → stated (viewOf o) xs ≡ some vs
     → viewOf (folding .const o (headOr 0 vs)) ≡ calc (at o 1 ∷ []) [] (λ ys. some (headOr 0 vs ∷ []))
 const-view o xs vs t g =
     let s = states o xs vs t g in
-    ap viewOf (movi-for o vs s) ∙ (movi-facts (s .width) (at o 1) (s .value) (s .wide) (s .fits)) .view
+    ap viewOf (movi-for o vs s) ∙ (movi-facts (s .type) (at o 1) (s .value) (s .small) (s .fits)) .view
     ∙ ap (λ (n : ℕ). calc (at o 1 ∷ []) [] (λ ys. some (n ∷ []))) (sym (ap (headOr 0) (s .one-value)))
 
 pub constants : Constants tcg folding
-constants =
-    record {
-      out = λ o. at o 1;
-      one-out = one-out;
-      const-view = const-view;
-      const-fixed = λ o v t. no-fold (eqb (headOr 32 ((rowAt o) .outs)) 32);
-    }
+constants = record { out = λ o. at o 1; one-out = one-out; const-view = const-view; const-fixed = λ o v t. no-movi (headOr 0 ((rowAt o) .outs)) }

@@ -1,12 +1,9 @@
-pub mod Fits
-pub mod Folding
-pub mod Sizes
 pub mod Ranges
 pub mod Table
-pub mod Rows
-pub mod Roles
-pub mod RoleRows
-pub mod Declares
+pub mod Entry
+pub mod Traits
+pub mod Inputs
+pub mod Fits
+pub mod Folding
 pub mod Families
 pub mod Folded
-pub mod Inputs

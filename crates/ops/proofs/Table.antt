@@ -1,66 +1,196 @@
--- What an entry of the table of kinds holds, at every kind. Assumes nothing.
-use mathlib.Core.Path.{_≡_, refl, sym, ap, _∙_}
-use mathlib.Core.Bool.{Bool, true, not, _&&_, Bool·beq}
-use mathlib.Core.List.{List}
-use Prim.Native.Nat.{ℕ, zero, suc, _+_, _/_, _%_, _<_}
+-- The row of a kind, from its role: one computed test over the table. Assumes nothing.
+use mathlib.Core.Path.{_≡_, refl, sym, ap, _∙_, subst}
+use mathlib.Core.Bool.{Bool, true, false, cond, not, _&&_, _||_, Bool·beq}
+use mathlib.Core.List.{List, [], _∷_, _++_}
+use mathlib.Core.Logic.{_⊎_, inl, inr}
+use Prim.Native.Nat.{ℕ, zero, suc, _+_, _*_, _/_, _%_, _^_, _≤_, _<_}
 use native.Mathlib.Omega.{arith}
-use native.Mathlib.Nat.{zero-add, suc-add, add-zero, add-suc}
-use lib.Dec.{eqb}
-use lib.ListN.{getD}
-use borrow.Author.Tests.{eqb-true}
-use Rattle.theory.proofs.Sets.{and-l, and-r}
-use Rattle.ops.specs.Kinds.{wideRow, rowOf, known, bodyLength, outputCount}
-use Rattle.ops.specs.Table.{operandWidths, operandCount, wideBits, roleNumber, entryOf, entriesFrom, kindTable}
-use Rattle.ops.proofs.Ranges.{everyFrom, ranged, beq-same}
+use lib.Dec.{eqb, ltb, leb, lit<}
+use lib.ListN.{length, getD, replicate}
+use borrow.Author.Tests.{eqb-true, eqb-false, ltb-true, ltb-false, leb-true}
+use Rattle.word.proofs.Tests.{cond-all}
+use Rattle.theory.proofs.Sets.{and-l, and-r, tell, clash}
+use Rattle.ops.specs.Rows.{Role, unknown, declares, setsLabel, jumpsTo, exits, branches, loads, stores, constant, computing, roles, roleNo, Row, entry}
+use Rattle.ops.specs.Rows.{outsIn, insIn, restIn, testIn, roleIn, typesIn, typesOf, rowIn, bodyOf, numberOf, asksFor}
+use Rattle.ops.specs.Kinds.{movi, brcond, load, store, kindTable, rowOf, roleOf, bodyLength}
+use Rattle.ops.proofs.Ranges.{everyFrom, ranged, every, listed, agreed}
 
--- the entry's digits are the kind's numbers
-abbrev digits : ℕ → Bool
-digits k =
-    eqb (entryOf k % 16) (bodyLength k)
-    && (eqb (entryOf k / 16 % 16) (outputCount k)
-    && (eqb (entryOf k / 256 % 16) (operandCount k)
-    && (eqb (entryOf k / 4096 % 16) (roleNumber k) && (Bool·beq (not (eqb (entryOf k) 0)) (known k) && eqb (entryOf k / 65536) (wideBits (operandWidths k))))))
+-- the type of the op's width: 0, or 1 for the kinds from 80 on
+abbrev pub typeAt : ℕ → ℕ
+typeAt k = cond (leb 0x80 k) 1 0
 
-pub record Entry (k : ℕ) : Type 0 where
-  pub body : entryOf k % 16 ≡ bodyLength k
-  pub outputs : entryOf k / 16 % 16 ≡ outputCount k
-  pub operands : entryOf k / 256 % 16 ≡ operandCount k
-  pub role : entryOf k / 4096 % 16 ≡ roleNumber k
-  pub listed : not (eqb (entryOf k) 0) ≡ known k
-  pub wide : entryOf k / 65536 ≡ wideBits (operandWidths k)
+pub type-small : (k : ℕ) → typeAt k < 2
+type-small k = cond-all (λ (n : ℕ). n < 2) (leb 0x80 k) (lit< tt) (lit< tt)
 
-parts : (k : ℕ) → digits k ≡ true → Entry k
-parts k h =
-    let a = and-r (eqb (entryOf k % 16) (bodyLength k)) (eqb (entryOf k / 16 % 16) (outputCount k) && (eqb (entryOf k / 256 % 16) (operandCount k) && (eqb (entryOf k / 4096 % 16) (roleNumber k) && (Bool·beq (not (eqb (entryOf k) 0)) (known k) && eqb (entryOf k / 65536) (wideBits (operandWidths k)))))) h in
-    let b = and-r (eqb (entryOf k / 16 % 16) (outputCount k)) (eqb (entryOf k / 256 % 16) (operandCount k) && (eqb (entryOf k / 4096 % 16) (roleNumber k) && (Bool·beq (not (eqb (entryOf k) 0)) (known k) && eqb (entryOf k / 65536) (wideBits (operandWidths k))))) a in
-    let c = and-r (eqb (entryOf k / 256 % 16) (operandCount k)) (eqb (entryOf k / 4096 % 16) (roleNumber k) && (Bool·beq (not (eqb (entryOf k) 0)) (known k) && eqb (entryOf k / 65536) (wideBits (operandWidths k)))) b in
-    let d = and-r (eqb (entryOf k / 4096 % 16) (roleNumber k)) (Bool·beq (not (eqb (entryOf k) 0)) (known k) && eqb (entryOf k / 65536) (wideBits (operandWidths k))) c in
-    record {
-      body = eqb-true (entryOf k % 16) (bodyLength k) (and-l (eqb (entryOf k % 16) (bodyLength k)) (eqb (entryOf k / 16 % 16) (outputCount k) && (eqb (entryOf k / 256 % 16) (operandCount k) && (eqb (entryOf k / 4096 % 16) (roleNumber k) && (Bool·beq (not (eqb (entryOf k) 0)) (known k) && eqb (entryOf k / 65536) (wideBits (operandWidths k)))))) h);
-      outputs = eqb-true (entryOf k / 16 % 16) (outputCount k) (and-l (eqb (entryOf k / 16 % 16) (outputCount k)) (eqb (entryOf k / 256 % 16) (operandCount k) && (eqb (entryOf k / 4096 % 16) (roleNumber k) && (Bool·beq (not (eqb (entryOf k) 0)) (known k) && eqb (entryOf k / 65536) (wideBits (operandWidths k))))) a);
-      operands = eqb-true (entryOf k / 256 % 16) (operandCount k) (and-l (eqb (entryOf k / 256 % 16) (operandCount k)) (eqb (entryOf k / 4096 % 16) (roleNumber k) && (Bool·beq (not (eqb (entryOf k) 0)) (known k) && eqb (entryOf k / 65536) (wideBits (operandWidths k)))) b);
-      role = eqb-true (entryOf k / 4096 % 16) (roleNumber k) (and-l (eqb (entryOf k / 4096 % 16) (roleNumber k)) ((Bool·beq (not (eqb (entryOf k) 0)) (known k) && eqb (entryOf k / 65536) (wideBits (operandWidths k)))) c);
-      listed = beq-same (not (eqb (entryOf k) 0)) (known k) (and-l (Bool·beq (not (eqb (entryOf k) 0)) (known k)) (eqb (entryOf k / 65536) (wideBits (operandWidths k))) d);
-      wide = eqb-true (entryOf k / 65536) (wideBits (operandWidths k)) (and-r (Bool·beq (not (eqb (entryOf k) 0)) (known k)) (eqb (entryOf k / 65536) (wideBits (operandWidths k))) d);
-    }
+-- the one row of a role at a type; a computing op has one output, and no byte or a condition after the operands
+abbrev pub rowWith : List ℕ → List ℕ → ℕ → ℕ → Role → Row
+rowWith outs ins rest test role = record { outs = outs; ins = ins; rest = rest; test = test; role = role }
 
-all-digits : everyFrom digits 0 256 ≡ true
-unfolding entryOf rowOf wideRow
-all-digits = refl
+pub record Computing (row : Row) : Type 0 where
+  pub type : ℕ
+  pub one-out : row .outs ≡ type ∷ []
+  pub rest-is : ((row .rest ≡ 0) × (row .test ≡ 0)) ⊎ ((row .rest ≡ 1) × (row .test ≡ 2))
 
-pub entry-holds : (k : ℕ) → k < 256 → Entry k
-entry-holds k h = parts k (ranged digits 256 0 all-digits k (omega arith) (omega arith))
+abbrev pub RowFor : Role → ℕ → Row → Type 0
+RowFor unknown t row = row ≡ rowWith [] [] 0 0 unknown
+RowFor declares t row = row ≡ rowWith [] [] 2 0 declares
+RowFor setsLabel t row = row ≡ rowWith [] [] 1 1 setsLabel
+RowFor jumpsTo t row = row ≡ rowWith [] [] 1 1 jumpsTo
+RowFor exits t row = row ≡ rowWith [] (1 ∷ []) 0 0 exits
+RowFor branches t row = row ≡ rowWith [] (t ∷ t ∷ []) 2 3 branches
+RowFor loads t row = row ≡ rowWith (t ∷ []) (1 ∷ []) 1 (4 + t) loads
+RowFor stores t row = row ≡ rowWith [] (t ∷ 1 ∷ []) 1 (6 + t) stores
+RowFor constant t row = row ≡ rowWith (t ∷ []) [] 8 (cond (eqb t 0) 8 0) constant
+RowFor computing t row = Computing row
 
--- the role that the code reads
-pub role-read : (k : ℕ) {e : ℕ} → k < 256 → e ≡ entryOf k → e / 4096 % 16 ≡ roleNumber k
-role-read k h q = ap (λ (m : ℕ). m / 4096 % 16) q ∙ (entry-holds k h) .role
+-- the entries that have these rows, by role number and type
+abbrev entryFor : ℕ → ℕ → ℕ → ℕ
+entryFor n t e = getD (0 ∷ entry 0 0 2 0 1 0 ∷ entry 0 0 1 1 2 0 ∷ entry 0 0 1 1 3 0 ∷ entry 0 1 0 0 4 1 ∷ brcond t ∷ load t ∷ store t ∷ movi t ∷ e ∷ []) n (suc e)
 
--- an entry of the whole table
-entries-at : (n lo k : ℕ) → k < n → getD (entriesFrom lo n) k 0 ≡ entryOf (lo + k)
-entries-at zero lo k h = absurd (omega arith)
-entries-at (suc n) lo zero h = sym (ap entryOf (add-zero lo))
-entries-at (suc n) lo (suc k) h = entries-at n (suc lo) k (omega arith) ∙ ap entryOf (suc-add lo k ∙ sym (add-suc lo k))
+-- what is asked of the entry of a kind
+abbrev canonical : ℕ → ℕ → Bool
+canonical k e = eqb e (entryFor (roleIn e) (typeAt k) e)
 
-pub entry-at : (k : ℕ) {ks : List ℕ} → k < 256 → ks ≡ kindTable → getD ks k 0 ≡ entryOf k
+abbrev oneOutput : ℕ → Bool
+oneOutput e = eqb (outsIn e) 1 && (eqb (testIn e) (2 * restIn e) && ltb (restIn e) 2)
+
+abbrev right : ℕ → ℕ → Bool
+right k e =
+    canonical k e
+    && ((not (eqb (roleIn e) 9) || oneOutput e) && (leb (outsIn e + insIn e + restIn e) 9 && leb (asksFor (testIn e)) (restIn e)))
+
+all-right : every right 0 kindTable ≡ true
 unfolding kindTable
-entry-at k h q = ap (λ (ks : List ℕ). getD ks k 0) q ∙ (entries-at 256 0 k h ∙ ap entryOf (zero-add k))
+all-right = refl
+
+table-long : length kindTable ≡ 256
+unfolding kindTable
+table-long = refl
+
+at-kind : (k : ℕ) → k < 256 → right k (getD kindTable k 0) ≡ true
+at-kind k h = listed right kindTable all-right k (rw table-long h)
+
+-- past the table
+past : (xs : List ℕ) (k : ℕ) → length xs ≤ k → getD xs k 0 ≡ 0
+past [] k h = refl
+past (x ∷ xs) zero h = absurd (omega arith)
+past (x ∷ xs) (suc k) h = past xs k (omega arith)
+
+pub beyond : (k : ℕ) → 256 ≤ k → getD kindTable k 0 ≡ 0
+beyond k h = past kindTable k (rw table-long h)
+
+pub unknown-beyond : (k : ℕ) → 256 ≤ k → roleOf k ≡ unknown
+unfolding rowOf roleNo
+unknown-beyond k h = ap (λ (e : ℕ). roleNo (roleIn e)) (beyond k h)
+
+-- from the test of an entry to its row
+same-row : (r : Role) (t : ℕ) {e x : ℕ} → e ≡ x → RowFor r t (rowIn x) → RowFor r t (rowIn e)
+same-row r t q f = subst (λ (y : ℕ). RowFor r t (rowIn y)) (sym q) f
+
+computing-row : (e : ℕ) → oneOutput e ≡ true → Computing (rowIn e)
+unfolding typesOf
+computing-row e h =
+    let o : outsIn e ≡ 1 = eqb-true (outsIn e) 1 (and-l (eqb (outsIn e) 1) _ h) in
+    let t = and-r (eqb (outsIn e) 1) (eqb (testIn e) (2 * restIn e) && ltb (restIn e) 2) h in
+    let test : testIn e ≡ 2 * restIn e = eqb-true (testIn e) (2 * restIn e) (and-l (eqb (testIn e) (2 * restIn e)) _ t) in
+    let few : restIn e < 2 = ltb-true (restIn e) 2 (and-r (eqb (testIn e) (2 * restIn e)) (ltb (restIn e) 2) t) in
+    record { type = typesIn e % 4; one-out = ap (λ (n : ℕ). typesOf n (typesIn e)) o; rest-is = go (tell (eqb (restIn e) 0)) test few }
+  where
+    go : (eqb (restIn e) 0 ≡ true) ⊎ (eqb (restIn e) 0 ≡ false) → testIn e ≡ 2 * restIn e → restIn e < 2
+        → ((restIn e ≡ 0) × (testIn e ≡ 0)) ⊎ ((restIn e ≡ 1) × (testIn e ≡ 2))
+    go (inl z) t l = let q = eqb-true (restIn e) 0 z in inl (q, omega arith)
+    go (inr z) t l = let q : restIn e ≡ 1 = omega (arith, eqb-false (restIn e) 0 z) in inr (q, omega arith)
+
+by-role : (n t e : ℕ) → t < 2 → e ≡ entryFor n t e → (not (eqb n 9) || oneOutput e) ≡ true → RowFor (roleNo n) t (rowIn e)
+unfolding roleNo typesOf
+by-role zero t e h q c = same-row unknown t q refl
+by-role (suc zero) t e h q c = same-row declares t q refl
+by-role (suc (suc zero)) t e h q c = same-row setsLabel t q refl
+by-role (suc (suc (suc zero))) t e h q c = same-row jumpsTo t q refl
+by-role (suc (suc (suc (suc zero)))) t e h q c = same-row exits t q refl
+by-role (suc (suc (suc (suc (suc zero))))) zero e h q c = same-row branches 0 q refl
+by-role (suc (suc (suc (suc (suc zero))))) (suc zero) e h q c = same-row branches 1 q refl
+by-role (suc (suc (suc (suc (suc zero))))) (suc (suc t)) e h q c = absurd (omega arith)
+by-role (suc (suc (suc (suc (suc (suc zero)))))) zero e h q c = same-row loads 0 q refl
+by-role (suc (suc (suc (suc (suc (suc zero)))))) (suc zero) e h q c = same-row loads 1 q refl
+by-role (suc (suc (suc (suc (suc (suc zero)))))) (suc (suc t)) e h q c = absurd (omega arith)
+by-role (suc (suc (suc (suc (suc (suc (suc zero))))))) zero e h q c = same-row stores 0 q refl
+by-role (suc (suc (suc (suc (suc (suc (suc zero))))))) (suc zero) e h q c = same-row stores 1 q refl
+by-role (suc (suc (suc (suc (suc (suc (suc zero))))))) (suc (suc t)) e h q c = absurd (omega arith)
+by-role (suc (suc (suc (suc (suc (suc (suc (suc zero)))))))) zero e h q c = same-row constant 0 q refl
+by-role (suc (suc (suc (suc (suc (suc (suc (suc zero)))))))) (suc zero) e h q c = same-row constant 1 q refl
+by-role (suc (suc (suc (suc (suc (suc (suc (suc zero)))))))) (suc (suc t)) e h q c = absurd (omega arith)
+by-role (suc (suc (suc (suc (suc (suc (suc (suc (suc zero))))))))) t e h q c = computing-row e c
+by-role (suc (suc (suc (suc (suc (suc (suc (suc (suc (suc n)))))))))) t e h q c = absurd (omega arith)
+
+row-for : (k : ℕ) → RowFor (roleOf k) (typeAt k) (rowOf k)
+unfolding rowOf roleNo typesOf
+row-for k = go (tell (ltb k 256))
+  where
+    go : (ltb k 256 ≡ true) ⊎ (ltb k 256 ≡ false) → RowFor (roleNo (roleIn (getD kindTable k 0))) (typeAt k) (rowIn (getD kindTable k 0))
+    go (inl h) =
+        let l : k < 256 = ltb-true k 256 h in
+        let e = getD kindTable k 0 in
+        let t = at-kind k l in
+        by-role (roleIn e) (typeAt k) e (type-small k) (eqb-true e (entryFor (roleIn e) (typeAt k) e) (and-l (canonical k e) _ t))
+        (and-l (not (eqb (roleIn e) 9) || oneOutput e) _ (and-r (canonical k e) _ t))
+    go (inr h) = rw (beyond k (ltb-false k 256 h))
+
+-- a kind of this role has this row
+pub row-of : (r : Role) (k : ℕ) → roleOf k ≡ r → RowFor r (typeAt k) (rowOf k)
+row-of r k e = subst (λ (x : Role). RowFor x (typeAt k) (rowOf k)) e (row-for k)
+
+pub types-length : (n x : ℕ) → length (typesOf n x) ≡ n
+unfolding typesOf
+types-length zero x = refl
+types-length (suc n) x = ap suc (types-length n (x / 4))
+
+-- the counts of an entry's row are its digits
+pub body-in : (e : ℕ) → bodyOf (rowIn e) ≡ outsIn e + insIn e + restIn e
+body-in e = rw (types-length (outsIn e) (typesIn e), types-length (insIn e) (typesIn e / 4 ^ outsIn e))
+
+sizes-at : (k : ℕ) → k < 256 → (let e = getD kindTable k 0 in leb (outsIn e + insIn e + restIn e) 9 && leb (asksFor (testIn e)) (restIn e)) ≡ true
+sizes-at k h = let e = getD kindTable k 0 in and-r (not (eqb (roleIn e) 9) || oneOutput e) _ (and-r (canonical k e) _ (at-kind k h))
+
+-- a test asks for no more bytes than follow the operands
+pub asks-few : {e : ℕ} (k : ℕ) → e ≡ getD kindTable k 0 → asksFor (testIn e) ≤ restIn e
+asks-few {e} k q = subst (λ (x : ℕ). asksFor (testIn x) ≤ restIn x) (sym q) (go (tell (ltb k 256)))
+  where
+    go : (ltb k 256 ≡ true) ⊎ (ltb k 256 ≡ false) → (let e = getD kindTable k 0 in asksFor (testIn e) ≤ restIn e)
+    go (inl h) = let e = getD kindTable k 0 in leb-true (asksFor (testIn e)) (restIn e) (and-r (leb (outsIn e + insIn e + restIn e) 9) _ (sizes-at k (ltb-true k 256 h)))
+    go (inr h) = rw (beyond k (ltb-false k 256 h)) (omega arith)
+
+-- no body is longer than nine bytes
+pub body-short : (k : ℕ) → bodyLength k ≤ 9
+unfolding rowOf
+body-short k = rw (body-in (getD kindTable k 0)) (go (tell (ltb k 256)))
+  where
+    go : (ltb k 256 ≡ true) ⊎ (ltb k 256 ≡ false) → (let e = getD kindTable k 0 in outsIn e + insIn e + restIn e ≤ 9)
+    go (inl h) =
+        let e = getD kindTable k 0 in
+        leb-true _ 9 (and-l (leb (outsIn e + insIn e + restIn e) 9) (leb (asksFor (testIn e)) (restIn e)) (sizes-at k (ltb-true k 256 h)))
+    go (inr h) = rw (beyond k (ltb-false k 256 h)) (omega arith)
+
+-- only kind 01 declares
+abbrev isDeclaring : Role → Bool
+isDeclaring r = eqb (numberOf r) 1
+
+one-declares : everyFrom (λ k. Bool·beq (isDeclaring (roleOf k)) (eqb k 1)) 0 256 ≡ true
+unfolding rowOf kindTable roleNo
+one-declares = refl
+
+pub declares-one : (k : ℕ) → roleOf k ≡ declares → k ≡ 1
+declares-one k q = go (tell (ltb k 256))
+  where
+    go : (ltb k 256 ≡ true) ⊎ (ltb k 256 ≡ false) → k ≡ 1
+    go (inl h) = eqb-true k 1 (sym (agreed (λ j. isDeclaring (roleOf j)) (λ j. eqb j 1) 256 one-declares k (ltb-true k 256 h)) ∙ ap isDeclaring q)
+    go (inr h) = clash (isDeclaring (roleOf k)) (ap isDeclaring q) (ap isDeclaring (unknown-beyond k (ltb-false k 256 h)))
+
+-- the number of a role, as the code reads it
+pub role-read : (n : ℕ) → n < 16 → cond (ltb n 10) n 0 ≡ numberOf (roleNo n)
+unfolding roleNo
+role-read n h = eqb-true (cond (ltb n 10) n 0) (numberOf (roleNo n)) (ranged (λ m. eqb (cond (ltb m 10) m 0) (numberOf (roleNo m))) 16 0 refl n (omega arith) (omega arith))
+
+pub exit-role : roleOf 0x04 ≡ exits
+unfolding rowOf kindTable roleNo
+exit-role = refl

@@ -1,156 +1,110 @@
--- The table of kinds. Assumes nothing.
-use Prim.Native.Nat.{ℕ, _+_, _-_, _^_}
-use mathlib.Core.Bool.{Bool, true, false, cond, not, _&&_, _||_}
+-- The table of kinds, and what the kinds of pure ops state. Assumes nothing.
+use Prim.Native.Nat.{ℕ, zero, suc, _+_, _*_, _-_}
+use mathlib.Core.Bool.{Bool, cond, _&&_, _||_}
 use mathlib.Core.Option.{Option, none, some}
-use mathlib.Core.List.{List, [], _∷_}
-use lib.Dec.{eqb, leb, ltb}
-use lib.ListN.{length, getD}
+use mathlib.Core.List.{List, [], _∷_, _++_}
+use lib.Dec.{eqb, leb}
+use lib.ListN.{length, replicate}
 use Rattle.memory.specs.Bytes.{lowFirst}
 use Rattle.ops.specs.Eval.{convertOf, unaryOf, logicOf, divideOf, shiftOf, setcondOf, movcondOf}
+use Rattle.ops.specs.Rows.{Role, Table, entry, tableOf, bodyOf, isKnown, isPure, at}
 
--- what a kind is for. computes: a pure op, with a test of the bytes that follow its operands, and what it makes of them and of its
--- inputs' values; branches, loads, stores: with their width
-pub data Does : Type 0 where
-  unknown declares sets jumpsTo leaves : Does
-  branches loads stores : ℕ → Does
-  computes : (List ℕ → Bool) → (List ℕ → List ℕ → Option (List ℕ)) → Does
+-- n operands of one type
+abbrev pub alike : ℕ → ℕ → ℕ
+alike zero t = 0
+alike (suc n) t = t + 4 * alike n t
 
--- a row of the table: the widths of the outputs and of the inputs, in the order of the body ("outputs first, in the order shown"),
--- and how many bytes follow them: a constant, a condition, flags or a label
-pub record Row : Type 0 where
-  pub outs : List ℕ
-  pub ins : List ℕ
-  pub rest : ℕ
-  pub does : Does
+-- "Every operand has the op's width, except that addresses are 64-bit, and kinds 05 to 07 have the widths in their names."
+-- "movi: d, eight bytes little-endian"
+abbrev pub movi : ℕ → ℕ
+movi t = entry 1 0 8 (cond (eqb t 0) 8 0) 8 t
+
+-- d and n inputs, then a condition where so many bytes follow
+abbrev pub pureOp : ℕ → ℕ → ℕ → ℕ
+pureOp n conds t = entry 1 n conds (2 * conds) 9 (alike (suc n) t)
+
+abbrev pub convert : ℕ → ℕ → ℕ
+convert to from = entry 1 1 0 0 9 (to + 4 * from)
+
+abbrev pub brcond : ℕ → ℕ
+brcond t = entry 0 2 2 3 5 (alike 2 t)
+
+abbrev pub load : ℕ → ℕ
+load t = entry 1 1 1 (4 + t) 6 (t + 4)
+
+abbrev pub store : ℕ → ℕ
+store t = entry 0 2 1 (6 + t) 7 (t + 4)
+
+-- "Adding 80 (hex) to kinds 10 to 2C gives the 64-bit form": the kinds 10 to 2C at a type
+abbrev pub wideKinds : ℕ → List ℕ
+wideKinds t =
+    -- 10 movi; 11, 12, 13: mov, neg, not
+    movi t ∷ replicate 3 (pureOp 1 0 t)
+    -- 14 to 1E: add, sub, mul, and, or, xor, andc, orc, eqv, nand, nor; 1F to 22: divs, divu, rems, remu; 23 to 27: shl, shr, sar, rotl, rotr
+    ++ replicate 20 (pureOp 2 0 t)
+    -- 28 setcond, 29 movcond, 2A brcond, 2B qemu_ld, 2C qemu_st
+    ++ (pureOp 2 1 t ∷ pureOp 4 1 t ∷ brcond t ∷ load t ∷ store t ∷ [])
+
+-- the entry of every kind; 0 is unknown
+unfoldable pub kindTable : List ℕ
+kindTable =
+    -- 00; 01: declaration, class and type; 02, 03: set_label, br, a label; 04: exit_tb
+    (0 ∷ entry 0 0 2 0 1 0 ∷ entry 0 0 1 1 2 0 ∷ entry 0 0 1 1 3 0 ∷ entry 0 1 0 0 4 1
+    -- 05, 06, 07: ext_i32_i64, extu_i32_i64, trunc_i64_i32
+    ∷ convert 1 0 ∷ convert 1 0 ∷ convert 0 1 ∷ replicate 8 0)
+    ++ (wideKinds 0 ++ (replicate 99 0 ++ (wideKinds 1 ++ replicate 83 0)))
+
+unfoldable pub rowOf : Table
+rowOf k = tableOf kindTable k
+
+abbrev pub roleOf : ℕ → Role
+roleOf k = (rowOf k) .role
+
+abbrev pub known : ℕ → Bool
+known k = isKnown (roleOf k)
+
+abbrev pub bodyLength : ℕ → ℕ
+bodyLength k = bodyOf (rowOf k)
+
+abbrev pub outputCount : ℕ → ℕ
+outputCount k = length ((rowOf k) .outs)
+
+abbrev pub operandTypes : ℕ → List ℕ
+operandTypes k = (rowOf k) .outs ++ (rowOf k) .ins
+
+abbrev pub operandCount : ℕ → ℕ
+operandCount k = length (operandTypes k)
+
+abbrev pub pureKind : ℕ → Bool
+pureKind k = isPure (roleOf k)
 
 abbrev pub between : ℕ → ℕ → ℕ → Bool
 between lo hi k = leb lo k && leb k hi
-
-abbrev pub at : List ℕ → ℕ → ℕ
-at xs i = getD xs i 0
 
 -- an op with one output
 abbrev pub one : Option ℕ → Option (List ℕ)
 one none = none
 one (some x) = some (x ∷ [])
 
-abbrev pub anything : List ℕ → Bool
-anything bytes = true
+-- the kinds 11 to 29 at a width, from the bytes after the operands and the inputs' values; none for every other kind
+unfoldable pub wideOf : ℕ → ℕ → List ℕ → List ℕ → Option ℕ
+wideOf w k bytes vs =
+    cond (between 0x11 0x13 k) (unaryOf w k (at vs 0))
+    (cond (between 0x14 0x1E k) (logicOf w k (at vs 0) (at vs 1))
+    (cond (between 0x1F 0x22 k) (divideOf w k (at vs 0) (at vs 1))
+    (cond (between 0x23 0x27 k) (shiftOf w k (at vs 0) (at vs 1))
+    (cond (eqb k 0x28) (setcondOf w (at bytes 0) (at vs 0) (at vs 1))
+    (cond (eqb k 0x29) (movcondOf w (at bytes 0) (at vs 0) (at vs 1) (at vs 2) (at vs 3))
+    none)))))
 
--- refused: "cond above 9", "label above 31", a 32-bit value "of 2^32 or more"
-abbrev pub condOk : ℕ → Bool
-condOk c = leb c 9
+-- the kinds 05 to 07 and 11 to 29 in either width
+unfoldable pub computedOf : ℕ → List ℕ → List ℕ → Option ℕ
+computedOf k bytes vs =
+    cond (between 0x05 0x07 k) (convertOf k (at vs 0))
+    (cond (between 0x11 0x29 k) (wideOf 32 k bytes vs)
+    (cond (between 0x91 0xA9 k) (wideOf 64 (k - 0x80) bytes vs)
+    none))
 
-abbrev pub labelOk : ℕ → Bool
-labelOk l = leb l 31
-
-abbrev pub narrowOk : ℕ → ℕ → Bool
-narrowOk w x = not (eqb w 32) || ltb x (2 ^ 32)
-
--- the pure families. "Every operand has the op's width, except that [..] kinds 05 to 07 have the widths in their names."
-abbrev pub convert : ℕ → ℕ → ℕ → Row
-convert to from k = record { outs = to ∷ []; ins = from ∷ []; rest = 0; does = computes anything (λ bytes vs. one (convertOf k (at vs 0))) }
-
--- "movi: d, eight bytes little-endian"
-abbrev pub movi : ℕ → Row
-movi w =
-    record { outs = w ∷ []; ins = []; rest = 8; does = computes (λ bytes. narrowOk w (lowFirst bytes 0 8)) (λ bytes vs. one (some (lowFirst bytes 0 8))) }
-
-abbrev pub unary : ℕ → ℕ → Row
-unary w k = record { outs = w ∷ []; ins = w ∷ []; rest = 0; does = computes anything (λ bytes vs. one (unaryOf w k (at vs 0))) }
-
-abbrev pub binary : ℕ → (ℕ → ℕ → Option ℕ) → Row
-binary w f = record { outs = w ∷ []; ins = w ∷ w ∷ []; rest = 0; does = computes anything (λ bytes vs. one (f (at vs 0) (at vs 1))) }
-
-abbrev pub setcond : ℕ → Row
-setcond w =
-    record {
-      outs = w ∷ [];
-      ins = w ∷ w ∷ [];
-      rest = 1;
-      does = computes (λ bytes. condOk (at bytes 0)) (λ bytes vs. one (setcondOf w (at bytes 0) (at vs 0) (at vs 1)));
-    }
-
-abbrev pub movcond : ℕ → Row
-movcond w =
-    record {
-      outs = w ∷ [];
-      ins = w ∷ w ∷ w ∷ w ∷ [];
-      rest = 1;
-      does = computes (λ bytes. condOk (at bytes 0)) (λ bytes vs. one (movcondOf w (at bytes 0) (at vs 0) (at vs 1) (at vs 2) (at vs 3)));
-    }
-
--- the other ops, and the declaration. "Addresses are 64-bit."
-abbrev pub plain : List ℕ → ℕ → Does → Row
-plain ins rest does = record { outs = []; ins = ins; rest = rest; does = does }
-
-abbrev pub brcond : ℕ → Row
-brcond w = plain (w ∷ w ∷ []) 2 (branches w)
-
-abbrev pub load : ℕ → Row
-load w = record { outs = w ∷ []; ins = 64 ∷ []; rest = 1; does = loads w }
-
-abbrev pub store : ℕ → Row
-store w = plain (w ∷ 64 ∷ []) 1 (stores w)
-
--- "Adding 80 (hex) to kinds 10 to 2C gives the 64-bit form": the kinds 10 to 2C at a width
-unfoldable pub wideRow : ℕ → ℕ → Row
-wideRow w k =
-    cond (eqb k 0x10) (movi w)
-    (cond (between 0x11 0x13 k) (unary w k)
-    (cond (between 0x14 0x1E k) (binary w (logicOf w k))
-    (cond (between 0x1F 0x22 k) (binary w (divideOf w k))
-    (cond (between 0x23 0x27 k) (binary w (shiftOf w k))
-    (cond (eqb k 0x28) (setcond w)
-    (cond (eqb k 0x29) (movcond w)
-    (cond (eqb k 0x2A) (brcond w)
-    (cond (eqb k 0x2B) (load w)
-    (store w)))))))))
-
-unfoldable pub rowOf : ℕ → Row
-rowOf k =
-    cond (eqb k 0x01) (plain [] 2 declares)
-    (cond (eqb k 0x02) (plain [] 1 sets)
-    (cond (eqb k 0x03) (plain [] 1 jumpsTo)
-    (cond (eqb k 0x04) (plain (64 ∷ []) 0 leaves)
-    (cond (between 0x05 0x06 k) (convert 64 32 k)
-    (cond (eqb k 0x07) (convert 32 64 k)
-    (cond (between 0x10 0x2C k) (wideRow 32 k)
-    (cond (between 0x90 0xAC k) (wideRow 64 (k - 0x80))
-    (plain [] 0 unknown))))))))
-
--- the table's columns
-abbrev pub isKnown : Does → Bool
-isKnown unknown = false
-isKnown declares = true
-isKnown sets = true
-isKnown jumpsTo = true
-isKnown leaves = true
-isKnown (branches w) = true
-isKnown (loads w) = true
-isKnown (stores w) = true
-isKnown (computes ok f) = true
-
-abbrev pub isPure : Does → Bool
-isPure unknown = false
-isPure declares = false
-isPure sets = false
-isPure jumpsTo = false
-isPure leaves = false
-isPure (branches w) = false
-isPure (loads w) = false
-isPure (stores w) = false
-isPure (computes ok f) = true
-
-abbrev pub known : ℕ → Bool
-known k = isKnown ((rowOf k) .does)
-
--- "a body whose length the kind fixes"
-abbrev pub bodyLength : ℕ → ℕ
-bodyLength k = length ((rowOf k) .outs) + length ((rowOf k) .ins) + (rowOf k) .rest
-
-abbrev pub outputCount : ℕ → ℕ
-outputCount k = length ((rowOf k) .outs)
-
-abbrev pub pureKind : ℕ → Bool
-pureKind k = isPure ((rowOf k) .does)
+-- what a pure op of kind k states; none for every other kind
+unfoldable pub statesOf : ℕ → List ℕ → List ℕ → Option (List ℕ)
+statesOf k bytes vs = one (cond (eqb k 0x10 || eqb k 0x90) (some (lowFirst bytes 0 8)) (computedOf k bytes vs))

@@ -1,6 +1,6 @@
 // The pass: fold, prune and the result in the lent buffer.
 ghost use mathlib.Core.Path.{_≡_};
-ghost use Rattle.ops.specs.Table.{kindTable};
+ghost use Rattle.ops.specs.Kinds.{kindTable};
 ghost use Rattle.passes.specs.Passes.{passOf};
 ghost use Rattle.passes.specs.Ready.{Ready};
 use kinds::table;

@@ -15,7 +15,7 @@ use Rattle.theory.proofs.Sets.{and-l, and-r}
 use Rattle.theory.proofs.Simulation.{unspent, stated, definite, notFell, proper, Matches, same-run}
 use Rattle.ops.specs.Ops.{Fault, tcg}
 use Rattle.block.specs.Checks.{checkOf}
-use Rattle.block.specs.Records.{classesOf, widthsOf, globalCount}
+use Rattle.block.specs.Records.{classesOf, declaredTypes, globalCount}
 use Rattle.block.proofs.Parts.{Parts}
 use Rattle.runs.specs.Runs.{globalsFit, fits, entry, valuesFrom, Ran, answerOf, ranOf, opsRun, runOps, runChecked, runOf}
 use Rattle.runs.proofs.Ends.{run-ends}
@@ -75,9 +75,9 @@ run-accepted block ds os globals memory h p f = rw (h, p .declared, p .ops, f)
 fit-count : (ds : List (List ℕ)) (globals memory : List ℕ) → fits ds globals memory ≡ true → length globals ≡ globalCount (classesOf ds)
 unfolding fits
 fit-count ds globals memory f =
-    let a : (eqb (length globals) (globalCount (classesOf ds)) && globalsFit (widthsOf ds) globals) ≡ true =
-    and-l (eqb (length globals) (globalCount (classesOf ds)) && globalsFit (widthsOf ds) globals) (leb (length memory) 65536) f in
-    eqb-true (length globals) (globalCount (classesOf ds)) (and-l (eqb (length globals) (globalCount (classesOf ds))) (globalsFit (widthsOf ds) globals) a)
+    let a : (eqb (length globals) (globalCount (classesOf ds)) && globalsFit (declaredTypes ds) globals) ≡ true =
+    and-l (eqb (length globals) (globalCount (classesOf ds)) && globalsFit (declaredTypes ds) globals) (leb (length memory) 65536) f in
+    eqb-true (length globals) (globalCount (classesOf ds)) (and-l (eqb (length globals) (globalCount (classesOf ds))) (globalsFit (declaredTypes ds) globals) a)
 
 -- neither run is out of steps: that of the result is the same with the block's limit as with its own
 runs-alike : (ds os : List (List ℕ)) (globals memory : List ℕ) → scoped tcg (keptIn (classesOf ds)) empty os ≡ true → fits ds globals memory ≡ true

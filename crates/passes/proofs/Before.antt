@@ -1,77 +1,123 @@
--- What is live before an op, and whether it is dead, by its role. Assumes nothing.
-use mathlib.Core.Path.{_≡_, refl, ap, _∙_}
-use mathlib.Core.Bool.{Bool, true, false, not, _&&_, _||_}
+-- What is live before an op, and whether it is dead, by the columns of its role. Assumes nothing.
+use mathlib.Core.Path.{_≡_, refl, sym, ap, ap₂, _∙_, fun-ext}
+use mathlib.Core.Bool.{Bool, true, false, cond, not, _&&_, _||_}
 use mathlib.Core.List.{List, [], _∷_}
-use Prim.Native.Nat.{ℕ, suc, _+_, _-_, _≤_}
+use mathlib.Core.Logic.{_⊎_, inl, inr}
+use Prim.Native.Nat.{ℕ, _+_, _≤_, _<_}
 use native.Mathlib.Omega.{arith}
-use lib.ListN.{length, length-append}
-use Rattle.theory.specs.Prune.{dead}
-use Rattle.theory.specs.Sets.{Vars, without, plus, both}
-use Rattle.ops.specs.Kinds.{at, rowOf}
-use Rattle.ops.specs.Ops.{bytesAt, viewOf}
-use Rattle.ops.specs.Table.{operandCount, roleOf}
-use Rattle.ops.proofs.RoleRows.{row-of}
+use native.Mathlib.Nat.{add-assoc}
+use lib.ListN.{length, getD}
+use borrow.Author.Tests.{ltb-true, lt-ltb, le-ltb}
+use Rattle.word.proofs.Tests.{cond-all}
+use Rattle.theory.specs.Prune.{dead, before}
+use Rattle.theory.specs.Sets.{Vars, without, plus, both, noneIn}
+use Rattle.theory.proofs.Sets.{tell}
+use Rattle.ops.specs.Rows.{Role, unknown, declares, setsLabel, jumpsTo, exits, branches, loads, stores, constant, computing, roleNo, Row, outsIn, insIn, roleIn}
+use Rattle.ops.specs.Rows.{numberOf, isPure, isClosing, isSetting, isJumping}
+use Rattle.ops.specs.Kinds.{kindTable}
+use Rattle.ops.specs.Ops.{kindOf, rowAt, bytesAt, outsBy, insBy, viewFor, viewOf}
+use Rattle.ops.proofs.Entry.{Digits, digits}
+use Rattle.ops.proofs.Table.{row-of}
+use Rattle.ops.proofs.Traits.{pure-at, outputs-at}
+use Rattle.block.specs.Rules.{globalsIn, keptIn}
 use Rattle.block.specs.Scan.{recordAt, Stands}
-use Rattle.block.proofs.Views.{unknown-view, declare-view, label-view, jump-view, leave-view, branch-view, load-view, store-view, constant-view}
-use Rattle.block.proofs.Views.{pure-view}
-use Rattle.passes.specs.Live.{liveBefore}
-use Rattle.ops.specs.declared.Role.{Role}
-use Rattle.ops.specs.declared.Role.the-variants.{Unknown, Declares, SetsLabel, Jumps, Exits, Constant, Computes, Branches, Loads, Stores}
+use Rattle.block.proofs.Operands.{eachBy}
+use Rattle.block.proofs.Views.{row-at, output-bytes, input-bytes}
+use Rattle.passes.specs.Live.{belowIn, liveBefore, beforeBy}
+use Rattle.passes.proofs.Liveness.{below-one}
 
-pub two-bytes : (b : List ℕ) (p : ℕ) → bytesAt b (p + 1) 2 ≡ at b (p + 1) ∷ at b (p + 2) ∷ []
-two-bytes b p = let e : suc (p + 1) ≡ p + 2 = omega arith in ap (λ (n : ℕ). at b (p + 1) ∷ at b n ∷ []) e
+module _ (classes : List ℕ) (l : Vars) (row : Row) (r : List ℕ) where
+  before-by : (x : Role) → (x ≡ setsLabel → insBy row r ≡ [])
+      → before (globalsIn classes) (keptIn classes) (viewFor x row r) l ≡ plus (beforeBy x classes (outsBy row r) l) (insBy row r)
+  before-by unknown h = refl
+  before-by declares h = refl
+  before-by setsLabel h = ap (plus (keptIn classes)) (sym (h refl))
+  before-by jumpsTo h = refl
+  before-by exits h = refl
+  before-by branches h = ap (λ (m : Vars). plus m (insBy row r)) (fun-ext (λ v. or-self (keptIn classes v)))
+    where
+      or-self : (t : Bool) → (t || t) ≡ t
+      or-self true = refl
+      or-self false = refl
+  before-by loads h = refl
+  before-by stores h = refl
+  before-by constant h = refl
+  before-by computing h = refl
 
-module _ {b : List ℕ} {p k : ℕ} (s : Stands b p k) where
-  pub operands-are : roleOf k ≡ Computes → operandCount k ≡ 1 + length ((rowOf k) .ins)
-  operands-are e = let single : length ((rowOf k) .outs) ≡ 1 = ap length ((row-of Computes k e) .one-out) in omega (arith, single, length-append ((rowOf k) .outs) ((rowOf k) .ins))
+-- no pure op closes a basic block
+pure-open : (x : Role) → isPure x ≡ true → isClosing x ≡ false
+pure-open x h = le-ltb (numberOf x) 6 (omega (arith, ltb-true 7 (numberOf x) h))
 
-  single : roleOf k ≡ Computes → length ((rowOf k) .outs) ≡ 1
-  single e = ap length ((row-of Computes k e) .one-out)
+dead-by : (x : Role) (outs : List ℕ) (l : Vars) → (isPure x && noneIn (cond (isClosing x) [] outs) l) ≡ (isPure x && noneIn outs l)
+dead-by x outs l = go (tell (isPure x))
+  where
+    go : (isPure x ≡ true) ⊎ (isPure x ≡ false) → (isPure x && noneIn (cond (isClosing x) [] outs) l) ≡ (isPure x && noneIn outs l)
+    go (inl h) = rw (pure-open x h)
+    go (inr h) = rw h
 
-  pub an-output : {n : ℕ} → roleOf k ≡ Computes → n ≡ operandCount k → 1 ≤ n
-  an-output e h = omega (arith, operands-are e)
+-- from the number of the role
+module _ (x : Role) (classes outs : List ℕ) (l : Vars) {m : Vars} {n : ℕ} (q : n ≡ numberOf x) where
+  pub ends-before : {limit : ℕ} → n < 6 → limit ≡ cond (isSetting x || isJumping x) 2 1 → m ≡ belowIn classes limit → m ≡ beforeBy x classes outs l
+  ends-before h e w = rw (lt-ltb (numberOf x) 6 (omega arith)) (w ∙ ap (belowIn classes) e ∙ go (isSetting x || isJumping x))
+    where
+      go : (t : Bool) → belowIn classes (cond t 2 1) ≡ cond t (keptIn classes) (globalsIn classes)
+      go true = refl
+      go false = below-one classes
 
-  pub inputs-inside : {n : ℕ} → roleOf k ≡ Computes → n ≡ operandCount k → p + (2 + (n - 1)) ≤ length b
-  inputs-inside e h = omega (arith, single e, operands-are e, s .whole)
+  pub pure-before : 7 < n → m ≡ without l outs → m ≡ beforeBy x classes outs l
+  pure-before h w = rw (le-ltb (numberOf x) 6 (omega arith), lt-ltb 7 (numberOf x) (omega arith)) w
 
-  module _ (classes : List ℕ) (l : Vars) {m : Vars} where
-    pub before-computes : {n : ℕ} → roleOf k ≡ Computes → n ≡ operandCount k → m ≡ plus (without l (bytesAt b (p + 1) 1)) (bytesAt b (p + 2) (n - 1))
-        → m ≡ liveBefore classes (recordAt b p) l
-    before-computes {n} e h q =
-        let c : n - 1 ≡ length ((rowOf k) .ins) = omega (arith, operands-are e) in
-        rw (pure-view s e) (q ∙ ap (λ (i : ℕ). plus (without l (at b (p + 1) ∷ [])) (bytesAt b (p + 2) i)) c)
+  pub access-before : {l′ : Vars} → 6 ≤ n → n ≤ 7 → m ≡ both (belowIn classes 1) l′ → l′ ≡ without l outs → m ≡ beforeBy x classes outs l
+  access-before h k w e = rw (le-ltb (numberOf x) 6 (omega arith), le-ltb 7 (numberOf x) (omega arith)) (w ∙ ap₂ both (below-one classes) e)
 
-  and-true : (t : Bool) → t ≡ (t && true)
-  and-true true = refl
-  and-true false = refl
+pub limit-small : (t : Bool) {limit : ℕ} → limit ≡ cond t 2 1 → limit ≤ 2
+limit-small t e = rw e (cond-all (λ (n : ℕ). n ≤ 2) t (omega arith) (omega arith))
 
-  module _ (l : Vars) where
-    pub dead-computes : {r : Bool} → roleOf k ≡ Computes → r ≡ not (l (at b (p + 1))) → r ≡ dead (viewOf (recordAt b p)) l
-    dead-computes e q = rw (pure-view s e) (q ∙ and-true (not (l (at b (p + 1)))))
+-- the op that stands at a place, by the digits of its kind's entry
+module _ {b : List ℕ} {p k e : ℕ} (s : Stands b p k) (q : e ≡ getD kindTable k 0) where
+  abbrev d : Digits e k
+  d = digits q
 
-    pub dead-constant : {r : Bool} → roleOf k ≡ Constant → r ≡ not (l (at b (p + 1))) → r ≡ dead (viewOf (recordAt b p)) l
-    dead-constant e q = rw (constant-view s e) (q ∙ and-true (not (l (at b (p + 1)))))
+  pub its-role : (rowAt (recordAt b p)) .role ≡ roleNo (roleIn e)
+  its-role = ap (λ (row : Row). row .role) (row-at s ∙ d .row)
 
-    -- only a pure op can be dead
-    pub not-dead : (roleOf k ≡ Computes → ⊥) → (roleOf k ≡ Constant → ⊥) → false ≡ dead (viewOf (recordAt b p)) l
-    not-dead n m = go (roleOf k) refl
-      where
-        go : (r : Role) → roleOf k ≡ r → false ≡ dead (viewOf (recordAt b p)) l
-        go Unknown e = rw (unknown-view s e)
-        go Declares e = rw (declare-view s e)
-        go SetsLabel e = rw (label-view s e)
-        go Jumps e = rw (jump-view s e)
-        go Exits e = rw (leave-view s e)
-        go Constant e = absurd (m e)
-        go Computes e = absurd (n e)
-        go Branches e = rw (branch-view s e)
-        go Loads e = rw (load-view s e)
-        go Stores e = rw (store-view s e)
+  pub its-outputs : outsBy (rowAt (recordAt b p)) (recordAt b p) ≡ bytesAt b (p + 1) (outsIn e)
+  its-outputs = output-bytes s ∙ ap (bytesAt b (p + 1)) (d .outs)
 
-or-self : (t : Bool) → t ≡ (t || t)
-or-self true = refl
-or-self false = refl
+  its-inputs : insBy (rowAt (recordAt b p)) (recordAt b p) ≡ bytesAt b (p + 1 + outsIn e) (insIn e)
+  its-inputs =
+      input-bytes s ∙ ap₂ (λ (n m : ℕ). bytesAt b (p + (1 + n)) m) (d .outs) (d .ins) ∙ ap (λ (n : ℕ). bytesAt b n (insIn e)) (sym (add-assoc p 1 (outsIn e)))
 
--- a set joined with itself
-pub both-self : (l : Vars) (xs : List ℕ) → plus l xs ≡ plus (both l l) xs
-both-self l xs = ap (λ (f : Vars). plus f xs) (λ i v. or-self (l v) i)
+  pub operands-inside : p + 1 + outsIn e + insIn e ≤ length b
+  operands-inside = omega (arith, d .body, s .whole)
+
+  module _ (classes : List ℕ) (l : Vars) where
+    live-is : liveBefore classes (recordAt b p) l
+        ≡ plus (beforeBy (roleNo (roleIn e)) classes (bytesAt b (p + 1) (outsIn e)) l) (bytesAt b (p + 1 + outsIn e) (insIn e))
+    unfolding viewOf
+    live-is =
+        let r = recordAt b p in
+        before-by classes l (rowAt r) r ((rowAt r) .role) (λ z. ap (λ (row : Row). insBy row r) (row-of setsLabel (kindOf r) z))
+        ∙ rw (its-role, its-outputs, its-inputs)
+
+    -- then the inputs
+    pub live-before-is : {m m′ : Vars} → m ≡ beforeBy (roleNo (roleIn e)) classes (bytesAt b (p + 1) (outsIn e)) l → m′ ≡ plus m (bytesAt b (p + 1 + outsIn e) (insIn e))
+        → m′ ≡ liveBefore classes (recordAt b p) l
+    live-before-is w w′ = w′ ∙ ap (λ (m : Vars). plus m (bytesAt b (p + 1 + outsIn e) (insIn e))) w ∙ sym live-is
+
+  dead-is : (l : Vars) → dead (viewOf (recordAt b p)) l ≡ (isPure (roleNo (roleIn e)) && noneIn (bytesAt b (p + 1) (outsIn e)) l)
+  dead-is l = rw (pure-at (recordAt b p), outputs-at (recordAt b p), its-role, its-outputs) (dead-by (roleNo (roleIn e)) (bytesAt b (p + 1) (outsIn e)) l)
+
+  module _ (l : Vars) {n : ℕ} (m : n ≡ numberOf (roleNo (roleIn e))) where
+    pub never-dead : n < 8 → false ≡ dead (viewOf (recordAt b p)) l
+    never-dead h =
+        sym (dead-is l ∙ ap (λ (t : Bool). t && noneIn (bytesAt b (p + 1) (outsIn e)) l) (le-ltb 7 (numberOf (roleNo (roleIn e))) (omega arith)))
+
+    pub dead-if : {t : Bool} → 8 ≤ n → t ≡ noneIn (bytesAt b (p + 1) (outsIn e)) l → t ≡ dead (viewOf (recordAt b p)) l
+    dead-if h q =
+        q ∙ sym (dead-is l ∙ ap (λ (t : Bool). t && noneIn (bytesAt b (p + 1) (outsIn e)) l) (lt-ltb 7 (numberOf (roleNo (roleIn e))) (omega arith)))
+
+-- the loop over the outputs
+pub none-each : (l : Vars) (vs : List ℕ) → eachBy (λ s v. not (l v)) (λ s. s) 0 vs ≡ noneIn vs l
+none-each l [] = refl
+none-each l (v ∷ vs) = rw (none-each l vs)

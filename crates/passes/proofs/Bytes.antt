@@ -13,9 +13,9 @@ use native.Mathlib.Nat.{zero-add}
 use native.Mathlib.Numerals.{add-one}
 use Rattle.theory.proofs.Sets.{tell}
 use Rattle.memory.proofs.Digits.{room}
-use Rattle.ops.specs.Kinds.{known}
+use Rattle.ops.specs.Kinds.{roleOf, known}
 use Rattle.ops.specs.Ops.{kindOf}
-use Rattle.ops.specs.Table.{roleOf}
+use Rattle.ops.specs.Rows.{computing}
 use Rattle.block.specs.Records.{recordsOf, concat, opsFrom}
 use Rattle.block.specs.Scan.{recordAt, Stands}
 use Rattle.block.proofs.Cut.{whole}
@@ -23,7 +23,6 @@ use Rattle.block.proofs.Fields.{kind-at}
 use Rattle.block.proofs.Places.{standing}
 use Rattle.passes.specs.Choose.{pickOp, chosenFrom, keptFrom, OpsHere, bytesFrom, Foldable, Emittable, Chosen, EmitsAt}
 use Rattle.passes.proofs.Stores.{sets-append}
-use Rattle.ops.specs.declared.Role.the-variants.{Computes}
 
 -- the i-th op of a block, at its place
 pub record ThisOp (b places : List ℕ) (os : List (List ℕ)) (i : ℕ) : Type 0 where
@@ -72,7 +71,7 @@ foldable-op {b} {places} {folded} {ops} {i} c h =
     let t = this-op (c .here) h in
     record {
       stands = t .stands;
-      folds-only = λ f. subst (λ (k : ℕ). roleOf k ≡ Computes) (t .kind-is) (c .only i (omega (arith, c .here .count-is)) f);
+      folds-only = λ f. subst (λ (k : ℕ). roleOf k ≡ computing) (t .kind-is) (c .only i (omega (arith, c .here .count-is)) f);
     }
 
 -- the bytes so far

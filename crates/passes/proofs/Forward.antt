@@ -13,7 +13,8 @@ use native.Mathlib.Numerals.{add-one}
 use Rattle.theory.specs.Fold.{Known, nothing, put, on, learned, emit, fold as foldOps}
 use Rattle.theory.proofs.Sets.{tell}
 use Rattle.ops.specs.Ops.{kindOf, viewOf, tcg}
-use Rattle.ops.specs.Table.{roleOf}
+use Rattle.ops.specs.Rows.{computing}
+use Rattle.ops.specs.Kinds.{roleOf}
 use Rattle.block.specs.Records.{recordsOf, opsFrom}
 use Rattle.block.specs.Scan.{recordAt}
 use Rattle.passes.specs.Choose.{pickOp, chosenFrom, OpsHere}
@@ -21,11 +22,10 @@ use Rattle.passes.specs.Knows.{knownOf, leftBy, Folds, FoldsAt, FoldsAll
 use Rattle.passes.proofs.Bytes.{ThisOp, this-op}
 use Rattle.passes.proofs.Knowing.{none-known}
 use Rattle.passes.proofs.Result.{rule}
-use Rattle.ops.specs.declared.Role.the-variants.{Computes}
 use Rattle.word.specs.declared.Stated.the-variants.{Value, NoResult}
 use Rattle.word.specs.declared.Stated.{Stated}
 
-module _ {b : List ℕ} {p : ℕ} {known values known′ values′ : List ℕ} {r : Stated} (f : Folds b p (getD b p 0) known values known′ values′ r)
+module _ {b : List ℕ} {p : ℕ} {known values known′ values′ : List ℕ} {r : Stated} (f : Folds b p known values known′ values′ r)
     {folded consts : List ℕ} {i : ℕ} (l : i < length folded) (m : i < length consts) where
   pub value-at : {x : ℕ} → r ≡ Value x → FoldsAt b p i known values known′ values′ folded consts (set folded i 1) (set consts i x)
   value-at {x} e =
@@ -67,7 +67,7 @@ pub record Begins (folded consts f v : List ℕ) (i : ℕ) : Type 0 where
 pub record FoldingSo (b folded consts known values : List ℕ) (os : List (List ℕ)) (i : ℕ) : Type 0 where
   pub goes-on : (f v : List ℕ) → Begins folded consts f v i → chosenFrom i f v (drop i os) ≡ foldOps tcg rule (drop i os) (on (knownOf known values))
       → chosenFrom 0 f v os ≡ foldOps tcg rule os (on nothing)
-  pub only-so : (j : ℕ) → j < i → getD folded j 0 ≡ 1 → roleOf (kindOf (getD os j [])) ≡ Computes
+  pub only-so : (j : ℕ) → j < i → getD folded j 0 ≡ 1 → roleOf (kindOf (getD os j [])) ≡ computing
   pub long-folded : length folded ≡ 256
   pub long-consts : length consts ≡ 256
 
@@ -123,15 +123,15 @@ module _ {b places folded consts folded′ consts′ known values known′ value
       (record { same = λ j l. (n .same j (omega arith) .0 ∙ a .others j l .0, n .same j (omega arith) .1 ∙ a .others j l .1) })
       (chosen-here f v (w .0) (w .1) ∙ ap (λ (q : List (List ℕ)). picked ∷ q) e ∙ sym folds-here)
 
-  only-further : (j : ℕ) → j < suc i → getD folded′ j 0 ≡ 1 → roleOf (kindOf (getD (opsFrom (recordsOf b)) j [])) ≡ Computes
+  only-further : (j : ℕ) → j < suc i → getD folded′ j 0 ≡ 1 → roleOf (kindOf (getD (opsFrom (recordsOf b)) j [])) ≡ computing
   only-further j l z = go (tell (ltb j i))
     where
-      go : (ltb j i ≡ true) ⊎ (ltb j i ≡ false) → roleOf (kindOf (getD (opsFrom (recordsOf b)) j [])) ≡ Computes
+      go : (ltb j i ≡ true) ⊎ (ltb j i ≡ false) → roleOf (kindOf (getD (opsFrom (recordsOf b)) j [])) ≡ computing
       go (inl q) = let w = ltb-true j i q in s .only-so j w (sym (a .others j w .0) ∙ z)
       go (inr q) =
           let w = ltb-false j i q in
           let e : i ≡ j = omega arith in
-          let k : roleOf (getD b (getD places i 0) 0) ≡ Computes = a .only-at (ap (λ (n : ℕ). getD folded′ n 0) e ∙ z) in
+          let k : roleOf (getD b (getD places i 0) 0) ≡ computing = a .only-at (ap (λ (n : ℕ). getD folded′ n 0) e ∙ z) in
           ap (λ (n : ℕ). roleOf (kindOf (getD (opsFrom (recordsOf b)) n []))) (sym e) ∙ ap roleOf (t .kind-is) ∙ k
 
   pub folding-step : FoldingSo b folded′ consts′ known′ values′ (opsFrom (recordsOf b)) (i + 1)

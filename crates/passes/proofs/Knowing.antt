@@ -1,34 +1,36 @@
 -- What fold knows, and what it leaves of an op. Assumes nothing.
 use mathlib.Core.Path.{_≡_, refl, sym, ap, ap₂, _∙_, fun-ext}
-use mathlib.Core.Bool.{Bool, true, false, cond, _&&_, false≢true, true≢false}
+use mathlib.Core.Bool.{Bool, true, false, cond, not, _&&_, _||_, true≢false}
+use mathlib.Core.Logic.{_⊎_, inl, inr}
 use mathlib.Core.Option.{Option, none, some}
 use mathlib.Core.List.{List, [], _∷_}
-use Prim.Native.Nat.{ℕ, zero, suc, _+_, _-_, _≤_, _<_}
+use Prim.Native.Nat.{ℕ, _+_, _≤_, _<_}
 use native.Mathlib.Omega.{arith}
-use lib.Dec.{eqb, leb}
-use lib.ListN.{length, getD, replicate}
-use native.Mathlib.Nat.{sub-zero, add-zero}
-use Rattle.theory.specs.Fold.{Rewrite, nothing, put, learned, consO, allKnown, bindO, tried, baseRule}
-use Rattle.theory.specs.Machine.{View, calc, label, computes as stated, inputs, upd, reads}
-use Rattle.theory.specs.Sets.{Vars}
-use Rattle.theory.proofs.Rule.{base-stays}
-use Rattle.theory.proofs.Sets.{and-l, and-r}
+use lib.Arith.{lt-of-le-ne}
+use lib.Dec.{eqb, ltb}
+use lib.ListN.{getD, replicate}
+use borrow.Author.Tests.{ltb-true, lt-ltb, le-ltb}
+use Rattle.theory.specs.Fold.{Known, nothing, put, learned, given, gain, consO, allKnown, bindO, tried, baseRule}
+use Rattle.theory.specs.Machine.{View, calc, access, label, flow, computes as stated, inputs, outputs, pure, closes, upd, reads, writes}
+use Rattle.theory.specs.Sets.{Vars, has, without}
+use Rattle.theory.proofs.Sets.{and-l, and-r, tell, clash}
+use Rattle.theory.proofs.Views.{no-some}
 use Rattle.memory.specs.Bytes.{lowFirst}
-use Rattle.ops.specs.Kinds.{at, rowOf, isPure}
-use Rattle.ops.specs.Ops.{jump, leave, rowAt, bytesAt, Fault, viewOf, tcg, foldableRow, folding}
-use Rattle.ops.specs.Table.{operandCount, roleOf, opWidth}
-use Rattle.ops.proofs.Folding.{const-view, constants}
-use Rattle.ops.proofs.Inputs.{computes-fold}
-use Rattle.ops.proofs.RoleRows.{row-of}
+use Rattle.ops.specs.Rows.{constant, computing, roleNo, Row, outsIn, insIn, roleIn, numberOf, isPure, isComputing, isClosing, at}
+use Rattle.ops.specs.Kinds.{kindTable, roleOf}
+use Rattle.ops.specs.Ops.{rowAt, bytesAt, Fault, viewOf, tcg, foldableRow, folding}
+use Rattle.ops.proofs.Entry.{digits}
+use Rattle.ops.proofs.Folding.{const-view, computing-role}
+use Rattle.ops.proofs.Traits.{closes-at, pure-at, outputs-at}
 use Rattle.block.specs.Scan.{recordAt, Stands, SetAt, marked}
 use Rattle.block.proofs.MarkSets.{at-place, marked-none}
-use Rattle.block.proofs.Views.{constantView, branchView, loadView, storeView, body-from, byte, row-at, unknown-view, declare-view, label-view, jump-view}
-use Rattle.block.proofs.Views.{leave-view, branch-view, load-view, store-view, constant-view, pure-view}
+use Rattle.block.proofs.Operands.{eachBy}
+use Rattle.block.proofs.Views.{body-from, byte, row-at, constant-view, pure-view}
 use Rattle.runs.specs.Evaluates.{Computed, inputsAt, statesAt, valuesOf, envOf}
-use Rattle.passes.specs.Knows.{knownOf, allMarked, StatesKnown, Folds}
-use Rattle.passes.proofs.Before.{operands-are}
-use Rattle.ops.specs.declared.Role.the-variants.{Unknown, Declares, SetsLabel, Jumps, Exits, Constant, Computes, Branches, Loads, Stores}
-use Rattle.ops.specs.declared.Role.{Role}
+use Rattle.runs.proofs.Roles.{number-of, role-by}
+use Rattle.passes.specs.Knows.{knownOf, allMarked, statedBy, StatesKnown, Stays, Folds}
+use Rattle.passes.proofs.Before.{its-role, its-outputs}
+use Rattle.passes.proofs.Emitting.{computing-folds, one-output}
 use Rattle.word.specs.declared.Stated.the-variants.{Value, NoResult}
 use Rattle.word.specs.declared.Stated.{Stated}
 
@@ -42,49 +44,31 @@ put-known {known} {known′} {values} {values′} {v} {x} s t =
     go true u = refl
     go false u = refl
 
-pub put-unknown : {known known′ : List ℕ} {v : ℕ} (values : List ℕ) → SetAt known v 0 known′ → knownOf known′ values ≡ upd (knownOf known values) v none
-put-unknown {known} {known′} {v} values s = fun-ext (λ u. ap (λ (n : ℕ). cond (eqb n 1) (some (getD values u 0)) none) (at-place s u) ∙ go (eqb v u) u)
-  where
-    go : (b : Bool) (u : ℕ) → cond (eqb (cond b 0 (getD known u 0)) 1) (some (getD values u 0)) none ≡ cond b none (knownOf known values u)
-    go true u = refl
-    go false u = refl
-
 pub none-known : {known : List ℕ} (values : List ℕ) → known ≡ replicate 256 0 → knownOf known values ≡ nothing
 none-known values e = fun-ext (λ v. ap (λ (l : Vars). cond (l v) (some (getD values v 0)) none) (marked-none 256 e))
 
--- the first j bytes name variables that are known
-pub record KnownSo (b known : List ℕ) (start count j : ℕ) : Type 0 where
-  pub so-far : allMarked (marked known) (bytesAt b (start + j) (count - j)) ≡ allMarked (marked known) (bytesAt b start count)
+-- variables that are unmarked become unknown
+writes-none : (k : Known ℕ) (outs : List ℕ) (v : ℕ) → writes none k outs [] v ≡ cond (has outs v) none (k v)
+writes-none k [] v = refl
+writes-none k (o ∷ outs) v = writes-none (upd k o none) outs v ∙ go (eqb o v) (has outs v)
+  where
+    go : (t h : Bool) → cond h none (cond t none (k v)) ≡ cond (t || h) none (k v)
+    go true true = refl
+    go true false = refl
+    go false h = refl
 
-pub known-start : {b known : List ℕ} {start count : ℕ} → KnownSo b known start count 0
-known-start {b} {known} {start} {count} = record { so-far = ap₂ (λ (n m : ℕ). allMarked (marked known) (bytesAt b n m)) (add-zero start) (sub-zero count) }
+forgets : (known known′ values outs : List ℕ) → marked known′ ≡ without (marked known) outs → knownOf known′ values ≡ writes none (knownOf known values) outs []
+forgets known known′ values outs e =
+    fun-ext (λ v. ap (λ (l : Vars). cond (l v) (some (getD values v 0)) none) e ∙ go (has outs v) (marked known v) (getD values v 0) ∙ sym (writes-none (knownOf known values) outs v))
+  where
+    go : (h m : Bool) (x : ℕ) → cond (not h && m) (some x) none ≡ cond h none (cond m (some x) none)
+    go true m x = refl
+    go false m x = refl
 
-module _ {b known : List ℕ} {start count j : ℕ} (s : KnownSo b known start count j) (h : j < count) where
-  first-of : allMarked (marked known) (bytesAt b (start + j) (count - j)) ≡ (marked known (getD b (start + j) 0) && allMarked (marked known) (bytesAt b (suc (start + j)) (count - (j + 1))))
-  first-of = let e : count - j ≡ suc (count - (j + 1)) = omega arith in ap (λ (n : ℕ). allMarked (marked known) (bytesAt b (start + j) n)) e
-
-  pub known-step : marked known (getD b (start + j) 0) ≡ true → KnownSo b known start count (j + 1)
-  known-step k =
-      let q : start + (j + 1) ≡ suc (start + j) = omega arith in
-      record {
-        so-far =
-            ap (λ (n : ℕ). allMarked (marked known) (bytesAt b n (count - (j + 1)))) q
-            ∙ sym (ap (λ (t : Bool). t && allMarked (marked known) (bytesAt b (suc (start + j)) (count - (j + 1)))) k)
-            ∙ sym first-of ∙ s .so-far;
-      }
-
-  pub known-stops : marked known (getD b (start + j) 0) ≡ false → false ≡ allMarked (marked known) (bytesAt b start count)
-  known-stops k =
-      sym (ap (λ (t : Bool). t && allMarked (marked known) (bytesAt b (suc (start + j)) (count - (j + 1)))) k)
-      ∙ sym first-of ∙ s .so-far
-
-pub known-ends : {b known : List ℕ} {start count j : ℕ} → KnownSo b known start count j → count ≤ j → true ≡ allMarked (marked known) (bytesAt b start count)
-known-ends {b} {known} {start} {count} {j} s h =
-    let e : count - j ≡ 0 = omega arith in sym (ap (λ (n : ℕ). allMarked (marked known) (bytesAt b (start + j) n)) e) ∙ s .so-far
-
--- document 01's rule at an op with the view w
-abbrev ruleOn : List ℕ → View ℕ (List ℕ) ℕ Fault → List (Option ℕ) → Rewrite (List ℕ)
-ruleOn o w ks = cond (foldableRow (rowAt o)) (tried tcg folding o (bindO (stated w) (allKnown ks))) (put o)
+-- the loop over the inputs
+pub all-each : (l : Vars) (vs : List ℕ) → eachBy (λ s v. l v) (λ s. s) 0 vs ≡ allMarked l vs
+all-each l [] = refl
+all-each l (v ∷ vs) = rw (all-each l vs)
 
 -- the values of inputs that are all known
 inputs-known : (known values xs : List ℕ) → allMarked (marked known) xs ≡ true → allKnown (reads (knownOf known values) xs) ≡ some (reads (envOf values) xs)
@@ -102,130 +86,137 @@ inputs-unknown known values (x ∷ xs) h = go (marked known x) h (inputs-unknown
     go true e ih = ap (consO (getD values x 0)) (ih e)
     go false e ih = refl
 
-module _ {b : List ℕ} {p k : ℕ} (c : Computed b p k) (known values : List ℕ) {n : ℕ} {t : Bool} (e : n ≡ operandCount k) (q : t ≡ allMarked (marked known) (bytesAt b (p + 2) (n - 1))) where
+-- an op is a pure one that reads something, by its kind's entry
+pub computed-at : {b : List ℕ} {p k e : ℕ} → Stands b p k → e ≡ getD kindTable k 0 → isComputing (roleNo (roleIn e)) ≡ true → Computed b p k
+computed-at {e = e} s q h = record { stands = s; role-is = ap (λ (row : Row). row .role) ((digits q) .row) ∙ computing-role (roleNo (roleIn e)) h }
+
+-- what it is known to state
+module _ {b : List ℕ} {p k : ℕ} (c : Computed b p k) {e : ℕ} (q : e ≡ getD kindTable k 0) (known values : List ℕ) {n m : ℕ} {t : Bool}
+    (en : n ≡ outsIn e) (em : m ≡ insIn e) (w : t ≡ allMarked (marked known) (bytesAt b (p + 1 + n) m)) where
   these : t ≡ allMarked (marked known) (inputsAt b p k)
-  these = let z : n - 1 ≡ length ((rowOf k) .ins) = omega (arith, operands-are (c .stands) (c .role-is)) in q ∙ ap (λ (i : ℕ). allMarked (marked known) (bytesAt b (p + 2) i)) z
+  these =
+      let z : p + 1 + n ≡ p + 2 = omega (arith, one-output k q (c .role-is)) in
+      w ∙ ap₂ (λ (i j : ℕ). allMarked (marked known) (bytesAt b i j)) z (em ∙ sym ((digits q) .ins))
 
-  pub states-known : {r : Stated} → t ≡ true → statesAt b p k (reads (envOf values) (inputsAt b p k)) ≡ valuesOf r → StatesKnown b p k known values r
-  states-known h s = record { states-so = ap (bindO (statesAt b p k)) (inputs-known known values (inputsAt b p k) (sym these ∙ h)) ∙ s }
+  stated-is : statedBy (knownOf known values) (recordAt b p) ≡ bindO (statesAt b p k) (allKnown (reads (knownOf known values) (inputsAt b p k)))
+  stated-is = rw (ap foldableRow (row-at (c .stands)) ∙ computing-folds k (c .role-is), pure-view (c .stands) (c .role-is))
 
-  pub unknown-states : t ≡ false → StatesKnown b p k known values NoResult
-  unknown-states h = record { states-so = ap (bindO (statesAt b p k)) (inputs-unknown known values (inputsAt b p k) (sym these ∙ h)) }
+  pub states-known : {r : Stated} → t ≡ true → statesAt b p k (reads (envOf values) (inputsAt b p k)) ≡ valuesOf r → StatesKnown b p known values r
+  states-known h s = record { states-so = stated-is ∙ ap (bindO (statesAt b p k)) (inputs-known known values (inputsAt b p k) (sym these ∙ h)) ∙ s }
 
--- fold at a pure op that reads something
-module _ {b : List ℕ} {p k : ℕ} (c : Computed b p k) (l : k < 256) where
-  views : viewOf (recordAt b p) ≡ calc (at b (p + 1) ∷ []) (inputsAt b p k) (statesAt b p k)
-  views = pure-view (c .stands) (c .role-is)
+  pub unknown-states : t ≡ false → StatesKnown b p known values NoResult
+  unknown-states h = record { states-so = stated-is ∙ ap (bindO (statesAt b p k)) (inputs-unknown known values (inputsAt b p k) (sym these ∙ h)) }
 
-  foldable-here : foldableRow (rowAt (recordAt b p)) ≡ true
-  foldable-here = ap foldableRow (row-at (c .stands)) ∙ computes-fold k l (c .role-is)
+-- no other op is known to state anything
+pub others-state : {b : List ℕ} {p k e : ℕ} → Stands b p k → e ≡ getD kindTable k 0 → (known values : List ℕ) → isComputing (roleNo (roleIn e)) ≡ false
+    → StatesKnown b p known values NoResult
+others-state {b} {p} s q known values h = record { states-so = rw (its-role s q, h) }
 
-  output-byte : at (recordAt b p) 1 ≡ at b (p + 1)
-  output-byte = byte (c .stands) 1 (body-from Computes k (c .role-is))
+-- fold's rule, by what is known to be stated
+rule-is : (k : Known ℕ) (o : List ℕ) → baseRule tcg folding k o ≡ tried tcg folding o (statedBy k o)
+rule-is k o = go (foldableRow (rowAt o)) (bindO (stated (viewOf o)) (allKnown (reads k (inputs (viewOf o)))))
+  where
+    go : (t : Bool) (x : Option (List ℕ)) → cond t (tried tcg folding o x) (put o) ≡ tried tcg folding o (cond t x none)
+    go true x = refl
+    go false x = refl
 
-  some-input : (n : ℕ) × (length ((rowOf k) .ins) ≡ suc n)
-  some-input = go (length ((rowOf k) .ins)) refl
+-- an op that is known to state a value
+module _ {b : List ℕ} {p : ℕ} (s : Stands b p (getD b p 0)) {known values : List ℕ} {r : Stated} {x : ℕ} (w : StatesKnown b p known values r) (e : r ≡ Value x) where
+  value-so : statedBy (knownOf known values) (recordAt b p) ≡ some (x ∷ [])
+  value-so = w .states-so ∙ ap valuesOf e
+
+  may-fold : foldableRow (rowAt (recordAt b p)) ≡ true
+  may-fold = go (foldableRow (rowAt (recordAt b p))) (bindO (stated (viewOf (recordAt b p))) (allKnown (reads (knownOf known values) (inputs (viewOf (recordAt b p)))))) value-so
     where
-      go : (n : ℕ) → length ((rowOf k) .ins) ≡ n → (m : ℕ) × (length ((rowOf k) .ins) ≡ suc m)
-      go zero e =
-          absurd
-          (false≢true
-          (sym (ap (λ (n : ℕ). leb 1 n) e)
-          ∙ and-r (eqb (length ((rowOf k) .outs)) 1) (leb 1 (length ((rowOf k) .ins))) (and-r (isPure ((rowOf k) .does)) _ (computes-fold k l (c .role-is)))))
-      go (suc n) e = (n, e)
+      go : (t : Bool) (y : Option (List ℕ)) → cond t y none ≡ some (x ∷ []) → t ≡ true
+      go true y h = refl
+      go false y h = no-some h
 
-  module _ (known values : List ℕ) where
-    rule-is : (q : Option (List ℕ)) → bindO (statesAt b p k) (allKnown (reads (knownOf known values) (inputsAt b p k))) ≡ q
-        → baseRule tcg folding (knownOf known values) (recordAt b p) ≡ tried tcg folding (recordAt b p) q
-    rule-is q e =
-        ap (λ (w : View ℕ (List ℕ) ℕ Fault). ruleOn (recordAt b p) w (reads (knownOf known values) (inputs w))) views
-        ∙ ap (λ (t : Bool). cond t (tried tcg folding (recordAt b p) (bindO (statesAt b p k) (allKnown (reads (knownOf known values) (inputsAt b p k))))) (put (recordAt b p))) foldable-here
-        ∙ ap (tried tcg folding (recordAt b p)) e
+  pub computes-so : roleOf (getD b p 0) ≡ computing
+  computes-so =
+      sym (ap (λ (row : Row). row .role) (row-at s)) ∙ computing-role ((rowAt (recordAt b p)) .role) (and-l (isComputing ((rowAt (recordAt b p)) .role)) _ may-fold)
 
-    const-shape : (x : ℕ) → bindO (statesAt b p k) (allKnown (reads (knownOf known values) (inputsAt b p k))) ≡ some (x ∷ [])
-        → viewOf (folding .const (recordAt b p) x) ≡ calc (at b (p + 1) ∷ []) [] (λ ys. some (x ∷ []))
-    const-shape x e = go (allKnown (reads (knownOf known values) (inputsAt b p k))) e
-      where
-        go : (ks : Option (List ℕ)) → bindO (statesAt b p k) ks ≡ some (x ∷ []) → viewOf (folding .const (recordAt b p) x) ≡ calc (at b (p + 1) ∷ []) [] (λ ys. some (x ∷ []))
-        go none h = let z : _≡_ {A = ℕ} 0 1 = cc in absurd (omega arith)
-        go (some xs) h =
-            let q : viewOf (folding .const (recordAt b p) x) ≡ calc (at (recordAt b p) 1 ∷ []) [] (λ ys. some (x ∷ [])) =
-            const-view (recordAt b p) xs (x ∷ []) foldable-here (ap (λ (w : View ℕ (List ℕ) ℕ Fault). stated w xs) views ∙ h) in
-            q ∙ ap (λ (n : ℕ). calc (n ∷ []) [] (λ ys. some (x ∷ []))) output-byte
+  const-shape : viewOf (folding .const (recordAt b p) x) ≡ calc (at b (p + 1) ∷ []) [] (λ ys. some (x ∷ []))
+  const-shape = go (allKnown (reads (knownOf known values) (inputs (viewOf (recordAt b p))))) (rw may-fold at value-so)
+    where
+      go : (ks : Option (List ℕ)) → bindO (stated (viewOf (recordAt b p))) ks ≡ some (x ∷ []) → viewOf (folding .const (recordAt b p) x) ≡ calc (at b (p + 1) ∷ []) [] (λ ys. some (x ∷ []))
+      go none h = no-some h
+      go (some xs) h =
+          const-view (recordAt b p) xs (x ∷ []) may-fold h ∙ ap (λ (n : ℕ). calc (n ∷ []) [] (λ ys. some (x ∷ []))) (byte s 1 (body-from computing (getD b p 0) computes-so))
 
-    pub folds-value : {r : Stated} {x : ℕ} {known′ values′ : List ℕ} → StatesKnown b p k known values r → r ≡ Value x → knownOf known′ values′ ≡ upd (knownOf known values) (at b (p + 1)) (some x)
-        → Folds b p k known values known′ values′ (Value x)
-    folds-value {r} {x} s e u =
-        let q : bindO (statesAt b p k) (allKnown (reads (knownOf known values) (inputsAt b p k))) ≡ some (x ∷ []) = s .states-so ∙ ap valuesOf e in
-        record {
-          rule-so = rule-is (some (x ∷ [])) q;
-          known-so = u ∙ sym (ap (learned (knownOf known values)) (const-shape x q));
-          only-so = λ y z. c .role-is;
-        }
-
-    pub folds-none : {r : Stated} {known′ : List ℕ} → StatesKnown b p k known values r → r ≡ NoResult → SetAt known (at b (p + 1)) 0 known′ → Folds b p k known values known′ values NoResult
-    folds-none {r} {known′} s e u =
-        record {
-          rule-so = rule-is none (s .states-so ∙ ap valuesOf e);
-          known-so =
-              put-unknown values u
-              ∙ sym
-              (ap (learned (knownOf known values)) views
-              ∙ ap (λ (n : ℕ). learned {Mem = List ℕ} {Out = ℕ} {Flt = Fault} (knownOf known values) (calc (at b (p + 1) ∷ []) (bytesAt b (p + 2) n) (statesAt b p k))) (some-input .1));
-          only-so = λ y z. c .role-is;
-        }
+  pub folds-value : {known′ values′ : List ℕ} → knownOf known′ values′ ≡ upd (knownOf known values) (at b (p + 1)) (some x) → Folds b p known values known′ values′ (Value x)
+  folds-value u =
+      record {
+        rule-so = rule-is (knownOf known values) (recordAt b p) ∙ ap (tried tcg folding (recordAt b p)) value-so;
+        known-so = u ∙ sym (ap (learned (knownOf known values)) const-shape);
+        only-so = λ y z. computes-so;
+      }
 
 no-value : (x : ℕ) → NoResult ≡ Value x → ⊥
 no-value x e = let z : _≡_ {A = ℕ} 0 1 = cc in omega arith
 
--- fold at any other op
-module _ {b : List ℕ} {p k : ℕ} (s : Stands b p k) (known values : List ℕ) where
-  left-as : {known′ values′ : List ℕ} (w : View ℕ (List ℕ) ℕ Fault) → viewOf (recordAt b p) ≡ w
-      → baseRule tcg folding (knownOf known values) (recordAt b p) ≡ put (recordAt b p) → knownOf known′ values′ ≡ learned (knownOf known values) w
-      → Folds b p k known values known′ values′ NoResult
-  left-as w e r q =
-      record {
-        rule-so = r;
-        known-so = q ∙ sym (ap (learned (knownOf known values)) e);
-        only-so = λ x z. absurd (no-value x z);
-      }
+-- any other op stays
+pub folds-none : {b : List ℕ} {p : ℕ} {known values known′ values′ : List ℕ} → StatesKnown b p known values NoResult
+    → Stays b p known values known′ values′ → Folds b p known values known′ values′ NoResult
+folds-none {b} {p} {known} {values} w u =
+    record {
+      rule-so = rule-is (knownOf known values) (recordAt b p) ∙ ap (tried tcg folding (recordAt b p)) (w .states-so);
+      known-so = u .known-after;
+      only-so = λ x z. absurd (no-value x z);
+    }
 
-  -- an op that computes nothing stays
-  other-as : {known′ values′ : List ℕ} (w : View ℕ (List ℕ) ℕ Fault) → viewOf (recordAt b p) ≡ w → ((xs : List ℕ) → stated w xs ≡ none) → knownOf known′ values′ ≡ learned (knownOf known values) w
-      → Folds b p k known values known′ values′ NoResult
-  other-as w e n q = left-as w e (base-stays tcg folding constants (knownOf known values) (recordAt b p) (λ xs. ap (λ (v : View ℕ (List ℕ) ℕ Fault). stated v xs) e ∙ n xs)) q
+-- an op that states nothing of what is known gives no value
+no-gain : (k : Known ℕ) (ins : List ℕ) (f : List ℕ → Option (List ℕ)) → bindO f (allKnown (reads k ins)) ≡ none → gain ins f ≡ []
+no-gain k [] f h = ap given h
+no-gain k (i ∷ ins) f h = refl
 
-  constant-stays : roleOf k ≡ Constant → foldableRow (rowAt (recordAt b p)) ≡ false
-  constant-stays e = ap foldableRow (row-at s ∙ row-of Constant k e)
+-- an op that is not pure computes nothing
+impure : (w : View ℕ (List ℕ) ℕ Fault) → pure w ≡ false → (ks : Option (List ℕ)) → bindO (stated w) ks ≡ none
+impure (calc outs ins f) h ks = clash true refl h
+impure (access outs ins f) h none = refl
+impure (access outs ins f) h (some xs) = refl
+impure (label l) h none = refl
+impure (label l) h (some xs) = refl
+impure (flow ins c y) h none = refl
+impure (flow ins c y) h (some xs) = refl
 
-  pub over-constant : {known′ values′ : List ℕ} {x : ℕ} → roleOf k ≡ Constant → x ≡ lowFirst b (p + 2) 8
-      → knownOf known′ values′ ≡ upd (knownOf known values) (at b (p + 1)) (some x) → Folds b p k known values known′ values′ NoResult
-  over-constant {known′} {values′} {x} e h u =
-      left-as (constantView (at b (p + 1)) (lowFirst b (p + 2) 8)) (constant-view s e)
-      (rw (constant-stays e))
-      (u ∙ ap (λ (y : ℕ). upd (knownOf known values) (at b (p + 1)) (some y)) h)
+-- what is known after an op that stays, by the number of its role
+module _ {b : List ℕ} {p k : ℕ} (s : Stands b p k) {e n : ℕ} (q : e ≡ getD kindTable k 0) (m : n ≡ numberOf (roleNo (roleIn e))) (known values : List ℕ) where
+  pub is-constant : n ≡ 8 → roleOf k ≡ constant
+  is-constant h = role-by constant k q m h
 
-  pub over-load : {known′ : List ℕ} → roleOf k ≡ Loads → SetAt known (at b (p + 1)) 0 known′ → Folds b p k known values known′ values NoResult
-  over-load e u = other-as (loadView (opWidth k) (at b (p + 1)) (at b (p + 2)) (at b (p + 3))) (load-view s e) (λ xs. refl) (put-unknown values u)
+  pub over-constant : {known′ values′ : List ℕ} {x : ℕ} → n ≡ 8 → x ≡ lowFirst b (p + 2) 8 → knownOf known′ values′ ≡ upd (knownOf known values) (at b (p + 1)) (some x)
+      → Stays b p known values known′ values′
+  over-constant h y u =
+      record { known-after = u ∙ ap (λ (z : ℕ). upd (knownOf known values) (at b (p + 1)) (some z)) y ∙ sym (ap (learned (knownOf known values)) (constant-view s (is-constant h))) }
 
-  pub over-store : roleOf k ≡ Stores → Folds b p k known values known values NoResult
-  over-store e = other-as (storeView (at b (p + 1)) (at b (p + 2)) (at b (p + 3))) (store-view s e) (λ xs. refl) refl
+  closing : closes (viewOf (recordAt b p)) ≡ isClosing (roleNo (roleIn e))
+  closing = closes-at (recordAt b p) ∙ ap isClosing (its-role s q)
 
-  pub over-end : {known′ : List ℕ} → (roleOf k ≡ Computes → ⊥) → (roleOf k ≡ Constant → ⊥) → (roleOf k ≡ Loads → ⊥) → (roleOf k ≡ Stores → ⊥) → known′ ≡ replicate 256 0
-      → Folds b p k known values known′ values NoResult
-  over-end {known′} n₁ n₂ n₃ n₄ z = go (roleOf k) refl
-    where
-      u : knownOf known′ values ≡ nothing
-      u = none-known values z
+  pub over-end : {known′ : List ℕ} → n < 6 → known′ ≡ replicate 256 0 → Stays b p known values known′ values
+  over-end h z = record { known-after = none-known values z ∙ rw (closing ∙ lt-ltb (numberOf (roleNo (roleIn e))) 6 (omega arith)) }
 
-      go : (r : Role) → roleOf k ≡ r → Folds b p k known values known′ values NoResult
-      go Unknown e = other-as (leave 0) (unknown-view s e) (λ xs. refl) u
-      go Declares e = other-as (leave 0) (declare-view s e) (λ xs. refl) u
-      go SetsLabel e = other-as (label (at b (p + 1))) (label-view s e) (λ xs. refl) u
-      go Jumps e = other-as (jump (at b (p + 1))) (jump-view s e) (λ xs. refl) u
-      go Exits e = other-as (leave (at b (p + 1))) (leave-view s e) (λ xs. refl) u
-      go Constant e = absurd (n₂ e)
-      go Computes e = absurd (n₁ e)
-      go Branches e = other-as (branchView (opWidth k) (at b (p + 1)) (at b (p + 2)) (at b (p + 3)) (at b (p + 4))) (branch-view s e) (λ xs. refl) u
-      go Loads e = absurd (n₃ e)
-      go Stores e = absurd (n₄ e)
+  module _ (h : 6 ≤ n) (i : n ≡ 8 → ⊥) (w : StatesKnown b p known values NoResult) where
+    abbrev o : List ℕ
+    o = recordAt b p
+
+    nothing-stated : bindO (stated (viewOf o)) (allKnown (reads (knownOf known values) (inputs (viewOf o)))) ≡ none
+    nothing-stated = go (tell (ltb 7 (numberOf (roleNo (roleIn e)))))
+      where
+        go : (isPure (roleNo (roleIn e)) ≡ true) ⊎ (isPure (roleNo (roleIn e)) ≡ false) → bindO (stated (viewOf o)) (allKnown (reads (knownOf known values) (inputs (viewOf o)))) ≡ none
+        go (inl t) =
+            let j : 7 < n = omega (arith, ltb-true 7 (numberOf (roleNo (roleIn e))) t) in
+            let nine : n ≡ 9 = omega (arith, number-of (roleNo (roleIn e)) .1, lt-of-le-ne {i = 8} {k = n} (omega arith) (λ z. i (sym z))) in
+            rw (ap foldableRow (row-at s) ∙ computing-folds k (role-by computing k q m nine)) at (w .states-so)
+        go (inr t) = impure (viewOf o) (pure-at o ∙ ap isPure (its-role s q) ∙ t) (allKnown (reads (knownOf known values) (inputs (viewOf o))))
+
+    pub over-others : {known′ : List ℕ} → marked known′ ≡ without (marked known) (bytesAt b (p + 1) (outsIn e)) → Stays b p known values known′ values
+    over-others {known′} u =
+        let stays : isClosing (roleNo (roleIn e)) ≡ false = le-ltb (numberOf (roleNo (roleIn e))) 6 (omega arith) in
+        let outs : outputs (viewOf o) ≡ bytesAt b (p + 1) (outsIn e) =
+        outputs-at o ∙ ap₂ (λ (t : Bool) (xs : List ℕ). cond t [] xs) (ap isClosing (its-role s q) ∙ stays) (its-outputs s q) in
+        record {
+          known-after =
+              forgets known known′ values (bytesAt b (p + 1) (outsIn e)) u
+              ∙ sym (rw (closing ∙ stays) (ap₂ (λ (xs : List ℕ) (ys : List (Option ℕ)). writes none (knownOf known values) xs ys) outs (no-gain (knownOf known values) (inputs (viewOf o)) (stated (viewOf o)) nothing-stated)));
+        }

@@ -1,33 +1,22 @@
 -- Sets of live variables, and how stores in the array change them. Assumes nothing.
 use mathlib.Core.Path.{_≡_, refl, sym, ap, ap₂, _∙_, fun-ext}
-use mathlib.Core.Bool.{Bool, true, false, cond, not, _&&_, _||_}
+use mathlib.Core.Bool.{Bool, true, false, cond, _&&_, _||_}
 use mathlib.Core.List.{List, [], _∷_}
 use mathlib.Core.Logic.{_⊎_, inl, inr}
-use Prim.Native.Nat.{ℕ, zero, suc, _+_, _-_, _≤_, _<_}
+use Prim.Native.Nat.{ℕ, zero, suc, _+_, _≤_, _<_}
 use native.Mathlib.Omega.{arith}
 use lib.Dec.{eqb, ltb}
 use lib.ListN.{length, getD, take, replicate, List·getD-eq-default}
 use lib.Seq.{length-take-le, getD-take}
 use borrow.Author.Tests.{ltb-true, ltb-false, eqb-true, eqb-false, lt-ltb, le-ltb}
-use native.Mathlib.Nat.{sub-zero, add-zero}
 use lib.Arith.{lt-of-le-ne}
 use Rattle.theory.specs.Prune.{live}
-use Rattle.theory.specs.Sets.{Vars, has, without, plus, both}
+use Rattle.theory.specs.Sets.{Vars, plus, both}
 use Rattle.theory.proofs.Sets.{tell}
-use Rattle.theory.proofs.Simulation.{more}
-use Rattle.ops.specs.Ops.{bytesAt}
-use Rattle.block.specs.Rules.{start, globalsIn}
+use Rattle.block.specs.Rules.{globalsIn}
 use Rattle.block.specs.Scan.{SetAt, marked}
-use Rattle.block.proofs.MarkSets.{at-place, marked-plus, marked-none}
+use Rattle.block.proofs.MarkSets.{marked-plus, marked-none}
 use Rattle.passes.specs.Live.{belowIn}
-
--- a place that is set to 0 leaves the set
-pub marked-without : {xs ys : List ℕ} {d : ℕ} → SetAt xs d 0 ys → marked ys ≡ without (marked xs) (d ∷ [])
-marked-without {xs} {ys} {d} s = fun-ext (λ v. ap (λ (n : ℕ). eqb n 1) (at-place s v) ∙ go (eqb d v) (getD xs v 0))
-  where
-    go : (b : Bool) (y : ℕ) → eqb (cond b 0 y) 1 ≡ (not (b || false) && eqb y 1)
-    go true y = refl
-    go false y = refl
 
 -- a variable whose class is below the limit joins the set
 pub class-marked : {class limit : ℕ} (v : ℕ) {xs ys : List ℕ} → class < limit → SetAt xs v 1 ys → marked ys ≡ cond (ltb class limit) (plus (marked xs) (v ∷ [])) (marked xs)
@@ -119,38 +108,6 @@ classed-step {classes} {live₀} {live} {live′} {limit} {i} h l s e =
 pub classed-end : {classes live₀ live : List ℕ} {limit i n : ℕ} → Classed classes live₀ live limit i → i ≡ n → marked live ≡ both (belowIn (take n classes) limit) (marked live₀)
 classed-end {classes} {live₀} {live} {limit} s e = s .so-far ∙ ap (λ (m : ℕ). both (belowIn (take m classes) limit) (marked live₀)) e
 
--- the first j bytes have been read
-pub record Inputs (b live₀ live : List ℕ) (start count j : ℕ) : Type 0 where
-  pub so-far : plus (marked live) (bytesAt b (start + j) (count - j)) ≡ plus (marked live₀) (bytesAt b start count)
-
-pub inputs-start : {b live : List ℕ} {start count : ℕ} → Inputs b live live start count 0
-inputs-start {b} {live} {start} {count} = record { so-far = ap₂ (λ (n m : ℕ). plus (marked live) (bytesAt b n m)) (add-zero start) (sub-zero count) }
-
-plus-cons : (l : Vars) (x : ℕ) (xs : List ℕ) → plus (plus l (x ∷ [])) xs ≡ plus l (x ∷ xs)
-plus-cons l x xs = fun-ext (λ v. go (eqb x v) (has xs v) (l v))
-  where
-    go : (e h m : Bool) → (h || ((e || false) || m)) ≡ ((e || h) || m)
-    go true true m = refl
-    go true false m = refl
-    go false true m = refl
-    go false false m = refl
-
-pub inputs-step : {b live₀ live live′ : List ℕ} {start count j : ℕ} → Inputs b live₀ live start count j → j < count → SetAt live (getD b (start + j) 0) 1 live′
-    → Inputs b live₀ live′ start count (j + 1)
-inputs-step {b} {live₀} {live} {live′} {start} {count} {j} s h w =
-    let e : count - j ≡ suc (count - (j + 1)) = omega arith in
-    let q : start + (j + 1) ≡ suc (start + j) = omega arith in
-    let more = bytesAt b (suc (start + j)) (count - (j + 1)) in
-    record {
-      so-far =
-          ap₂ (λ (l : Vars) (n : ℕ). plus l (bytesAt b n (count - (j + 1)))) (marked-plus w) q ∙ plus-cons (marked live) (getD b (start + j) 0) more
-          ∙ ap (λ (n : ℕ). plus (marked live) (bytesAt b (start + j) n)) (sym e) ∙ s .so-far;
-    }
-
-pub inputs-end : {b live₀ live : List ℕ} {start count j : ℕ} → Inputs b live₀ live start count j → count ≤ j → marked live ≡ plus (marked live₀) (bytesAt b start count)
-inputs-end {b} {live₀} {live} {start} {count} {j} s h =
-    let e : count - j ≡ 0 = omega arith in ap (λ (n : ℕ). plus (marked live) (bytesAt b (start + j) n)) (sym e) ∙ s .so-far
-
 -- the globals are the variables whose class is below 1
 pub below-one : (classes : List ℕ) → belowIn classes 1 ≡ globalsIn classes
 below-one classes = fun-ext (λ v. go (getD classes v 2))
@@ -173,14 +130,3 @@ ends-set {m} {xs} l e h = h ∙ fun-ext (λ v. ap (λ (f : Vars). l v || f v) (m
     or-false : (t : Bool) → (t || false) ≡ t
     or-false true = refl
     or-false false = refl
-
--- inputs join the set l
-pub then-inputs : {m l l′ : Vars} (xs : List ℕ) → m ≡ plus l xs → l ≡ l′ → m ≡ plus l′ xs
-then-inputs xs e h = e ∙ ap (λ (f : Vars). plus f xs) h
-
--- the globals join the set l
-pub then-globals : {m l l′ : Vars} (classes : List ℕ) → m ≡ both (belowIn classes 1) l → l ≡ l′ → m ≡ both (globalsIn classes) l′
-then-globals classes e h = e ∙ ap₂ both (below-one classes) h
-
-pub exits-set : {m l : Vars} (x : ℕ) (classes : List ℕ) → m ≡ plus l (x ∷ []) → l ≡ belowIn classes 1 → m ≡ plus (globalsIn classes) (x ∷ [])
-exits-set x classes e h = e ∙ ap (λ (f : Vars). plus f (x ∷ [])) (h ∙ below-one classes)

@@ -1,61 +1,61 @@
 -- Prune, op by op from the last. Assumes nothing.
 use mathlib.Core.Path.{_≡_, refl, sym, ap, ap₂, _∙_, subst}
 use mathlib.Core.Bool.{Bool, true, false, cond}
-use mathlib.Core.Option.{some}
-use mathlib.Core.List.{List, [], _∷_, _++_}
+use mathlib.Core.Option.{Option}
+use mathlib.Core.List.{List, [], _∷_}
 use mathlib.Core.Logic.{_⊎_, inl, inr}
-use Prim.Native.Nat.{ℕ, suc, _+_, _-_, _≤_, _<_}
+use Prim.Native.Nat.{ℕ, zero, suc, _+_, _-_, _≤_, _<_}
 use native.Mathlib.Omega.{arith}
 use lib.Dec.{eqb}
 use lib.ListN.{length, getD, drop, set, replicate, length-set, drop-of-length-le}
 use lib.Seq.{drop-cons, getD-set-same, getD-set-other}
 use borrow.Author.Tests.{eqb-true, eqb-false, eq-eqb, ne-eqb}
-use Rattle.theory.specs.Machine.{View, calc, headOr, All}
-use Rattle.theory.specs.Prune.{live}
-use Rattle.theory.specs.Sets.{Vars, both}
+use Rattle.theory.specs.Machine.{View, calc, headOr}
+use Rattle.theory.specs.Sets.{Vars, without, both}
 use Rattle.theory.proofs.Sets.{tell}
-use Rattle.memory.specs.Bytes.{lowFirst, bytesOf}
-use Rattle.ops.specs.Kinds.{Row, at, wideRow, rowOf}
-use Rattle.ops.specs.Ops.{Fault, viewOf, tcg, moviOf, folding}
-use Rattle.ops.proofs.Fits.{Wide, operands-wide}
-use Rattle.ops.proofs.RoleRows.{Computing, row-of}
+use Rattle.memory.specs.Bytes.{bytesOf}
+use Rattle.ops.specs.Rows.{computing, roleNo, Row, outsIn, typesOf, at}
+use Rattle.ops.specs.Kinds.{kindTable, rowOf}
+use Rattle.ops.specs.Ops.{bytesAt, evalOf, Fault, viewOf, tcg, moviKind, moviOf, folding}
+use Rattle.ops.proofs.Fits.{out-small}
+use Rattle.ops.proofs.Table.{Computing, row-of}
 use Rattle.block.specs.Records.{recordsOf, opsFrom}
 use Rattle.block.specs.Rules.{globalsIn, keptIn}
-use Rattle.block.specs.Scan.{recordAt, SetAt, marked}
+use Rattle.block.specs.Scan.{recordAt, marked}
 use Rattle.block.proofs.Views.{body-from, byte, row-at, pure-view}
 use Rattle.passes.specs.Choose.{pickOp, chosenFrom, keptFrom, Foldable, Chosen}
 use Rattle.passes.specs.Live.{belowIn, liveBefore, Prunes, Keeps}
 use Rattle.passes.proofs.Bytes.{this-op}
-use Rattle.passes.proofs.Liveness.{marked-without, below-one, ends-set}
+use Rattle.passes.proofs.Emitting.{computing-folds, one-output}
+use Rattle.passes.proofs.Liveness.{below-one, ends-set}
 use Rattle.theory.specs.Prune.{dead, before, live as liveOps, prune}
-use Rattle.ops.specs.declared.Role.the-variants.{Computes}
 
 -- the view of the constant in an op's place: its output, and no input
-constant-shape : (w d x : ℕ) → Wide w → viewOf (moviOf w d x) ≡ calc (d ∷ []) [] (λ ys. some (lowFirst (bytesOf 8 x) 0 8 ∷ []))
-unfolding viewOf rowOf wideRow
-constant-shape w d x (inl e) = rw e
-constant-shape w d x (inr e) = rw e
+constant-shape : (t d x : ℕ) → t < 2 → viewOf (moviOf t d x) ≡ calc (d ∷ []) [] (evalOf (moviKind t) (bytesOf 8 x))
+unfolding viewOf rowOf kindTable roleNo typesOf
+constant-shape zero d x h = refl
+constant-shape (suc zero) d x h = refl
+constant-shape (suc (suc t)) d x h = absurd (omega arith)
 
 module _ {b : List ℕ} {p folded : ℕ} (f : Foldable b p folded) (e : folded ≡ 1) where
   c : Computing (rowOf (getD b p 0))
-  c = row-of Computes (getD b p 0) (f .folds-only e)
-
-  wide-out : Wide (c .width)
-  wide-out = (subst (λ (os : List ℕ). All Wide (os ++ (rowOf (getD b p 0)) .ins)) (c .one-out) (operands-wide (getD b p 0))) .0
+  c = row-of computing (getD b p 0) (f .folds-only e)
 
   pub record Shape (value : ℕ) : Type 0 where
-    pub shape-is : viewOf (pickOp folded value (recordAt b p)) ≡ calc (at b (p + 1) ∷ []) [] (λ ys. some (lowFirst (bytesOf 8 value) 0 8 ∷ []))
+    pub states : List ℕ → Option (List ℕ)
+    pub shape-is : viewOf (pickOp folded value (recordAt b p)) ≡ calc (at b (p + 1) ∷ []) [] states
 
-  pub constant-here : (value : ℕ) → Shape value
+  constant-here : (value : ℕ) → Shape value
   constant-here value =
       record {
+        states = evalOf (moviKind (c .type)) (bytesOf 8 value);
         shape-is =
             ap (λ (t : Bool). viewOf (cond t (folding .const (recordAt b p) value) (recordAt b p))) (eq-eqb folded 1 e)
-            ∙ ap₂ (λ (w d : ℕ). viewOf (moviOf w d value)) (ap (λ (row : Row). headOr 32 (row .outs)) (row-at (f .stands)) ∙ ap (headOr 32) (c .one-out)) (byte (f .stands) 1 (body-from Computes (getD b p 0) (f .folds-only e)))
-            ∙ constant-shape (c .width) (at b (p + 1)) value wide-out;
+            ∙ ap₂ (λ (t d : ℕ). viewOf (moviOf t d value)) (ap (λ (row : Row). headOr 0 (row .outs)) (row-at (f .stands)) ∙ ap (headOr 0) (c .one-out)) (byte (f .stands) 1 (body-from computing (getD b p 0) (f .folds-only e)))
+            ∙ constant-shape (c .type) (at b (p + 1)) value (subst (λ (ts : List ℕ). at ts 0 < 2) (c .one-out) (out-small (getD b p 0) (computing-folds (getD b p 0) (f .folds-only e))));
       }
 
-  pub dead-same : (value : ℕ) (l : Vars) → dead (viewOf (recordAt b p)) l ≡ dead (viewOf (pickOp folded value (recordAt b p))) l
+  dead-same : (value : ℕ) (l : Vars) → dead (viewOf (recordAt b p)) l ≡ dead (viewOf (pickOp folded value (recordAt b p))) l
   dead-same value l =
       ap (λ (w : View ℕ (List ℕ) ℕ Fault). dead w l) (pure-view (f .stands) (f .folds-only e)) ∙ sym (ap (λ (w : View ℕ (List ℕ) ℕ Fault). dead w l) ((constant-here value) .shape-is))
 
@@ -73,13 +73,13 @@ module _ {b : List ℕ} {p folded : ℕ} (f : Foldable b p folded) (live : List 
   pub prunes-dead : {classes : List ℕ} → t ≡ true → (value : ℕ) → Prunes classes (pickOp folded value (recordAt b p)) live live 0
   prunes-dead h value = let q = dead-is value ∙ h in record { keeps-so = rw q; live-so = rw q }
 
-  pub prunes-constant : {classes live′ : List ℕ} → t ≡ false → folded ≡ 1 → SetAt live (at b (p + 1)) 0 live′
-      → (value : ℕ) → Prunes classes (pickOp folded value (recordAt b p)) live live′ 1
-  prunes-constant {classes} h e s value =
+  pub prunes-constant : {classes live′ : List ℕ} {entry : ℕ} → entry ≡ getD kindTable (getD b p 0) 0 → t ≡ false → folded ≡ 1
+      → marked live′ ≡ without (marked live) (bytesAt b (p + 1) (outsIn entry)) → (value : ℕ) → Prunes classes (pickOp folded value (recordAt b p)) live live′ 1
+  prunes-constant {classes} g h e s value =
       let q = dead-is value ∙ h in
       record {
         keeps-so = rw q;
-        live-so = rw q (marked-without s ∙ sym (ap (λ (w : View ℕ (List ℕ) ℕ Fault). before (globalsIn classes) (keptIn classes) w (marked live)) ((constant-here f e value) .shape-is)));
+        live-so = rw q (s ∙ ap (λ (n : ℕ). without (marked live) (bytesAt b (p + 1) n)) (one-output (getD b p 0) g (f .folds-only e)) ∙ sym (ap (λ (w : View ℕ (List ℕ) ℕ Fault). before (globalsIn classes) (keptIn classes) w (marked live)) ((constant-here f e value) .shape-is)));
       }
 
   pub prunes-kept : {classes live′ : List ℕ} → t ≡ false → (folded ≡ 1 → ⊥) → marked live′ ≡ liveBefore classes (recordAt b p) (marked live)

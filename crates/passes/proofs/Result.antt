@@ -16,10 +16,11 @@ use Rattle.theory.proofs.Fold.{any-fits}
 use Rattle.theory.proofs.Law.{Lawful}
 use Rattle.theory.proofs.Rule.{base-lawful}
 use Rattle.theory.proofs.Sets.{and-r}
-use Rattle.ops.specs.Kinds.{rowOf, known, bodyLength}
+use Rattle.ops.specs.Rows.{typesOf}
+use Rattle.ops.specs.Kinds.{kindTable, rowOf, known, bodyLength}
 use Rattle.ops.specs.Ops.{kindOf, tcg, folding}
 use Rattle.ops.proofs.Folding.{constants}
-use Rattle.ops.proofs.Sizes.{body-short}
+use Rattle.ops.proofs.Table.{body-short}
 use Rattle.block.specs.Checks.{checkOf}
 use Rattle.block.specs.Records.{concat, isDeclaration, classesOf}
 use Rattle.block.proofs.Lenient.{lenient, cutting, admits}
@@ -52,7 +53,7 @@ ops-preserved classes os c =
 
 -- sizes: a declaration has three bytes, an op at most ten
 declaration-size : (r : List ℕ) → whole r ≡ true → isDeclaration r ≡ true → length r ≡ 3
-unfolding rowOf
+unfolding rowOf kindTable typesOf
 declaration-size r w d =
     let k : kindOf r ≡ 0x01 = eqb-true (kindOf r) 0x01 d in
     let l : length r ≡ suc (bodyLength (kindOf r)) = eqb-true (length r) (suc (bodyLength (kindOf r))) (and-r (known (kindOf r)) _ w) in

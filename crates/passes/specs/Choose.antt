@@ -6,9 +6,9 @@ use mathlib.Core.List.{List, [], _∷_}
 use lib.Dec.{eqb}
 use lib.ListN.{length, getD, drop}
 use lib.Seq.{sets}
-use Rattle.ops.specs.declared.Role.the-variants.{Computes}
+use Rattle.ops.specs.Rows.{computing, outsIn, insIn, restIn}
+use Rattle.ops.specs.Kinds.{roleOf}
 use Rattle.ops.specs.Ops.{kindOf, folding}
-use Rattle.ops.specs.Table.{roleOf}
 use Rattle.block.specs.Records.{recordsOf, opsFrom, concat}
 use Rattle.block.specs.Scan.{Stands, recordAt, recordsAt}
 
@@ -34,16 +34,20 @@ pub record OpsHere (block places : List ℕ) (os : List (List ℕ)) (ops : ℕ) 
 
 -- only ops that compute are folded
 abbrev pub FoldsOnly : List ℕ → List (List ℕ) → Type 0
-FoldsOnly folded os = (i : ℕ) → i < length os → getD folded i 0 ≡ 1 → roleOf (kindOf (getD os i [])) ≡ Computes
+FoldsOnly folded os = (i : ℕ) → i < length os → getD folded i 0 ≡ 1 → roleOf (kindOf (getD os i [])) ≡ computing
 
 -- the bytes of the kept ops from the i-th on
 abbrev pub bytesFrom : ℕ → List ℕ → List ℕ → List ℕ → List (List ℕ) → List ℕ
 bytesFrom i folded values keep os = concat (keptFrom i keep (chosenFrom i folded values (drop i os)))
 
+-- how many bytes an op, by its kind's entry, or the constant in its place takes in the result: none if it is not kept
+abbrev pub sizeBy : ℕ → ℕ → ℕ → ℕ
+sizeBy entry folded keep = cond (eqb keep 1) (cond (eqb folded 1) 10 (1 + (outsIn entry + insIn entry + restIn entry))) 0
+
 -- an op stands at the place, and computes if it is folded
 pub record Foldable (block : List ℕ) (place folded : ℕ) : Type 0 where
   pub stands : Stands block place (getD block place 0)
-  pub folds-only : folded ≡ 1 → roleOf (getD block place 0) ≡ Computes
+  pub folds-only : folded ≡ 1 → roleOf (getD block place 0) ≡ computing
 
 -- and there is room for it
 pub record Emittable (block : List ℕ) (place folded value : ℕ) (out : List ℕ) (to : ℕ) : Type 0 where

@@ -1,12 +1,13 @@
 -- Liveness and what prune keeps, as the code's arrays hold them. Assumes nothing.
 use mathlib.Core.Path.{_≡_}
-use mathlib.Core.Bool.{cond}
+use mathlib.Core.Bool.{cond, _||_}
 use mathlib.Core.List.{List}
 use Prim.Native.Nat.{ℕ, _≤_}
 use lib.Dec.{ltb}
 use lib.ListN.{length, getD}
-use Rattle.theory.specs.Sets.{Vars}
+use Rattle.theory.specs.Sets.{Vars, without, both}
 use Rattle.theory.specs.Prune.{dead, before, prune}
+use Rattle.ops.specs.Rows.{Role, isPure, isClosing, isSetting, isJumping}
 use Rattle.ops.specs.Ops.{viewOf, tcg}
 use Rattle.block.specs.Records.{recordsOf, opsFrom}
 use Rattle.block.specs.Rules.{globalsIn, keptIn}
@@ -25,6 +26,12 @@ pub record Declared (classes : List ℕ) (n : ℕ) : Type 0 where
 -- what is live before an op of these variables, from what is live after it
 abbrev pub liveBefore : List ℕ → List ℕ → Vars → Vars
 liveBefore classes op l = before (globalsIn classes) (keptIn classes) (viewOf op) l
+
+-- the same by the op's role and outputs, but for its inputs
+abbrev pub beforeBy : Role → List ℕ → List ℕ → Vars → Vars
+beforeBy role classes outs l =
+    cond (isClosing role) (cond (isSetting role || isJumping role) (keptIn classes) (globalsIn classes))
+    (cond (isPure role) (without l outs) (both (globalsIn classes) (without l outs)))
 
 -- prune at one op: its byte, and what is live before it
 pub record Prunes (classes op live live′ : List ℕ) (keep : ℕ) : Type 0 where

@@ -1,23 +1,28 @@
 // Prune: liveness read backward, and the ops that it keeps.
 ghost use mathlib.Core.Path.{_≡_};
-ghost use mathlib.Core.Bool.{cond, not};
+ghost use mathlib.Core.Bool.{cond, _||_};
 ghost use mathlib.Core.List.{[], _∷_};
 ghost use Prim.Native.Nat.{ℕ, _+_, _≤_, _<_};
 ghost use lib.Dec.{ltb};
-ghost use lib.ListN.{length, take};
-ghost use Rattle.theory.specs.Sets.{without, plus, both};
+ghost use lib.ListN.{length, getD, take};
+ghost use Rattle.theory.specs.Sets.{plus, both, noneIn};
 ghost use Rattle.theory.specs.Prune.{dead};
+ghost use Rattle.ops.specs.Rows.{outsIn, roleIn, roleNo, isSetting, isJumping};
+ghost use Rattle.ops.specs.Kinds.{kindTable};
 ghost use Rattle.ops.specs.Ops.{bytesAt, viewOf};
-ghost use Rattle.ops.specs.Table.{kindTable};
-ghost use Rattle.block.specs.Rules.{globalsIn, keptIn};
 ghost use Rattle.block.specs.Scan.{recordAt, Stands, marked};
 ghost use Rattle.passes.specs.Choose.{pickOp, Foldable, Chosen};
-ghost use Rattle.passes.specs.Live.{belowIn, Declared, liveBefore, Prunes, Keeps};
-use kinds::operand_count;
-use kinds::role_of;
+ghost use Rattle.passes.specs.Live.{belowIn, Declared, liveBefore, beforeBy, Prunes, Keeps};
+use kinds::entry;
+use kinds::ins;
+use kinds::is_jumping;
+use kinds::is_setting;
+use kinds::outs;
+use kinds::role;
 use marks::clear;
+use marks::mark_all;
 use marks::put;
-use ops::Role;
+use marks::unmark_all;
 
 // A variable whose class is below a limit becomes live.
 fn mark_class(class: u8, limit: u8, v: usize, live: &mut [u8; 256])
@@ -41,18 +46,6 @@ fn mark_classes(classes: &[u8; 256], n: usize, limit: u8, live: &mut [u8; 256])
     }
 }
 
-// The variables that the bytes from a place on name become live.
-fn mark_inputs(block: &[u8], from: usize, count: usize, live: &mut [u8; 256])
-    requires { ⌜ from + count ≤ length (now block) ⌝ }
-    ensures { λ _. ⌜ marked (now (live .exit)) ≡ plus (marked (now (live .entry))) (bytesAt (now (block .entry)) from count) ⌝ }
-{
-    let mut j: usize = 0;
-    while j < count {
-        put(live, block[from + j], 1);
-        j += 1;
-    }
-}
-
 // At the end of a basic block only variables whose class is below a limit are live.
 fn live_at_end(classes: &[u8; 256], n: usize, limit: u8, live: &mut [u8; 256])
     requires { ⌜ Declared (now classes) n × (limit ≤ 2) ⌝ }
@@ -62,103 +55,83 @@ fn live_at_end(classes: &[u8; 256], n: usize, limit: u8, live: &mut [u8; 256])
     mark_classes(classes, n, limit, live);
 }
 
-// exit_tb: all globals, and its operand.
-fn exit_before(x: u8, classes: &[u8; 256], n: usize, live: &mut [u8; 256])
-    requires { ⌜ Declared (now classes) n ⌝ }
-    ensures { λ _. ⌜ marked (now (live .exit)) ≡ plus (globalsIn (take n (now (classes .entry)))) (x ∷ []) ⌝ }
+// The limit after an op that ends a basic block: 1 where it leaves the block, else 2.
+fn end_limit(e: u32) -> u8
+    ensures { λ r. ⌜ r ≡ cond (isSetting (roleNo (roleIn e)) || isJumping (roleNo (roleIn e))) 2 1 ⌝ }
 {
-    live_at_end(classes, n, 1, live);
-    put(live, x, 1);
+    if is_setting(e) | is_jumping(e) { 2 } else { 1 }
 }
 
-// brcond: all globals and local temporaries, and its operands.
-fn branch_before(block: &[u8], at: usize, classes: &[u8; 256], n: usize, live: &mut [u8; 256])
-    requires { ⌜ Declared (now classes) n × (at + 4 < length (now block)) ⌝ }
-    ensures { λ _. ⌜ marked (now (live .exit)) ≡ plus (keptIn (take n (now (classes .entry)))) (bytesAt (now (block .entry)) (at + 1) 2) ⌝ }
-{
-    live_at_end(classes, n, 2, live);
-    mark_inputs(block, at + 1, 2, live);
-}
-
-// A load: what was live after it less its output, then all globals, then its input.
-fn load_before(block: &[u8], at: usize, classes: &[u8; 256], n: usize, live: &mut [u8; 256])
-    requires { ⌜ Declared (now classes) n × (at + 3 < length (now block)) ⌝ }
-    ensures { λ _. ⌜ marked (now (live .exit)) ≡ plus (both (globalsIn (take n (now (classes .entry)))) (without (marked (now (live .entry))) (bytesAt (now (block .entry)) (at + 1) 1))) (bytesAt (now (block .entry)) (at + 2) 1) ⌝ }
-{
-    put(live, block[at + 1], 0);
-    mark_classes(classes, n, 1, live);
-    mark_inputs(block, at + 2, 1, live);
-}
-
-// A store: what was live after it, then all globals, then its inputs.
-fn store_before(block: &[u8], at: usize, classes: &[u8; 256], n: usize, live: &mut [u8; 256])
-    requires { ⌜ Declared (now classes) n × (at + 3 < length (now block)) ⌝ }
-    ensures { λ _. ⌜ marked (now (live .exit)) ≡ plus (both (globalsIn (take n (now (classes .entry)))) (without (marked (now (live .entry))) [])) (bytesAt (now (block .entry)) (at + 1) 2) ⌝ }
-{
-    mark_classes(classes, n, 1, live);
-    mark_inputs(block, at + 1, 2, live);
-}
-
-// A pure op: what was live after it less its output, then its inputs.
-fn pure_before(block: &[u8], at: usize, inputs: usize, live: &mut [u8; 256])
-    requires { ⌜ at + (2 + inputs) ≤ length (now block) ⌝ }
-    ensures { λ _. ⌜ marked (now (live .exit)) ≡ plus (without (marked (now (live .entry))) (bytesAt (now (block .entry)) (at + 1) 1)) (bytesAt (now (block .entry)) (at + 2) inputs) ⌝ }
-{
-    put(live, block[at + 1], 0);
-    mark_inputs(block, at + 2, inputs, live);
-}
-
-// What is live before an op that is kept, from what is live after it.
-fn live_before(
-    kinds: &[u32; 256],
+// What is live before an op that is kept, but for its inputs, from what is live after it. Roles below 6 end a basic block; 6 and 7, loads and stores,
+// show all globals.
+fn live_but_inputs(
+    e: u32,
     block: &[u8],
     at: usize,
-    kind: u8,
     classes: &[u8; 256],
     n: usize,
     live: &mut [u8; 256],
 )
-    requires { ⌜ Declared (now classes) n × Stands (now block) at kind × (now kinds ≡ kindTable) ⌝ }
+    requires { ⌜ Declared (now classes) n × (at + 1 + outsIn e ≤ length (now block)) ⌝ }
+    ensures { λ _. ⌜ marked (now (live .exit)) ≡ beforeBy (roleNo (roleIn e)) (take n (now (classes .entry))) (bytesAt (now (block .entry)) (at + 1) (outsIn e)) (marked (now (live .entry))) ⌝ }
+{
+    let r = role(e);
+    if r < 6 {
+        live_at_end(classes, n, end_limit(e), live);
+        return;
+    }
+    unmark_all(block, at + 1, outs(e), live);
+    if 7 < r {
+        return;
+    }
+    mark_classes(classes, n, 1, live);
+}
+
+// The same with its inputs.
+fn live_before(e: u32, block: &[u8], at: usize, classes: &[u8; 256], n: usize, live: &mut [u8; 256])
+    requires { ⌜ Declared (now classes) n × Stands (now block) at (getD (now block) at 0) × (e ≡ getD kindTable (getD (now block) at 0) 0) ⌝ }
     ensures { λ _. ⌜ marked (now (live .exit)) ≡ liveBefore (take n (now (classes .entry))) (recordAt (now (block .entry)) at) (marked (now (live .entry))) ⌝ }
 {
-    let role = role_of(kinds, kind);
-    match role {
-        Role::Computes => pure_before(block, at, operand_count(kinds, kind) - 1, live),
-        Role::Constant => pure_before(block, at, 0, live),
-        Role::Loads => load_before(block, at, classes, n, live),
-        Role::Stores => store_before(block, at, classes, n, live),
-        Role::Branches => branch_before(block, at, classes, n, live),
-        Role::SetsLabel => live_at_end(classes, n, 2, live),
-        Role::Jumps => live_at_end(classes, n, 2, live),
-        Role::Exits => exit_before(block[at + 1], classes, n, live),
-        Role::Unknown => exit_before(0, classes, n, live),
-        Role::Declares => exit_before(0, classes, n, live),
-    }
+    live_but_inputs(e, block, at, classes, n, live);
+    mark_all(block, at + 1 + outs(e), ins(e), live);
 }
 
-// Whether a variable is not live.
-fn is_dead(live: &[u8; 256], v: u8) -> bool
-    ensures { λ r. ⌜ r ≡ not (marked (now (live .entry)) v) ⌝ }
+// Whether a variable is live.
+fn is_live(live: &[u8; 256], v: u8) -> bool
+    ensures { λ r. ⌜ r ≡ marked (now (live .entry)) v ⌝ }
 {
-    live[v as usize] != 1
+    live[v as usize] == 1
 }
 
-// Whether an op is pure and its output is not live after it.
-fn dead_op(kinds: &[u32; 256], block: &[u8], at: usize, kind: u8, live: &[u8; 256]) -> bool
-    requires { ⌜ Stands (now block) at kind × (now kinds ≡ kindTable) ⌝ }
+// Whether none of the variables that the bytes from a place on name is live.
+fn none_live(block: &[u8], from: usize, count: usize, live: &[u8; 256]) -> bool
+    requires { ⌜ from + count ≤ length (now block) ⌝ }
+    ensures { λ r. ⌜ r ≡ noneIn (bytesAt (now (block .entry)) from count) (marked (now (live .entry))) ⌝ }
+{
+    let mut j: usize = 0;
+    while j < count {
+        if is_live(live, block[from + j]) {
+            return false;
+        }
+        j += 1;
+    }
+    true
+}
+
+// Whether an op is pure, role 8 or 9, and none of its outputs is live after it.
+fn dead_op(e: u32, block: &[u8], at: usize, live: &[u8; 256]) -> bool
+    requires { ⌜ Stands (now block) at (getD (now block) at 0) × (e ≡ getD kindTable (getD (now block) at 0) 0) ⌝ }
     ensures { λ r. ⌜ r ≡ dead (viewOf (recordAt (now (block .entry)) at)) (marked (now (live .entry))) ⌝ }
 {
-    let role = role_of(kinds, kind);
-    match role {
-        Role::Computes => is_dead(live, block[at + 1]),
-        Role::Constant => is_dead(live, block[at + 1]),
-        _ => false,
+    if role(e) < 8 {
+        return false;
     }
+    none_live(block, at + 1, outs(e), live)
 }
 
 // Prune at one op, or at the constant in its place: 1 if it is kept.
 fn prune_op(
-    kinds: &[u32; 256],
+    e: u32,
     block: &[u8],
     at: usize,
     folded: u8,
@@ -166,18 +139,17 @@ fn prune_op(
     n: usize,
     live: &mut [u8; 256],
 ) -> u8
-    requires { ⌜ Declared (now classes) n × Foldable (now block) at folded × (now kinds ≡ kindTable) ⌝ }
+    requires { ⌜ Declared (now classes) n × Foldable (now block) at folded × (e ≡ getD kindTable (getD (now block) at 0) 0) ⌝ }
     ensures { λ r. ⌜ ((value : ℕ) → Prunes (take n (now (classes .entry))) (pickOp folded value (recordAt (now (block .entry)) at)) (now (live .entry)) (now (live .exit)) r) ⌝ }
 {
-    let kind = block[at];
-    if dead_op(kinds, block, at, kind, live) {
+    if dead_op(e, block, at, live) {
         return 0;
     }
     if folded == 1 {
-        put(live, block[at + 1], 0);
+        unmark_all(block, at + 1, outs(e), live);
         return 1;
     }
-    live_before(kinds, block, at, kind, classes, n, live);
+    live_before(e, block, at, classes, n, live);
     1
 }
 
@@ -200,14 +172,8 @@ pub fn prune(
     let mut i = ops;
     while 0 < i {
         i -= 1;
-        keep[i] = prune_op(
-            kinds,
-            block,
-            places[i] as usize,
-            folded[i],
-            classes,
-            n,
-            &mut live,
-        );
+        let at = places[i] as usize;
+        let e = entry(kinds, block[at]);
+        keep[i] = prune_op(e, block, at, folded[i], classes, n, &mut live);
     }
 }

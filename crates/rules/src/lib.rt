@@ -1,24 +1,23 @@
-// The rules of one op, each by itself.
+// The rules of one op, each by itself. e is the entry of its kind.
 ghost use mathlib.Core.Path.{_≡_};
-ghost use Prim.Native.Nat.{_+_, _≤_};
-ghost use lib.ListN.{length, take, drop};
-ghost use Rattle.ops.specs.Ops.{bytesAt, restOk, viewOf};
-ghost use Rattle.block.specs.Rules.{allBelow, labelFree, allSet};
-ghost use Rattle.block.specs.Scan.{typesMatch, mayReadAll, wideAs, readable, recordAt, Stands, marked, numbered};
 ghost use mathlib.Core.Bool.{not, _&&_, _||_};
-ghost use lib.Dec.{eqb};
-ghost use Rattle.memory.specs.Answer.{accessWidth};
+ghost use Prim.Native.Nat.{_+_, _%_, _≤_, _<_, _^_};
+ghost use lib.Dec.{eqb, ltb};
+ghost use lib.ListN.{length, getD, take, drop};
 ghost use Rattle.memory.specs.Bytes.{lowFirst};
-ghost use Rattle.ops.specs.Kinds.{rowOf, condOk, labelOk, narrowOk};
-ghost use Rattle.ops.specs.Table.{kindTable};
-use kinds::is_wide;
-use kinds::rest_length;
-use kinds::role_of;
+ghost use Rattle.ops.specs.Rows.{outsIn, insIn, restIn, testIn, rowIn, condOk, labelOk, asksFor, testOk};
+ghost use Rattle.ops.specs.Ops.{bytesAt};
+ghost use Rattle.block.specs.Rules.{allBelow, labelFree, allSet};
+ghost use Rattle.block.specs.Scan.{typesMatch, mayReadAll, readable, marked, numbered};
+use kinds::body_length;
+use kinds::is_jumping;
+use kinds::is_setting;
+use kinds::test;
 use marks::get;
 use marks::index;
 use memory::flags_ok;
 use memory::low_first;
-use ops::Role;
+use ops::LABELS;
 
 // Rule 4: each of count variables named from p on is below n.
 pub fn all_below(block: &[u8], p: usize, count: usize, n: usize) -> bool
@@ -35,19 +34,25 @@ pub fn all_below(block: &[u8], p: usize, count: usize, n: usize) -> bool
     true
 }
 
-// Rule 5: each of count variables named from p on has 64 bits exactly where its bit is 1.
-pub fn types_match(block: &[u8], p: usize, count: usize, bits: u32, types: &[u8; 256]) -> bool
+fn same_type(ty: u8, codes: u32) -> bool
+    ensures { λ r. ⌜ r ≡ eqb ty (codes % 4) ⌝ }
+{
+    ty as u32 == codes % 4
+}
+
+// Rule 5: each of count variables named from p on has its type, two bits of codes.
+pub fn types_match(block: &[u8], p: usize, count: usize, codes: u32, types: &[u8; 256]) -> bool
     requires { ⌜ p + count ≤ length (now block) ⌝ }
-    ensures { λ r. ⌜ r ≡ typesMatch (now (types .entry)) bits (bytesAt (now (block .entry)) p count) ⌝ }
+    ensures { λ r. ⌜ r ≡ typesMatch (now (types .entry)) codes (bytesAt (now (block .entry)) p count) ⌝ }
 {
     let mut i = 0;
-    let mut rest = bits;
+    let mut rest = codes;
     while i < count {
-        if !wide_as(get(types, block[p + i]), rest) {
+        if !same_type(get(types, block[p + i]), rest) {
             return false;
         }
         i += 1;
-        rest = rest / 2;
+        rest = rest / 4;
     }
     true
 }
@@ -74,49 +79,42 @@ pub fn may_read(
     true
 }
 
-fn wide_as(ty: u8, bits: u32) -> bool
-    ensures { λ r. ⌜ r ≡ wideAs ty bits ⌝ }
-{
-    (ty == 0) == (bits % 2 == 0)
-}
-
 fn readable(class: u8, written: u8) -> bool
     ensures { λ r. ⌜ r ≡ readable class written ⌝ }
 {
     class < 2 || written == 1
 }
 
-// A constant fits the width.
-fn constant_ok(block: &[u8], p: usize, wide: bool) -> bool
+// A constant is below 2^32.
+fn constant_ok(block: &[u8], p: usize) -> bool
     requires { ⌜ p + 8 ≤ length (now block) ⌝ }
-    ensures { λ r. ⌜ r ≡ narrowOk (accessWidth wide) (lowFirst (now (block .entry)) p 8) ⌝ }
+    ensures { λ r. ⌜ r ≡ ltb (lowFirst (now (block .entry)) p 8) (2 ^ 32) ⌝ }
 {
-    wide || low_first(block, p, 8) < 0x1_0000_0000
+    low_first(block, p, 8) < 0x1_0000_0000
 }
 
 fn branch_ok(c: u8, l: u8) -> bool
     ensures { λ r. ⌜ r ≡ (condOk c && labelOk l) ⌝ }
 {
-    c <= 9 && l <= 31
+    c <= 9 && l < LABELS
 }
 
-// Rule 6: the bytes from p on, which follow the operands.
-pub fn rest_ok(kinds: &[u32; 256], block: &[u8], p: usize, kind: u8) -> bool
-    requires { ⌜ (p + (rowOf kind) .rest ≤ length (now block)) × (now kinds ≡ kindTable) ⌝ }
-    ensures { λ r. ⌜ r ≡ restOk ((rowOf kind) .does) (take ((rowOf kind) .rest) (drop p (now (block .entry)))) ⌝ }
+// Rule 6: the bytes from p on, which follow the operands, by the number of their test.
+pub fn rest_ok(e: u32, block: &[u8], p: usize) -> bool
+    requires { ⌜ (p + restIn e ≤ length (now block)) × (asksFor (testIn e) ≤ restIn e) ⌝ }
+    ensures { λ r. ⌜ r ≡ testOk (testIn e) (take (restIn e) (drop p (now (block .entry)))) ⌝ }
 {
-    let role = role_of(kinds, kind);
-    match role {
-        Role::SetsLabel => block[p] <= 31,
-        Role::Jumps => block[p] <= 31,
-        Role::Constant => constant_ok(block, p, is_wide(kind)),
-        Role::Computes => rest_length(kinds, kind) == 0 || block[p] <= 9,
-        Role::Branches => branch_ok(block[p], block[p + 1]),
-        Role::Loads => flags_ok(block[p], is_wide(kind), false),
-        Role::Stores => flags_ok(block[p], is_wide(kind), true),
-        Role::Unknown => true,
-        Role::Declares => true,
-        Role::Exits => true,
+    let t = test(e);
+    match t {
+        1 => block[p] < LABELS,
+        2 => block[p] <= 9,
+        3 => branch_ok(block[p], block[p + 1]),
+        4 => flags_ok(block[p], false, false),
+        5 => flags_ok(block[p], true, false),
+        6 => flags_ok(block[p], false, true),
+        7 => flags_ok(block[p], true, true),
+        8 => constant_ok(block, p),
+        _ => true,
     }
 }
 
@@ -127,24 +125,15 @@ fn is_set(labels: &[u16; 256], l: u8) -> bool
     labels[l as usize] != 0
 }
 
-// Rule 7: the label of the op that starts at a place is not set yet.
-pub fn label_free(
-    kinds: &[u32; 256],
-    block: &[u8],
-    at: usize,
-    kind: u8,
-    labels: &[u16; 256],
-) -> bool
-    requires { ⌜ Stands (now block) at kind × (now kinds ≡ kindTable) ⌝ }
-    ensures { λ r. ⌜ r ≡ labelFree (numbered (now (labels .entry))) (viewOf (recordAt (now (block .entry)) at)) ⌝ }
+// Rule 7: the label of the op that starts at a place, its last byte, is not set yet.
+pub fn label_free(e: u32, block: &[u8], at: usize, labels: &[u16; 256]) -> bool
+    requires { ⌜ at + (outsIn e + insIn e + restIn e) < length (now block) ⌝ }
+    ensures { λ r. ⌜ r ≡ labelFree (rowIn e) (numbered (now (labels .entry))) (getD (now (block .entry)) (at + (outsIn e + insIn e + restIn e)) 0) ⌝ }
 {
-    let role = role_of(kinds, kind);
-    match role {
-        Role::SetsLabel => !is_set(labels, block[at + 1]),
-        Role::Jumps => !is_set(labels, block[at + 1]),
-        Role::Branches => !is_set(labels, block[at + 4]),
-        _ => true,
+    if is_setting(e) | is_jumping(e) {
+        return !is_set(labels, block[at + body_length(e)]);
     }
+    true
 }
 
 // A label that is jumped to is set.

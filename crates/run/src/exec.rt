@@ -3,10 +3,11 @@ ghost use mathlib.Core.Path.{_≡_};
 ghost use Prim.Native.Nat.{_+_, _<_};
 ghost use lib.ListN.{getD};
 ghost use Rattle.theory.specs.Machine.{cost};
-ghost use Rattle.ops.specs.Table.{kindTable};
+ghost use Rattle.ops.specs.Kinds.{kindTable};
 ghost use Rattle.runs.specs.Runs.{answerOf};
 ghost use Rattle.runs.specs.Steps.{endOf, Ready, Executed};
 use kinds::body_length;
+use kinds::entry;
 use marks::index;
 use runs::Ending;
 use runs::Outcome;
@@ -72,11 +73,12 @@ pub fn execute(
     let mut count: u64 = 0;
     while op < ops {
         let kind = block[at];
-        let outcome = step(kinds, block, at, kind, values, memory);
+        let e = entry(kinds, kind);
+        let outcome = step(e, block, at, kind, values, memory);
         match outcome {
             Outcome::Falls => {
                 op += 1;
-                at += 1 + body_length(kinds, kind);
+                at += 1 + body_length(e);
             }
             Outcome::JumpsTo(l) => {
                 op = number_of(labels, index(l)) - 1;

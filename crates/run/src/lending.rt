@@ -1,13 +1,12 @@
 // The lent globals.
 ghost use mathlib.Core.Path.{_≡_};
-ghost use mathlib.Core.List.{map};
 ghost use Prim.Native.Nat.{_≤_};
 ghost use lib.ListN.{length, take, replicate};
-ghost use Rattle.ops.specs.Kinds.{narrowOk};
-ghost use Rattle.block.specs.Records.{widthOf};
+ghost use Rattle.ops.specs.Rows.{bitsOf, narrowOk};
 ghost use Rattle.runs.specs.Runs.{globalsFit, valuesFrom};
 ghost use Rattle.runs.specs.Evaluates.{envOf};
 ghost use Rattle.runs.specs.Steps.{lentOk};
+use ops::MAX_MEMORY;
 
 // The values at the start: the globals', and zero for every other variable.
 pub fn copy_in(globals: &[u64], values: &mut [u64])
@@ -34,7 +33,7 @@ pub fn copy_out(values: &[u64; 256], globals: &mut [u64])
 }
 
 fn fits_type(ty: u8, x: u64) -> bool
-    ensures { λ r. ⌜ r ≡ narrowOk (widthOf ty) x ⌝ }
+    ensures { λ r. ⌜ r ≡ narrowOk (bitsOf ty) x ⌝ }
 {
     ty != 0 || x < 0x1_0000_0000
 }
@@ -42,7 +41,7 @@ fn fits_type(ty: u8, x: u64) -> bool
 // Each 32-bit global is below 2^32.
 fn globals_fit(types: &[u8; 256], n: usize, globals: &[u64]) -> bool
     requires { ⌜ (length (now globals) ≤ n) × (n ≤ 256) × (length (now types) ≡ 256) ⌝ }
-    ensures { λ r. ⌜ r ≡ globalsFit (map widthOf (take n (now (types .entry)))) (now (globals .entry)) ⌝ }
+    ensures { λ r. ⌜ r ≡ globalsFit (take n (now (types .entry))) (now (globals .entry)) ⌝ }
 {
     let mut i = 0;
     while i < globals.len() {
@@ -65,5 +64,5 @@ pub fn lent_ok(types: &[u8; 256], n: usize, declared: usize, globals: &[u64], me
     if !globals_fit(types, n, globals) {
         return false;
     }
-    memory.len() <= 65536
+    memory.len() <= MAX_MEMORY
 }

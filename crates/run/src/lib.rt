@@ -2,7 +2,7 @@
 ghost use mathlib.Core.Path.{_≡_};
 ghost use Prim.Native.Nat.{_≤_};
 ghost use lib.ListN.{length};
-ghost use Rattle.ops.specs.Table.{kindTable};
+ghost use Rattle.ops.specs.Kinds.{kindTable};
 ghost use Rattle.block.specs.Records.{recordsOf, opsFrom};
 ghost use Rattle.runs.specs.Runs.{ranAs, runOf, runOps};
 ghost use Rattle.runs.specs.Steps.{Ready};

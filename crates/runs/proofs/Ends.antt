@@ -1,29 +1,31 @@
 -- Every run of an accepted block exits, faults or meets an op without a stated result. Assumes nothing.
 use mathlib.Core.Path.{_≡_, refl, sym, ap, _∙_, subst}
-use mathlib.Core.Bool.{Bool, true, false, cond, not, _&&_, _||_, false≢true, true≢false}
+use mathlib.Core.Bool.{Bool, true, false, cond, not, _&&_, _||_}
 use mathlib.Core.List.{List, [], _∷_}
 use mathlib.Core.Logic.{_⊎_, inl, inr}
 use Prim.Native.Nat.{ℕ, zero, suc, _<_}
 use native.Mathlib.Omega.{arith}
 use lib.Dec.{eqb}
-use borrow.Author.Tests.{leb-true, eqb-true, eqb-false, not-true}
+use borrow.Author.Tests.{eqb-true, eqb-false, eq-eqb, not-true}
 use lib.Arith.{lt-of-le-ne}
 use Rattle.theory.specs.Checker.{checks}
-use Rattle.theory.specs.Machine.{View, calc, access, label, flow, to, out, isLabel, St, seek}
+use Rattle.theory.specs.Machine.{isLabel, St, seek}
 use Rattle.theory.specs.Sets.{Vars}
 use Rattle.theory.proofs.Ends.{Grounded, ends-properly}
 use Rattle.theory.proofs.Simulation.{proper, goesOn, isJump}
 use Rattle.theory.proofs.Sets.{and-l, and-r, clash, tell}
-use Rattle.ops.specs.Kinds.{Does, unknown, declares, sets, jumpsTo, leaves, branches, loads, stores, computes, Row, at, condOk, labelOk}
-use Rattle.ops.specs.Ops.{kindOf, rowAt, restBy, Fault, viewBy, viewOf, tcg, restOk}
+use Rattle.ops.specs.Limits.{labelCount}
+use Rattle.ops.specs.Rows.{isSetting, isJumping}
+use Rattle.ops.specs.Ops.{kindOf, rowAt, labelBy, viewOf, tcg}
 use Rattle.block.specs.Checks.{endRules, checkOf}
 use Rattle.block.specs.Records.{recordsOf, isDeclaration, declarations, opsFrom}
-use Rattle.block.specs.Rules.{Seen, start, rule4, rule5, rule6, labelFree, nextLabels, nextTargets, rule7, rule9, rule10, allSet, rule7end, passed}
+use Rattle.block.specs.Rules.{Seen, start, rule4, rule5, rule6, rule7, rule9, rule10, allSet, rule7end, passed}
 use Rattle.block.proofs.Accepts.{allMet}
 use Rattle.block.proofs.Cut.{whole}
 use Rattle.block.proofs.Lenient.{exit-view}
 use Rattle.block.proofs.Parts.{parts}
 use Rattle.runs.specs.Runs.{entry, opsRun}
+use Rattle.runs.proofs.Roles.{named-is, is-label, is-jump, jump-low, jumping-only, other-label, stays-marked, unmarked}
 use Rattle.block.proofs.Checker.{opOk, checker, declaredIn}
 use Rattle.block.specs.declared.Verdict.the-variants.{Accepted}
 
@@ -31,18 +33,8 @@ use Rattle.block.specs.declared.Verdict.the-variants.{Accepted}
 abbrev pub Ahead : List (List ℕ) → Seen → List (List ℕ) → Type 0
 Ahead b s r = (l : ℕ) → s .labels l ≡ false → seek tcg l b ≡ seek tcg l r
 
-unset : (labels : Vars) (w : View ℕ (List ℕ) ℕ Fault) (l : ℕ) → nextLabels labels w l ≡ false → (labels l ≡ false) × (isLabel l w ≡ false)
-unset labels (calc outs ins f) l h = (h, refl)
-unset labels (access outs ins f) l h = (h, refl)
-unset labels (label m) l h = go (eqb m l) h
-  where
-    go : (x : Bool) → cond x true (labels l) ≡ false → (labels l ≡ false) × (x ≡ false)
-    go true q = absurd (true≢false q)
-    go false q = (q, refl)
-unset labels (flow ins c y) l h = (h, refl)
-
 pub ahead-next : (b : List (List ℕ)) (s : Seen) (o : List ℕ) (r : List (List ℕ)) → Ahead b s (o ∷ r) → Ahead b (passed s o) r
-ahead-next b s o r a l h = let p = unset (s .labels) (viewOf o) l h in a l (p .0) ∙ rw (p .1)
+ahead-next b s o r a l h = let p = unmarked (isSetting ((rowAt o) .role)) (s .labels) (labelBy (rowAt o) o) l h in a l (p .0) ∙ rw (is-label o l ∙ p .1)
 
 -- an op is due, the check accepts what is left, and b is the block
 abbrev Due : List (List ℕ) → List (List ℕ) → Type 0
@@ -58,45 +50,14 @@ next-due : (b : List (List ℕ)) (o : List ℕ) (r : List (List ℕ)) → Due b 
 next-due b o [] d h = clash (goesOn (viewOf o)) h (not-last (d .0) o (and-r (opOk (d .0) o) (allMet (endRules (passed (d .0) o))) (d .1)))
 next-due b o (q ∷ r) d h = (passed (d .0) o, and-r (opOk (d .0) o) (checks tcg checker (passed (d .0) o) (q ∷ r)) (d .1), ahead-next b (d .0) o (q ∷ r) (d .2))
 
--- a jump's label is below 32, is not yet set, and is then jumped to
-low-label : (row : Row) (d : Does) (r : List ℕ) (k : ℕ) → isJump k (viewBy row d r) ≡ true → restOk d (restBy row r) ≡ true → k < 32
-low-label row unknown r k j h = absurd (false≢true j)
-low-label row declares r k j h = absurd (false≢true j)
-low-label row sets r k j h = absurd (false≢true j)
-low-label row jumpsTo r k j h = omega (arith, eqb-true (at (restBy row r) 0) k j, leb-true (at (restBy row r) 0) 31 h)
-low-label row leaves r k j h = absurd (false≢true j)
-low-label row (branches w) r k j h =
-    omega (arith, eqb-true (at (restBy row r) 1) k j, leb-true (at (restBy row r) 1) 31 (and-r (condOk (at (restBy row r) 0)) (labelOk (at (restBy row r) 1)) h))
-low-label row (loads w) r k j h = absurd (false≢true j)
-low-label row (stores w) r k j h = absurd (false≢true j)
-low-label row (computes ok f) r k j h = absurd (false≢true j)
-
-pub jump-low : (s : Seen) (o : List ℕ) (k : ℕ) → isJump k (viewOf o) ≡ true → rule6 s o ≡ true → k < 32
-unfolding viewOf rule6
-jump-low s o k j h = low-label (rowAt o) ((rowAt o) .does) o k j h
-
-jump-labels : (labels targets : Vars) (w : View ℕ (List ℕ) ℕ Fault) (k : ℕ) → isJump k w ≡ true → labelFree labels w ≡ true
-    → (nextLabels labels w k ≡ false) × (nextTargets targets w k ≡ true)
-jump-labels labels targets (calc outs ins f) k j h = absurd (false≢true j)
-jump-labels labels targets (access outs ins f) k j h = absurd (false≢true j)
-jump-labels labels targets (label l) k j h = absurd (false≢true j)
-jump-labels labels targets (flow ins c (to l)) k j h = (subst (λ (n : ℕ). labels n ≡ false) (eqb-true l k j) (not-true (labels l) h), rw j)
-jump-labels labels targets (flow ins c (out g)) k j h = absurd (false≢true j)
-
-pub more-targets : (b t : Bool) → t ≡ true → cond b true t ≡ true
-more-targets true t h = refl
-more-targets false t h = h
-
 -- a label that is not set stays so up to its set_label, and a target stays one
-pub other-labels : (labels targets : Vars) (w : View ℕ (List ℕ) ℕ Fault) (k : ℕ) → isLabel k w ≡ false → labels k ≡ false → targets k ≡ true
-    → (nextLabels labels w k ≡ false) × (nextTargets targets w k ≡ true)
-other-labels labels targets (calc outs ins f) k n l t = (l, t)
-other-labels labels targets (access outs ins f) k n l t = (l, t)
-other-labels labels targets (label j) k n l t = (rw n l, t)
-other-labels labels targets (flow ins c (to j)) k n l t = (l, more-targets (eqb j k) (targets k) t)
-other-labels labels targets (flow ins c (out g)) k n l t = (l, t)
+pub other-labels : (s : Seen) (o : List ℕ) (k : ℕ) → isLabel k (viewOf o) ≡ false → s .labels k ≡ false → s .targets k ≡ true
+    → ((passed s o) .labels k ≡ false) × ((passed s o) .targets k ≡ true)
+other-labels s o k n l t =
+    let m = labelBy (rowAt o) o in
+    (other-label (isSetting ((rowAt o) .role)) (s .labels) m k (sym (is-label o k) ∙ n) ∙ l, stays-marked (isJumping ((rowAt o) .role)) (s .targets) m k t)
 
--- at the end each target below 32 is set
+-- at the end each target is set
 all-set : (targets labels : Vars) (n k : ℕ) → allSet targets labels n ≡ true → k < n → targets k ≡ true → labels k ≡ true
 all-set targets labels zero k h l t = absurd (omega arith)
 all-set targets labels (suc n) k h l t = go (tell (eqb n k)) (all-set targets labels n k (and-r (not (targets n) || labels n) (allSet targets labels n) h))
@@ -111,16 +72,16 @@ all-set targets labels (suc n) k h l t = go (tell (eqb n k)) (all-set targets la
     go (inl e) ih = here (eqb-true n k e)
     go (inr e) ih = ih (lt-of-le-ne (omega arith) (λ q. eqb-false n k e (sym q))) t
 
-pub end-set : (s : Seen) (k : ℕ) → allMet (endRules s) ≡ true → k < 32 → s .targets k ≡ true → s .labels k ≡ true
+pub end-set : (s : Seen) (k : ℕ) → allMet (endRules s) ≡ true → k < labelCount → s .targets k ≡ true → s .labels k ≡ true
 unfolding rule7end
 end-set s k h l t =
-    all-set (s .targets) (s .labels) 32 k (and-l (rule7end s) true (and-r (rule10 s) (rule7end s && true) h)) l t
+    all-set (s .targets) (s .labels) labelCount k (and-l (rule7end s) true (and-r (rule10 s) (rule7end s && true) h)) l t
 
-found : (b r : List (List ℕ)) (s : Seen) (k : ℕ) → checks tcg checker s r ≡ true → Ahead b s r → k < 32 → s .labels k ≡ false → s .targets k ≡ true → Due b (seek tcg k r)
+found : (b r : List (List ℕ)) (s : Seen) (k : ℕ) → checks tcg checker s r ≡ true → Ahead b s r → k < labelCount → s .labels k ≡ false → s .targets k ≡ true → Due b (seek tcg k r)
 found b [] s k c a m l t = clash (s .labels k) (end-set s k c m t) l
 found b (o ∷ r) s k c a m l t =
     go (isLabel k (viewOf o)) refl
-    (λ n. let p = other-labels (s .labels) (s .targets) (viewOf o) k n l t in
+    (λ n. let p = other-labels s o k n l t in
     found b r (passed s o) k (and-r (opOk s o) (checks tcg checker (passed s o) r) c) (ahead-next b s o r a) m (p .0) (p .1))
   where
     go : (x : Bool) → isLabel k (viewOf o) ≡ x → (isLabel k (viewOf o) ≡ false → Due b (seek tcg k r)) → Due b (cond x (o ∷ r) (seek tcg k r))
@@ -134,10 +95,17 @@ op-parts s o h =
     let b = and-r (rule5 s o) (rule6 s o && rule7 s o) (and-r (rule4 s o) (rule5 s o && (rule6 s o && rule7 s o)) (and-r (rule9 s o) (rule4 s o && (rule5 s o && (rule6 s o && rule7 s o))) a)) in
     (and-l (rule6 s o) (rule7 s o) b, and-r (rule6 s o) (rule7 s o) b)
 
+-- a jump's label is not yet set, and is then jumped to
 pub landed-labels : (s : Seen) (o : List ℕ) (k : ℕ) → isJump k (viewOf o) ≡ true → rule7 s o ≡ true
     → ((passed s o) .labels k ≡ false) × ((passed s o) .targets k ≡ true)
 unfolding rule7
-landed-labels s o k j h = jump-labels (s .labels) (s .targets) (viewOf o) k j h
+landed-labels s o k j h =
+    let role = (rowAt o) .role in
+    let m = labelBy (rowAt o) o in
+    let p = named-is (isJumping role) m k (sym (is-jump o k) ∙ j) in
+    let only : isSetting role ≡ false = jumping-only role (p .0) in
+    let free : not (s .labels m) ≡ true = rw (only, p .0) at h in
+    (rw only (subst (λ (n : ℕ). s .labels n ≡ false) (p .1) (not-true (s .labels m) free)), rw (p .0) (ap (λ (b : Bool). cond b true (s .targets k)) (eq-eqb m k (p .1))))
 
 module _ (b : List (List ℕ)) (o : List ℕ) (r : List (List ℕ)) (k : ℕ) (d : Due b (o ∷ r)) (j : isJump k (viewOf o) ≡ true) where
   met : (rule6 (d .0) o ≡ true) × (rule7 (d .0) o ≡ true)
@@ -150,7 +118,7 @@ module _ (b : List (List ℕ)) (o : List ℕ) (r : List (List ℕ)) (k : ℕ) (d
   landed-due =
       let q = landed-labels (d .0) o k j (met .1) in
       rw forward
-      (found b r (passed (d .0) o) k (and-r (opOk (d .0) o) (checks tcg checker (passed (d .0) o) r) (d .1)) (ahead-next b (d .0) o r (d .2)) (jump-low (d .0) o k j (met .0)) (q .0) (q .1))
+      (found b r (passed (d .0) o) k (and-r (opOk (d .0) o) (checks tcg checker (passed (d .0) o) r) (d .1)) (ahead-next b (d .0) o r (d .2)) (jump-low o (d .0) k j (met .0)) (q .0) (q .1))
 
 grounded : (b : List (List ℕ)) → Grounded tcg b (Due b)
 grounded b = record { some-op = λ d. d; next-op = next-due b; landed = landed-due b }

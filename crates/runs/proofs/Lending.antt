@@ -1,7 +1,7 @@
 -- The lent globals: their copies, and rule 11. Assumes nothing.
 use mathlib.Core.Path.{_≡_, refl, sym, ap, ap₂, _∙_, fun-ext}
 use mathlib.Core.Bool.{not, Bool, true, false, cond, _&&_}
-use mathlib.Core.List.{List, _∷_, map}
+use mathlib.Core.List.{List, _∷_}
 use mathlib.Core.Logic.{_⊎_, inl, inr}
 use Prim.Native.Nat.{ℕ, zero, suc, _+_, _≤_, _<_}
 use native.Mathlib.Omega.{arith}
@@ -13,13 +13,13 @@ use native.Mathlib.Nat.{zero-add, add-zero}
 use native.Mathlib.Numerals.{add-one}
 use lib.Arith.{lt-of-le-ne}
 use Rattle.theory.proofs.Sets.{tell}
-use Rattle.ops.specs.Kinds.{narrowOk}
-use Rattle.block.specs.Records.{widthOf}
+use Rattle.ops.specs.Limits.{maxMemory}
+use Rattle.ops.specs.Rows.{bitsOf, narrowOk}
 use Rattle.block.proofs.MarkSets.{set-here, at-place, zeros}
 use Rattle.runs.specs.Runs.{globalsFit, valuesFrom}
 use Rattle.runs.specs.Evaluates.{envOf}
 use Rattle.runs.specs.Steps.{lentOk}
-use lib.ListN.{length-map, List·getD-eq-default, List·getD-map}
+use lib.ListN.{List·getD-eq-default}
 use lib.Seq.{ext-getD}
 
 -- the first i globals have been copied into values that were zero
@@ -77,52 +77,46 @@ out-end {values} {globals} {i} n c h e =
     (λ j l. c .each j (omega arith) ∙ sym (values-at (envOf values) 0 n j (omega arith) ∙ ap (λ (v : ℕ). getD values v 0) (zero-add j)))
 
 -- a 32-bit global is below 2^32
-pub fits-wide : (ty x : ℕ) → (ty ≡ 0 → ⊥) → not (eqb ty 0) ≡ narrowOk (widthOf ty) x
+pub fits-wide : (ty x : ℕ) → (ty ≡ 0 → ⊥) → not (eqb ty 0) ≡ narrowOk (bitsOf ty) x
 fits-wide ty x n = rw (ne-eqb ty 0 n)
 
-pub fits-narrow : (ty x : ℕ) → ty ≡ 0 → ltb x 0x100000000 ≡ narrowOk (widthOf ty) x
+pub fits-narrow : (ty x : ℕ) → ty ≡ 0 → ltb x 0x100000000 ≡ narrowOk (bitsOf ty) x
 fits-narrow ty x e = rw e
 
 -- the globals from the i-th on decide the whole
 pub record FitFrom (types globals : List ℕ) (n i : ℕ) : Type 0 where
-  pub left : globalsFit (drop i (map widthOf (take n types))) (drop i globals) ≡ globalsFit (map widthOf (take n types)) globals
+  pub left : globalsFit (drop i (take n types)) (drop i globals) ≡ globalsFit (take n types) globals
 
 pub fit-start : (types globals : List ℕ) (n : ℕ) → FitFrom types globals n 0
 fit-start types globals n = record { left = refl }
 
 module _ {types globals : List ℕ} {n i : ℕ} (f : FitFrom types globals n i) (h : i < length globals) (few : length globals ≤ n) (long : n ≤ length types) where
-  ws : List ℕ
-  ws = map widthOf (take n types)
+  type-at : drop i (take n types) ≡ getD types i 0 ∷ drop (suc i) (take n types)
+  type-at =
+      drop-cons (take n types) i 0 (omega (arith, length-take-le n types long))
+      ∙ ap (λ (t : ℕ). t ∷ drop (suc i) (take n types)) (getD-take n types i 0 (omega arith))
 
-  width-at : drop i ws ≡ widthOf (getD types i 0) ∷ drop (suc i) ws
-  unfolding ws
-  width-at =
-      let l : i < length (map widthOf (take n types)) = omega (arith, length-map (take n types) widthOf, length-take-le n types long) in
-      drop-cons (map widthOf (take n types)) i (widthOf 0) l
-      ∙ ap (λ (w : ℕ). w ∷ drop (suc i) (map widthOf (take n types))) (List·getD-map widthOf (take n types) i 0 ∙ ap widthOf (getD-take n types i 0 (omega arith)))
+  turn : (narrowOk (bitsOf (getD types i 0)) (getD globals i 0) && globalsFit (drop (suc i) (take n types)) (drop (suc i) globals)) ≡ globalsFit (take n types) globals
+  turn = sym (ap₂ globalsFit type-at (drop-cons globals i 0 h)) ∙ f .left
 
-  turn : (narrowOk (widthOf (getD types i 0)) (getD globals i 0) && globalsFit (drop (suc i) (map widthOf (take n types))) (drop (suc i) globals)) ≡ globalsFit (map widthOf (take n types)) globals
-  unfolding ws
-  turn = sym (ap₂ globalsFit width-at (drop-cons globals i 0 h)) ∙ f .left
-
-  module _ {t : Bool} (e : t ≡ narrowOk (widthOf (getD types i 0)) (getD globals i 0)) where
+  module _ {t : Bool} (e : t ≡ narrowOk (bitsOf (getD types i 0)) (getD globals i 0)) where
     pub fit-next : t ≡ true → FitFrom types globals n (i + 1)
     fit-next q = rw (add-one i) (record { left = rw (sym e ∙ q) at turn })
 
-    pub fit-stops : t ≡ false → false ≡ globalsFit (map widthOf (take n types)) globals
+    pub fit-stops : t ≡ false → false ≡ globalsFit (take n types) globals
     fit-stops q = rw (sym e ∙ q) at turn
 
-pub fit-end : {types globals : List ℕ} {n i : ℕ} → FitFrom types globals n i → length globals ≤ i → true ≡ globalsFit (map widthOf (take n types)) globals
-fit-end {types} {globals} {n} {i} f h = sym (ap (globalsFit (drop i (map widthOf (take n types)))) (drop-of-length-le globals h)) ∙ f .left
+pub fit-end : {types globals : List ℕ} {n i : ℕ} → FitFrom types globals n i → length globals ≤ i → true ≡ globalsFit (take n types) globals
+fit-end {types} {globals} {n} {i} f h = sym (ap (globalsFit (drop i (take n types))) (drop-of-length-le globals h)) ∙ f .left
 
 -- rule 11, test by test
 module _ (types : List ℕ) (n declared : ℕ) (globals memory : List ℕ) where
   pub lent-count : (length globals ≡ declared → ⊥) → false ≡ lentOk types n declared globals memory
   lent-count h = rw (ne-eqb (length globals) declared h)
 
-  module _ (h : length globals ≡ declared) {t : Bool} (e : t ≡ globalsFit (map widthOf (take n types)) globals) where
+  module _ (h : length globals ≡ declared) {t : Bool} (e : t ≡ globalsFit (take n types) globals) where
     pub lent-wide : t ≡ false → false ≡ lentOk types n declared globals memory
     lent-wide q = rw (eq-eqb (length globals) declared h, sym e ∙ q)
 
-    pub lent-last : t ≡ true → leb (length memory) 65536 ≡ lentOk types n declared globals memory
+    pub lent-last : t ≡ true → leb (length memory) maxMemory ≡ lentOk types n declared globals memory
     lent-last q = rw (eq-eqb (length globals) declared h, sym e ∙ q)

@@ -1,3 +1,4 @@
+pub mod Roles
 pub mod Ends
 pub mod Landing
 pub mod Stating

@@ -3,28 +3,28 @@ use mathlib.Core.Path.{_≡_, refl, sym, ap, ap₂, _∙_, subst, fun-ext}
 use mathlib.Core.Bool.{Bool, true, false, cond, false≢true}
 use mathlib.Core.Option.{Option, none, some}
 use mathlib.Core.List.{List, [], _∷_}
-use Prim.Native.Nat.{ℕ, _+_, _%_, _^_, _<_}
+use Prim.Native.Nat.{ℕ, zero, suc, _+_, _%_, _^_, _<_}
 use native.Mathlib.Omega.{arith}
 use lib.ListN.{getD}
 use native.Mathlib.Nat.{mod-eq-of-lt}
-use Rattle.theory.specs.Machine.{View, label, exit, fault, falls, jumps, stops, upd, reads, afterCalc, afterAccess, effect}
+use Rattle.theory.specs.Machine.{always, to, View, label, flow, exit, fault, falls, jumps, stops, upd, reads, afterCalc, afterAccess, effect}
 use Rattle.word.specs.Condition.{condW}
 use Rattle.memory.specs.Access.{loadAt, storeAt}
 use Rattle.memory.specs.Answer.{accessWidth, loadedOf, servedOf, leftOf}
 use Rattle.memory.specs.Bytes.{lowFirst}
-use Rattle.ops.specs.Kinds.{at}
-use Rattle.ops.specs.Ops.{jump, leave, Fault, faultOf, afterLoad, afterStore, viewOf}
-use Rattle.ops.specs.Table.{roleOf}
+use Rattle.ops.specs.Rows.{unknown, declares, setsLabel, jumpsTo, exits, roleNo, roleIn, numberOf, bitsOf, at}
+use Rattle.ops.specs.Kinds.{kindTable, roleOf}
+use Rattle.ops.specs.Ops.{leave, Fault, faultOf, afterLoad, afterStore, viewOf}
 use Rattle.block.specs.Scan.{recordAt, Stands, SetAt}
 use Rattle.block.proofs.MarkSets.{at-place}
 use Rattle.block.proofs.Views.{unknown-view, declare-view, label-view, jump-view, leave-view, pure-view}
+use Rattle.runs.proofs.Roles.{role-by}
 use Rattle.runs.specs.Evaluates.{Computed, inputsAt, statesAt, valuesOf, envOf}
 use Rattle.runs.specs.Steps.{stateOf, effectOf, afterState, Performs, PerformsAlone, branchOp, loadOp, storeOp, constantOp}
 use Rattle.memory.specs.declared.Loaded.{Loaded}
 use Rattle.memory.specs.declared.Loaded.the-variants.{Value, Fault as LoadFault}
 use Rattle.word.specs.declared.Stated.{Stated}
 use Rattle.word.specs.declared.Stated.the-variants.{Value as StatedValue, NoResult as StatedNone}
-use Rattle.ops.specs.declared.Role.the-variants.{Unknown, Declares, SetsLabel, Jumps, Exits}
 use Rattle.runs.specs.declared.Outcome.{Outcome}
 use Rattle.runs.specs.declared.Outcome.the-variants.{Falls, JumpsTo, Stops}
 use Rattle.runs.specs.declared.Stop.the-variants.{Leaves, Faults, Unstated}
@@ -56,10 +56,17 @@ pub holds-narrow : (c a b : ℕ) {wide r : Bool} {x y : ℕ} → wide ≡ false 
     → r ≡ condW (accessWidth wide) c (a % 2 ^ accessWidth wide) (b % 2 ^ accessWidth wide)
 holds-narrow c a b e l m q = rw (e, ← l, ← m) q
 
+-- the type of an op's width
+width-is : (wide : Bool) → accessWidth wide ≡ bitsOf (cond wide 1 0)
+width-is true = refl
+width-is false = refl
+
 module _ (b values : List ℕ) (p : ℕ) (wide : Bool) {x y : ℕ} {r : Bool} (ex : x ≡ getD values (at b (p + 1)) 0) (ey : y ≡ getD values (at b (p + 2)) 0)
     (e : r ≡ condW (accessWidth wide) (at b (p + 3)) (x % 2 ^ accessWidth wide) (y % 2 ^ accessWidth wide)) where
-  decides : r ≡ condW (accessWidth wide) (at b (p + 3)) (getD values (at b (p + 1)) 0 % 2 ^ accessWidth wide) (getD values (at b (p + 2)) 0 % 2 ^ accessWidth wide)
-  decides = e ∙ ap₂ (λ (u v : ℕ). condW (accessWidth wide) (at b (p + 3)) (u % 2 ^ accessWidth wide) (v % 2 ^ accessWidth wide)) ex ey
+  decides : r ≡ condW (accessWidth wide) (at b (p + 3)) (getD values (at b (p + 1)) 0 % 2 ^ bitsOf (cond wide 1 0)) (getD values (at b (p + 2)) 0 % 2 ^ bitsOf (cond wide 1 0))
+  decides =
+      e ∙ ap₂ (λ (u v : ℕ). condW (accessWidth wide) (at b (p + 3)) (u % 2 ^ accessWidth wide) (v % 2 ^ accessWidth wide)) ex ey
+      ∙ ap (λ (w : ℕ). condW (accessWidth wide) (at b (p + 3)) (getD values (at b (p + 1)) 0 % 2 ^ w) (getD values (at b (p + 2)) 0 % 2 ^ w)) (width-is wide)
 
   branches-so : (t : Bool) (o : Outcome) → r ≡ t → ((m : List ℕ) → cond t (jumps (at b (p + 4))) (falls (stateOf values m)) ≡ effectOf o (stateOf values m))
       → PerformsAlone (branchOp b p wide) values values o
@@ -162,17 +169,20 @@ module _ {b : List ℕ} {p k : ℕ} (s : Stands b p k) (values memory : List ℕ
       → Performs (viewOf (recordAt b p)) values memory values memory o
   alone v o e q = stays (viewOf (recordAt b p)) values memory o (ap (λ (w : View ℕ (List ℕ) ℕ Fault). effect 0 w (stateOf values memory)) e ∙ q)
 
-  pub step-label : roleOf k ≡ SetsLabel → Performs (viewOf (recordAt b p)) values memory values memory Falls
+  pub step-label : roleOf k ≡ setsLabel → Performs (viewOf (recordAt b p)) values memory values memory Falls
   step-label e = alone (label (at b (p + 1))) Falls (label-view s e) refl
 
-  pub step-jumps : roleOf k ≡ Jumps → Performs (viewOf (recordAt b p)) values memory values memory (JumpsTo (at b (p + 1)))
-  step-jumps e = alone (jump (at b (p + 1))) (JumpsTo (at b (p + 1))) (jump-view s e) refl
+  pub step-jumps : roleOf k ≡ jumpsTo → Performs (viewOf (recordAt b p)) values memory values memory (JumpsTo (at b (p + 1)))
+  step-jumps e = alone (flow [] always (to (at b (p + 1)))) (JumpsTo (at b (p + 1))) (jump-view s e) refl
 
-  pub step-exits : roleOf k ≡ Exits → {x : ℕ} → x ≡ getD values (at b (p + 1)) 0 → Performs (viewOf (recordAt b p)) values memory values memory (Stops (Leaves x))
-  step-exits e {x} q = alone (leave (at b (p + 1))) (Stops (Leaves x)) (leave-view s e) (ap (λ (v : ℕ). stops (exit v)) (sym q))
+  pub step-exits : roleOf k ≡ exits → {x : ℕ} → x ≡ getD values (at b (p + 1)) 0 → Performs (viewOf (recordAt b p)) values memory values memory (Stops (Leaves x))
+  step-exits e {x} q = alone (leave (at b (p + 1) ∷ [])) (Stops (Leaves x)) (leave-view s e) (ap (λ (v : ℕ). stops (exit v)) (sym q))
 
-  pub step-unknown : roleOf k ≡ Unknown → {x : ℕ} → x ≡ getD values 0 0 → Performs (viewOf (recordAt b p)) values memory values memory (Stops (Leaves x))
-  step-unknown e {x} q = alone (leave 0) (Stops (Leaves x)) (unknown-view s e) (ap (λ (v : ℕ). stops (exit v)) (sym q))
-
-  pub step-declares : roleOf k ≡ Declares → {x : ℕ} → x ≡ getD values 0 0 → Performs (viewOf (recordAt b p)) values memory values memory (Stops (Leaves x))
-  step-declares e {x} q = alone (leave 0) (Stops (Leaves x)) (declare-view s e) (ap (λ (v : ℕ). stops (exit v)) (sym q))
+  -- a record that is no op: its role has the number 0 or 1
+  pub step-none : {e n : ℕ} → e ≡ getD kindTable k 0 → n ≡ numberOf (roleNo (roleIn e)) → n < 2 → Performs (viewOf (recordAt b p)) values memory values memory (Stops (Leaves 0))
+  step-none {e} {n} q m h = go n m h
+    where
+      go : (n : ℕ) → n ≡ numberOf (roleNo (roleIn e)) → n < 2 → Performs (viewOf (recordAt b p)) values memory values memory (Stops (Leaves 0))
+      go zero m h = alone (leave []) (Stops (Leaves 0)) (unknown-view s (role-by unknown k q m refl)) refl
+      go (suc zero) m h = alone (leave []) (Stops (Leaves 0)) (declare-view s (role-by declares k q m refl)) refl
+      go (suc (suc n)) m h = absurd (omega arith)

@@ -1,7 +1,7 @@
 -- The run's answer, from what the scan, the loop and the copies of the globals give. Assumes nothing.
 use mathlib.Core.Path.{_≡_, sym, ap, ap₂, _∙_}
 use mathlib.Core.Bool.{Bool, true, false, cond, _&&_}
-use mathlib.Core.List.{List, [], _∷_, map}
+use mathlib.Core.List.{List, [], _∷_}
 use Prim.Native.Nat.{ℕ, suc, _-_, _≤_}
 use native.Mathlib.Omega.{arith}
 use lib.Dec.{eqb, leb}
@@ -10,8 +10,9 @@ use lib.Seq.{length-take-le}
 use borrow.Author.Tests.{eqb-true}
 use Rattle.theory.specs.Machine.{St, Result}
 use Rattle.theory.proofs.Sets.{and-l}
+use Rattle.ops.specs.Limits.{maxMemory}
 use Rattle.ops.specs.Ops.{tcg}
-use Rattle.block.specs.Records.{recordsOf, declarations, opsFrom, widthOf, classesOf, globalCount}
+use Rattle.block.specs.Records.{recordsOf, declarations, opsFrom, classesOf, globalCount}
 use Rattle.block.specs.Scan.{Approved, Scanned, rejected, approved}
 use Rattle.block.proofs.Scanned.{refuse-by}
 use Rattle.runs.specs.Runs.{globalsFit, fits, valuesFrom, ranAs, answerOf, ranOf, opsRun, runOps, runRefused, runChecked, runOf}
@@ -68,7 +69,7 @@ module _ {b places₀ classes types places labels : List ℕ} {rule place start 
       fits-so : fits (declarations (recordsOf b)) lent memory ≡ lentOk types n globals lent memory
       unfolding fits
       fits-so =
-          ap₂ (λ (m : ℕ) (ws : List ℕ). eqb (length lent) m && globalsFit ws lent && leb (length memory) 65536) (sym (approved-by .globals-are)) (approved-by .widths-are)
+          ap₂ (λ (m : ℕ) (ts : List ℕ). eqb (length lent) m && globalsFit ts lent && leb (length memory) maxMemory) (sym (approved-by .globals-are)) (approved-by .types-are)
 
       choice : runOf b lent memory ≡ cond t (runOps (opsFrom (recordsOf b)) lent memory) (runRefused 11 0 lent memory)
       unfolding runOf runChecked
@@ -82,7 +83,7 @@ module _ {b places₀ classes types places labels : List ℕ} {rule place start 
 
       pub lent-few : t ≡ true → length lent ≤ 256
       lent-few f =
-          let q : eqb (length lent) globals ≡ true = and-l (eqb (length lent) globals) _ (and-l (eqb (length lent) globals && globalsFit (map widthOf (take n types)) lent) (leb (length memory) 65536) (sym e ∙ f)) in
+          let q : eqb (length lent) globals ≡ true = and-l (eqb (length lent) globals) _ (and-l (eqb (length lent) globals && globalsFit (take n types) lent) (leb (length memory) maxMemory) (sym e ∙ f)) in
           omega (arith, eqb-true (length lent) globals q, few-lent)
 
       pub accepted-ran : t ≡ true → runOps (opsFrom (recordsOf b)) lent memory ≡ runOf b lent memory

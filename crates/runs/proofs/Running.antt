@@ -13,9 +13,11 @@ use Rattle.theory.specs.Machine.{View, fell, Effect}
 use Rattle.theory.specs.Machine.{jumps, stops, effect, St, Result, cost, seek, moved, counted, after, run}
 use Rattle.theory.specs.Sets.{empty}
 use Rattle.theory.proofs.Simulation.{isJump, Says, says}
-use Rattle.ops.specs.Kinds.{bodyLength}
+use Rattle.ops.specs.Rows.{outsIn, insIn, restIn}
+use Rattle.ops.specs.Kinds.{kindTable, bodyLength}
 use Rattle.ops.specs.Ops.{Fault, viewOf, tcg}
-use Rattle.ops.proofs.Sizes.{body-short}
+use Rattle.ops.proofs.Entry.{Digits, digits}
+use Rattle.ops.proofs.Table.{body-short}
 use Rattle.block.specs.Records.{recordsOf, declarations, opsFrom}
 use Rattle.block.specs.Scan.{recordAt, Stands, placesFrom, recordsAt}
 use Rattle.block.proofs.Parts.{parts}
@@ -230,8 +232,13 @@ module _ {b values₀ memory₀ values memory places labels : List ℕ} {op plac
   pub stands-now : Stands b place (getD b place 0)
   stands-now = stands-at (t .running) due (getD b place 0) refl
 
-  pub body-now : {n : ℕ} → n ≡ bodyLength (getD b place 0) → place + (1 + n) ≤ length b
-  body-now e = omega (arith, stands-now .whole)
+  -- the length of the op's body, from its entry
+  module _ {e n : ℕ} (q : e ≡ getD kindTable (getD b place 0) 0) (h : n ≡ outsIn e + insIn e + restIn e) where
+    body : n ≡ bodyLength (getD b place 0)
+    body = let d : Digits e (getD b place 0) = digits q in h ∙ sym (d .body)
+
+    pub body-now : place + (1 + n) ≤ length b
+    body-now = omega (arith, body, stands-now .whole)
 
   pub few-now : count < 256
   few-now = omega (arith, t .running .early, due, few (t .ready))
@@ -243,10 +250,10 @@ module _ {b values₀ memory₀ values memory places labels : List ℕ} {op plac
     pub stops-now : {e : Stop} → o ≡ Stops e → {ending : Ending} → ending ≡ answerOf (endOf e) op (count + cost (endOf e)) → Executed b values₀ memory₀ values′ memory′ ending
     stops-now e a = run-stops (t .running) due p e a
 
-    pub falls-on : o ≡ Falls → {n op′ place′ : ℕ} → n ≡ bodyLength (getD b place 0) → op′ ≡ op + 1 → place′ ≡ place + (1 + n)
+    pub falls-on : o ≡ Falls → {e n op′ place′ : ℕ} → e ≡ getD kindTable (getD b place 0) 0 → n ≡ outsIn e + insIn e + restIn e → op′ ≡ op + 1 → place′ ≡ place + (1 + n)
         → (op < op′) × Running b values₀ memory₀ values′ memory′ op′ place′ (count + 1)
-    falls-on e {n} {op′} {place′} l q w =
-        (omega (arith, q), subst₂ (λ (x y : ℕ). Running b values₀ memory₀ values′ memory′ x y (count + 1)) (sym q) (sym w) (run-falls (t .running) due (so e) l))
+    falls-on f k h q w =
+        (omega (arith, q), subst₂ (λ (x y : ℕ). Running b values₀ memory₀ values′ memory′ x y (count + 1)) (sym q) (sym w) (run-falls (t .running) due (so f) (body k h)))
 
     -- the label's number, as it is read
     module _ {l i m : ℕ} (e : o ≡ JumpsTo l) (ei : i ≡ l) (em : m ≡ getD labels i 0) where

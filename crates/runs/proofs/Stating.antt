@@ -1,41 +1,52 @@
 -- A pure op states what eval answers. Assumes nothing.
-use mathlib.Core.Path.{_≡_, refl, sym, ap, _∙_}
+use mathlib.Core.Path.{_≡_, refl, sym, ap, ap₂, _∙_}
+use mathlib.Core.Bool.{true, _&&_}
 use mathlib.Core.Option.{Option, none, some}
 use mathlib.Core.List.{List}
-use Prim.Native.Nat.{ℕ, suc, _+_, _≤_, _<_}
+use Prim.Native.Nat.{ℕ, suc, _+_, _-_, _≤_}
 use native.Mathlib.Omega.{arith}
-use lib.ListN.{length, drop, length-append}
-use lib.Seq.{getD-drop}
-use native.Mathlib.Nat.{add-zero}
+use lib.Dec.{eqb}
+use lib.ListN.{length, getD, take, drop}
+use lib.Seq.{take-take}
 use Rattle.theory.specs.Machine.{reads}
 use Rattle.word.specs.Answer.{statedOf}
 use Rattle.ops.specs.Evaluate.{foldedOf}
-use Rattle.ops.specs.Kinds.{at, one, rowOf}
-use Rattle.ops.specs.Table.{operandCount}
+use Rattle.ops.specs.Rows.{Role, computing, outsIn, insIn, restIn, isComputing, at}
+use Rattle.ops.specs.Kinds.{kindTable, rowOf, operandCount, one}
+use Rattle.ops.specs.Ops.{evalOf, foldableRow}
+use Rattle.ops.proofs.Entry.{Digits, digits}
 use Rattle.ops.proofs.Inputs.{folded-inputs}
+use Rattle.ops.proofs.Table.{row-of}
 use Rattle.runs.specs.Evaluates.{Computed, inputsAt, statesAt, valuesOf, envOf}
 use Rattle.word.specs.declared.Stated.{Stated}
-
-pub count-fits : {b : List ℕ} {p k n : ℕ} → Computed b p k → n ≡ operandCount k → p + 1 + n ≤ length b
-count-fits {k = k} c e = omega (arith, c .stands .whole, length-append ((rowOf k) .outs) ((rowOf k) .ins))
 
 one-stated : (o : Option ℕ) → one o ≡ valuesOf (statedOf o)
 one-stated none = refl
 one-stated (some x) = refl
 
-module _ {b : List ℕ} {p k : ℕ} (c : Computed b p k) (l : k < 256) (values : List ℕ) where
-  pub evaluates : {z u v x y n : ℕ} {r : Stated} → n ≡ operandCount k → z ≡ at b (p + 1 + n) → u ≡ envOf values (at b (p + 2)) → v ≡ envOf values (at b (p + 3))
-      → x ≡ envOf values (at b (p + 4)) → y ≡ envOf values (at b (p + 5)) → r ≡ statedOf (foldedOf k z u v x y)
+-- n operands, and m bytes after them
+module _ {b : List ℕ} {p k : ℕ} (c : Computed b p k) {e n m : ℕ} (q : e ≡ getD kindTable k 0) (en : n ≡ outsIn e + insIn e) (em : m ≡ restIn e) where
+  folds : foldableRow (rowOf k) ≡ true
+  folds = ap₂ (λ (r : Role) (outs : ℕ). isComputing r && eqb outs 1) (c .role-is) (ap length ((row-of computing k (c .role-is)) .one-out))
+
+  d : Digits e k
+  d = digits q
+
+  pub bytes-fit : p + 1 + n + m ≤ length b
+  bytes-fit = omega (arith, c .stands .whole, d .body)
+
+  pub evaluates : (values : List ℕ) {u v x y : ℕ} {r : Stated} → u ≡ envOf values (at b (p + 2)) → v ≡ envOf values (at b (p + 3)) → x ≡ envOf values (at b (p + 4))
+      → y ≡ envOf values (at b (p + 5)) → r ≡ statedOf (foldedOf k (take (p + 1 + n + m - (p + 1 + n)) (drop (p + 1 + n) b)) u v x y)
       → statesAt b p k (reads (envOf values) (inputsAt b p k)) ≡ valuesOf r
-  evaluates {z} {u} {v} {x} {y} {n} en ez eu ev ex ey e =
-      let q : p + 1 + n ≡ p + (1 + operandCount k) = omega (arith, en) in
-      let e₀ : at (drop (p + (1 + operandCount k)) b) 0 ≡ z = getD-drop (p + (1 + operandCount k)) b 0 0 ∙ ap (at b) (add-zero (p + (1 + operandCount k)) ∙ sym q) ∙ sym ez in
+  evaluates values {u} {v} {x} {y} eu ev ex ey e =
+      let rest = (rowOf k) .rest in
+      let bytes = take rest (drop (p + (1 + operandCount k)) b) in
+      let size : p + 1 + n + m - (p + 1 + n) ≡ rest = omega (arith, d .rest) in
+      let place : p + 1 + n ≡ p + (1 + operandCount k) = omega (arith, d .operands) in
+      let same : take (p + 1 + n + m - (p + 1 + n)) (drop (p + 1 + n) b) ≡ bytes = ap₂ (λ (i j : ℕ). take i (drop j b)) size place in
       let e₁ : suc (p + 2) ≡ p + 3 = omega arith in
       let e₂ : suc (suc (p + 2)) ≡ p + 4 = omega arith in
       let e₃ : suc (suc (suc (p + 2))) ≡ p + 5 = omega arith in
-      let f₁ : envOf values (at b (suc (p + 2))) ≡ v = ap (λ (i : ℕ). envOf values (at b i)) e₁ ∙ sym ev in
-      let f₂ : envOf values (at b (suc (suc (p + 2)))) ≡ x = ap (λ (i : ℕ). envOf values (at b i)) e₂ ∙ sym ex in
-      let f₃ : envOf values (at b (suc (suc (suc (p + 2))))) ≡ y = ap (λ (i : ℕ). envOf values (at b i)) e₃ ∙ sym ey in
-      let f₀ : envOf values (at b (p + 2)) ≡ u = sym eu in
-      folded-inputs k l (c .role-is) (envOf values) b (drop (p + (1 + operandCount k)) b) (p + 2)
-      ∙ (λ i. one (foldedOf k (e₀ i) (f₀ i) (f₁ i) (f₂ i) (f₃ i))) ∙ one-stated (foldedOf k z u v x y) ∙ ap valuesOf (sym e)
+      ap (λ (s : List ℕ). evalOf k s (reads (envOf values) (inputsAt b p k))) (sym (take-take rest rest (drop (p + (1 + operandCount k)) b) (omega arith)))
+      ∙ folded-inputs k folds (envOf values) b bytes (p + 2)
+      ∙ rw (e₃, e₂, e₁, ← eu, ← ev, ← ex, ← ey, ← same) (one-stated (foldedOf k (take (p + 1 + n + m - (p + 1 + n)) (drop (p + 1 + n) b)) u v x y) ∙ ap valuesOf (sym e))

@@ -4,18 +4,17 @@ use mathlib.Core.Option.{Option, none, some}
 use mathlib.Core.List.{List, [], _∷_}
 use Prim.Native.Nat.{ℕ, _+_}
 use lib.ListN.{length, getD, take, drop}
-use Rattle.ops.specs.Kinds.{rowOf}
+use Rattle.ops.specs.Rows.{computing}
+use Rattle.ops.specs.Kinds.{rowOf, roleOf, operandCount}
 use Rattle.ops.specs.Ops.{bytesAt, evalOf}
-use Rattle.ops.specs.Table.{operandCount, roleOf}
 use Rattle.block.specs.Scan.{Stands}
 use Rattle.word.specs.declared.Stated.{Stated}
 use Rattle.word.specs.declared.Stated.the-variants.{Value, NoResult}
-use Rattle.ops.specs.declared.Role.the-variants.{Computes}
 
 -- a pure op that reads something stands at the place
 pub record Computed (block : List ℕ) (place kind : ℕ) : Type 0 where
   pub stands : Stands block place kind
-  pub role-is : roleOf kind ≡ Computes
+  pub role-is : roleOf kind ≡ computing
 
 -- its inputs, and what it states of their values
 abbrev pub inputsAt : List ℕ → ℕ → ℕ → List ℕ

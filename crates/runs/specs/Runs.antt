@@ -5,23 +5,24 @@ use mathlib.Core.List.{List, [], _∷_}
 use lib.Dec.{eqb, leb}
 use lib.ListN.{length, getD}
 use Rattle.theory.specs.Machine.{St, End, exit, fault, unstated, fell, spent, Result, runs}
-use Rattle.ops.specs.Kinds.{narrowOk}
+use Rattle.ops.specs.Limits.{maxMemory}
+use Rattle.ops.specs.Rows.{bitsOf, narrowOk}
 use Rattle.ops.specs.Ops.{tcg}
 use Rattle.block.specs.declared.Verdict.{Verdict}
 use Rattle.block.specs.declared.Verdict.the-variants.{Accepted, Refused as CheckRefused}
-use Rattle.block.specs.Records.{recordsOf, declarations, opsFrom, classesOf, widthsOf, globalCount}
+use Rattle.block.specs.Records.{recordsOf, declarations, opsFrom, classesOf, declaredTypes, globalCount}
 use Rattle.block.specs.Checks.{checkOf}
 use Rattle.runs.specs.declared.Ending.{Ending}
 use Rattle.runs.specs.declared.Ending.the-variants.{Refused, Exit, Fault, NoResult}
 
 -- 11: "number of lent globals differs from those declared, a 32-bit global of 2^32 or more, memory above 65,536 bytes"
 abbrev pub globalsFit : List ℕ → List ℕ → Bool
-globalsFit ws [] = true
+globalsFit ts [] = true
 globalsFit [] (g ∷ gs) = true
-globalsFit (w ∷ ws) (g ∷ gs) = narrowOk w g && globalsFit ws gs
+globalsFit (t ∷ ts) (g ∷ gs) = narrowOk (bitsOf t) g && globalsFit ts gs
 
 unfoldable pub fits : List (List ℕ) → List ℕ → List ℕ → Bool
-fits declared globals memory = eqb (length globals) (globalCount (classesOf declared)) && globalsFit (widthsOf declared) globals && leb (length memory) 65536
+fits declared globals memory = eqb (length globals) (globalCount (classesOf declared)) && globalsFit (declaredTypes declared) globals && leb (length memory) maxMemory
 
 -- "Globals outlive the block. Local temporaries last for the block and start at zero (our rule)."
 abbrev pub entry : List ℕ → List ℕ → St tcg

@@ -1,19 +1,20 @@
 -- What a step and the loop over the ops come to. Assumes nothing.
 use mathlib.Core.Path.{_≡_}
-use mathlib.Core.Bool.{Bool, _&&_}
+use mathlib.Core.Bool.{Bool, cond, _&&_}
 use mathlib.Core.Option.{some}
-use mathlib.Core.List.{List, [], _∷_, map}
+use mathlib.Core.List.{List, [], _∷_}
 use Prim.Native.Nat.{ℕ, _+_, _-_}
 use lib.Dec.{eqb, leb}
 use lib.ListN.{length, take}
-use Rattle.theory.specs.Machine.{View, calc, access, End, exit, fault, unstated, Effect, falls, jumps, stops, effect, St}
+use Rattle.theory.specs.Machine.{when, to, View, calc, access, flow, End, exit, fault, unstated, Effect, falls, jumps, stops, effect, St}
 use Rattle.word.specs.Condition.{condW}
 use Rattle.memory.specs.Access.{loadAt, storeAt}
 use Rattle.memory.specs.Answer.{accessWidth}
 use Rattle.memory.specs.Bytes.{lowFirst}
-use Rattle.ops.specs.Kinds.{at}
-use Rattle.ops.specs.Ops.{branch, atWidths, Fault, faultOf, afterLoad, afterStore, tcg}
-use Rattle.block.specs.Records.{recordsOf, opsFrom, widthOf}
+use Rattle.ops.specs.Limits.{maxOps, maxMemory}
+use Rattle.ops.specs.Rows.{at}
+use Rattle.ops.specs.Ops.{atTypes, Fault, faultOf, afterLoad, afterStore, tcg}
+use Rattle.block.specs.Records.{recordsOf, opsFrom}
 use Rattle.block.specs.Scan.{Approved}
 use Rattle.runs.specs.Evaluates.{envOf}
 use Rattle.runs.specs.Runs.{globalsFit, answerOf, opsRun}
@@ -61,7 +62,7 @@ pub record Ready (block places labels : List ℕ) (start ops : ℕ) : Type 0 whe
   pub n : ℕ
   pub globals : ℕ
   pub approved : Approved block places₀ classes types places labels start n globals ops
-  pub long-places : length places₀ ≡ 256
+  pub long-places : length places₀ ≡ maxOps
 
 -- the run of a block's ops from these values and this memory: the answer, and what is left in both
 pub record Executed (block values memory values′ memory′ : List ℕ) (ending : Ending) : Type 0 where
@@ -73,13 +74,14 @@ pub record Executed (block values memory values′ memory′ : List ℕ) (ending
 
 -- rule 11, where n variables have these types and so many of them are globals
 abbrev pub lentOk : List ℕ → ℕ → ℕ → List ℕ → List ℕ → Bool
-lentOk types n declared globals memory = eqb (length globals) declared && globalsFit (map widthOf (take n types)) globals && leb (length memory) 65536
+lentOk types n declared globals memory = eqb (length globals) declared && globalsFit (take n types) globals && leb (length memory) maxMemory
 
 -- the views of the ops that a step takes apart, from the bytes of the block after the place
 abbrev pub branchOp : List ℕ → ℕ → Bool → View ℕ (List ℕ) ℕ Fault
 branchOp b p wide =
-    let w = accessWidth wide in
-    branch (at b (p + 1) ∷ at b (p + 2) ∷ []) (λ vs. let xs = atWidths (w ∷ w ∷ []) vs in condW w (at b (p + 3)) (at xs 0) (at xs 1)) (at b (p + 4))
+    let t : ℕ = cond wide 1 0 in
+    flow (at b (p + 1) ∷ at b (p + 2) ∷ [])
+    (when (λ m vs. let xs = atTypes (t ∷ t ∷ []) vs in condW (accessWidth wide) (at b (p + 3)) (at xs 0) (at xs 1))) (to (at b (p + 4)))
 
 abbrev pub loadOp : List ℕ → ℕ → Bool → View ℕ (List ℕ) ℕ Fault
 loadOp b p wide =

@@ -2,6 +2,7 @@
 ghost use mathlib.Core.Path.{_≡_};
 ghost use lib.ListN.{length};
 ghost use Rattle.block.specs.Scan.{declarationOk, DeclaredBy};
+use ops::MAX_VARIABLES;
 
 // Where the declarations end: the rule that is broken there, or 0; how many variables and globals there are.
 pub struct Declared {
@@ -21,7 +22,7 @@ fn declaration_ok(class: u8, ty: u8, globals: usize, n: usize) -> bool
     if 1 < ty {
         return false;
     }
-    if 64 <= n {
+    if MAX_VARIABLES <= n {
         return false;
     }
     if class != 0 {

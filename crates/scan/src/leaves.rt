@@ -1,60 +1,49 @@
-// What an op leaves: the variables written in the basic block, the labels set and jumped to.
+// What an op leaves: the variables written in the basic block, the labels set and jumped to. e is the entry of its kind; its label is its last byte.
 ghost use mathlib.Core.Path.{_≡_};
-ghost use Prim.Native.Nat.{_<_};
-ghost use Rattle.theory.specs.Scope.{wrote};
-ghost use Rattle.ops.specs.Ops.{viewOf};
-ghost use Rattle.ops.specs.Table.{kindTable};
-ghost use Rattle.block.specs.Rules.{nextLabels, nextTargets};
-ghost use Rattle.block.specs.Scan.{recordAt, Stands, marked, numbered, labelledBy};
-use kinds::role_of;
+ghost use Prim.Native.Nat.{_+_, _<_};
+ghost use lib.ListN.{length, getD};
+ghost use Rattle.ops.specs.Rows.{outsIn, insIn, restIn, roleIn, rowIn, roleNo, isSetting, isJumping};
+ghost use Rattle.ops.specs.Ops.{bytesAt};
+ghost use Rattle.block.specs.Rules.{wroteBy, markedBy};
+ghost use Rattle.block.specs.Scan.{marked, numbered, LabelledAs};
+use kinds::body_length;
+use kinds::is_closing;
+use kinds::is_jumping;
+use kinds::is_setting;
+use kinds::outs;
 use marks::clear;
+use marks::mark_all;
 use marks::put;
 use marks::put_number;
-use ops::Role;
 
-// The bytes written in the basic block once the op that starts at a place has run.
-pub fn mark_written(kinds: &[u32; 256], block: &[u8], at: usize, kind: u8, written: &mut [u8; 256])
-    requires { ⌜ Stands (now block) at kind × (now kinds ≡ kindTable) ⌝ }
-    ensures { λ r. ⌜ marked (now (written .exit)) ≡ wrote (marked (now (written .entry))) (viewOf (recordAt (now (block .entry)) at)) ⌝ }
+// The variables written in the basic block once the op that starts at a place has run.
+pub fn mark_written(e: u32, block: &[u8], at: usize, written: &mut [u8; 256])
+    requires { ⌜ at + (outsIn e + insIn e + restIn e) < length (now block) ⌝ }
+    ensures { λ _. ⌜ marked (now (written .exit)) ≡ wroteBy (rowIn e) (marked (now (written .entry))) (bytesAt (now (block .entry)) (at + 1) (outsIn e)) ⌝ }
 {
-    let role = role_of(kinds, kind);
-    match role {
-        Role::Constant => put(written, block[at + 1], 1),
-        Role::Computes => put(written, block[at + 1], 1),
-        Role::Loads => put(written, block[at + 1], 1),
-        Role::Stores => {}
-        _ => clear(written),
+    if is_closing(e) {
+        clear(written);
+        return;
     }
+    mark_all(block, at + 1, outs(e), written);
 }
 
 // The labels set once the op has been read: a label's number is one more than its op's.
-pub fn mark_label(
-    kinds: &[u32; 256],
-    block: &[u8],
-    at: usize,
-    kind: u8,
-    op: usize,
-    labels: &mut [u16; 256],
-)
-    requires { ⌜ Stands (now block) at kind × (op < 1024) × (now kinds ≡ kindTable) ⌝ }
-    ensures { λ r. ⌜ (numbered (now (labels .exit)) ≡ nextLabels (numbered (now (labels .entry))) (viewOf (recordAt (now (block .entry)) at))) × (now (labels .exit) ≡ labelledBy (viewOf (recordAt (now (block .entry)) at)) op (now (labels .entry))) ⌝ }
+pub fn mark_label(e: u32, block: &[u8], at: usize, op: usize, labels: &mut [u16; 256])
+    requires { ⌜ (at + (outsIn e + insIn e + restIn e) < length (now block)) × (op < 1024) ⌝ }
+    ensures { λ _. ⌜ LabelledAs (rowIn e) (getD (now (block .entry)) (at + (outsIn e + insIn e + restIn e)) 0) op (now (labels .entry)) (now (labels .exit)) ⌝ }
 {
-    let role = role_of(kinds, kind);
-    match role {
-        Role::SetsLabel => put_number(labels, block[at + 1], (op + 1) as u16),
-        _ => {}
+    if is_setting(e) {
+        put_number(labels, block[at + body_length(e)], (op + 1) as u16);
     }
 }
 
 // The labels jumped to once the op has been read.
-pub fn mark_target(kinds: &[u32; 256], block: &[u8], at: usize, kind: u8, targets: &mut [u8; 256])
-    requires { ⌜ Stands (now block) at kind × (now kinds ≡ kindTable) ⌝ }
-    ensures { λ r. ⌜ marked (now (targets .exit)) ≡ nextTargets (marked (now (targets .entry))) (viewOf (recordAt (now (block .entry)) at)) ⌝ }
+pub fn mark_target(e: u32, block: &[u8], at: usize, targets: &mut [u8; 256])
+    requires { ⌜ at + (outsIn e + insIn e + restIn e) < length (now block) ⌝ }
+    ensures { λ _. ⌜ marked (now (targets .exit)) ≡ markedBy (isJumping (roleNo (roleIn e))) (marked (now (targets .entry))) (getD (now (block .entry)) (at + (outsIn e + insIn e + restIn e)) 0) ⌝ }
 {
-    let role = role_of(kinds, kind);
-    match role {
-        Role::Jumps => put(targets, block[at + 1], 1),
-        Role::Branches => put(targets, block[at + 4], 1),
-        _ => {}
+    if is_jumping(e) {
+        put(targets, block[at + body_length(e)], 1);
     }
 }

@@ -2,19 +2,22 @@
 ghost use mathlib.Core.Path.{_≡_};
 ghost use mathlib.Core.List.{[]};
 ghost use Prim.Native.Nat.{_<_};
-ghost use lib.ListN.{length};
-ghost use Rattle.ops.specs.Table.{kindTable};
+ghost use lib.ListN.{length, getD};
+ghost use Rattle.ops.specs.Kinds.{kindTable};
 ghost use Rattle.block.specs.Checks.{firstBroken, opRules};
 ghost use Rattle.block.specs.Scan.{recordAt, recordRule, seenOf, Stands, OpAt, RecordAt, Marks, Begins, ScannedBy, Scanned};
 use declarations::scan_declarations;
 use kinds::body_length;
+use kinds::entry;
+use kinds::ins;
 use kinds::is_known;
 use kinds::operand_count;
-use kinds::output_count;
-use kinds::wide_bits;
+use kinds::outs;
 use leaves::mark_label;
 use leaves::mark_target;
 use leaves::mark_written;
+use ops::LABELS;
+use ops::MAX_OPS;
 use rules::all_below;
 use rules::all_set;
 use rules::label_free;
@@ -25,9 +28,9 @@ use rules::types_match;
 mod declarations;
 mod leaves;
 
-// The rule from 9 on that the op at a place breaks, or 0.
+// The rule from 9 on that the op at a place breaks, or 0. e is the entry of its kind.
 fn op_rule(
-    kinds: &[u32; 256],
+    e: u32,
     block: &[u8],
     at: usize,
     n: usize,
@@ -37,28 +40,26 @@ fn op_rule(
     written: &[u8; 256],
     labels: &[u16; 256],
 ) -> u8
-    requires { ⌜ OpAt (now block) (now classes) (now types) at n × (now kinds ≡ kindTable) ⌝ }
+    requires { ⌜ OpAt (now block) (now classes) (now types) at n × (e ≡ getD kindTable (getD (now block) at 0) 0) ⌝ }
     ensures { λ r. ⌜ r ≡ firstBroken (opRules (seenOf (now (classes .entry)) (now (types .entry)) (now (written .entry)) (now (labels .entry)) [] n ops 0) (recordAt (now (block .entry)) at)) ⌝ }
 {
-    if 256 <= ops {
+    if MAX_OPS <= ops {
         return 9;
     }
-    let kind = block[at];
-    let count = operand_count(kinds, kind);
+    let count = operand_count(e);
     if !all_below(block, at + 1, count, n) {
         return 4;
     }
-    if !types_match(block, at + 1, count, wide_bits(kinds, kind), types) {
+    if !types_match(block, at + 1, count, kinds::types(e), types) {
         return 5;
     }
-    if !rest_ok(kinds, block, at + 1 + count, kind) {
+    if !rest_ok(e, block, at + 1 + count) {
         return 6;
     }
-    if !label_free(kinds, block, at, kind, labels) {
+    if !label_free(e, block, at, labels) {
         return 7;
     }
-    let outs = output_count(kinds, kind);
-    if !may_read(block, at + 1 + outs, count - outs, classes, written) {
+    if !may_read(block, at + 1 + outs(e), ins(e), classes, written) {
         return 8;
     }
     0
@@ -66,7 +67,7 @@ fn op_rule(
 
 // The rule that the record at a place breaks, after ops ops; 0 if none.
 fn record_rule(
-    kinds: &[u32; 256],
+    e: u32,
     block: &[u8],
     at: usize,
     n: usize,
@@ -76,39 +77,37 @@ fn record_rule(
     written: &[u8; 256],
     labels: &[u16; 256],
 ) -> u8
-    requires { ⌜ RecordAt (now block) (now classes) (now types) at n ops × (now kinds ≡ kindTable) ⌝ }
+    requires { ⌜ RecordAt (now block) (now classes) (now types) at n ops × (e ≡ getD kindTable (getD (now block) at 0) 0) ⌝ }
     ensures { λ r. ⌜ r ≡ recordRule (seenOf (now (classes .entry)) (now (types .entry)) (now (written .entry)) (now (labels .entry)) [] n ops 0) (now (block .entry)) at ⌝ }
 {
-    let kind = block[at];
-    if !is_known(kinds, kind) {
+    if !is_known(e) {
         return 2;
     }
-    if block.len() - at <= body_length(kinds, kind) {
+    if block.len() - at <= body_length(e) {
         return 1;
     }
-    if kind == 1 {
+    if block[at] == 1 {
         return 3;
     }
-    op_rule(kinds, block, at, n, ops, classes, types, written, labels)
+    op_rule(e, block, at, n, ops, classes, types, written, labels)
 }
 
 // What the op at a place leaves in the arrays.
 fn mark_op(
-    kinds: &[u32; 256],
+    e: u32,
     block: &[u8],
     at: usize,
-    kind: u8,
     op: usize,
     written: &mut [u8; 256],
     labels: &mut [u16; 256],
     targets: &mut [u8; 256],
 )
-    requires { ⌜ Stands (now block) at kind × (op < 1024) × (now kinds ≡ kindTable) ⌝ }
+    requires { ⌜ Stands (now block) at (getD (now block) at 0) × (op < 1024) × (e ≡ getD kindTable (getD (now block) at 0) 0) ⌝ }
     ensures { λ r. ⌜ Marks (recordAt (now (block .entry)) at) op (now (written .entry)) (now (written .exit)) (now (labels .entry)) (now (labels .exit)) (now (targets .entry)) (now (targets .exit)) ⌝ }
 {
-    mark_written(kinds, block, at, kind, written);
-    mark_label(kinds, block, at, kind, op, labels);
-    mark_target(kinds, block, at, kind, targets);
+    mark_written(e, block, at, written);
+    mark_label(e, block, at, op, labels);
+    mark_target(e, block, at, targets);
 }
 
 // What the scan of the ops finds: the rule that is broken and its place, or 0 and how many ops there are.
@@ -139,7 +138,9 @@ pub fn scan_ops(
     let mut ops: usize = 0;
     let mut last: u8 = 0;
     while at < block.len() {
-        let rule = record_rule(kinds, block, at, n, ops, classes, types, &written, labels);
+        let kind = block[at];
+        let e = entry(kinds, kind);
+        let rule = record_rule(e, block, at, n, ops, classes, types, &written, labels);
         if rule != 0 {
             return Ops {
                 rule,
@@ -147,21 +148,11 @@ pub fn scan_ops(
                 ops,
             };
         }
-        let kind = block[at];
-        mark_op(
-            kinds,
-            block,
-            at,
-            kind,
-            ops,
-            &mut written,
-            labels,
-            &mut targets,
-        );
+        mark_op(e, block, at, ops, &mut written, labels, &mut targets);
         places[ops] = (at % 65536) as u16;
         ops += 1;
         last = kind;
-        at += 1 + body_length(kinds, kind);
+        at += 1 + body_length(e);
     }
     if last != 4 {
         return Ops {
@@ -170,7 +161,7 @@ pub fn scan_ops(
             ops,
         };
     }
-    if !all_set(&targets, labels, 32) {
+    if !all_set(&targets, labels, LABELS as usize) {
         return Ops {
             rule: 7,
             place: at,

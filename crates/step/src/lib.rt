@@ -1,21 +1,20 @@
 // One op run: what it does to the values and the memory, and how the run goes on.
 ghost use mathlib.Core.Path.{_≡_};
 ghost use Prim.Native.Nat.{_+_, _≤_, _<_, _%_, _^_};
-ghost use lib.ListN.{length};
+ghost use lib.ListN.{length, getD};
 ghost use Rattle.word.specs.Condition.{condW};
 ghost use Rattle.memory.specs.Answer.{accessWidth};
 ghost use Rattle.ops.specs.Ops.{viewOf};
-ghost use Rattle.ops.specs.Table.{kindTable};
+ghost use Rattle.ops.specs.Kinds.{kindTable};
 ghost use Rattle.block.specs.Scan.{recordAt, Stands};
 ghost use Rattle.runs.specs.Evaluates.{Computed};
 ghost use Rattle.runs.specs.Steps.{Performs, PerformsAlone, branchOp, loadOp, storeOp, constantOp};
 use kinds::is_wide;
-use kinds::role_of;
+use kinds::role;
 use memory::Loaded;
 use memory::load;
 use memory::low_first;
 use memory::store;
-use ops::Role;
 use runs::Outcome;
 use runs::Stop;
 use values::evaluate;
@@ -99,17 +98,11 @@ fn constant_step(block: &[u8], at: usize, values: &mut [u64; 256]) -> Outcome
 }
 
 // A pure op that reads something: d, its inputs, and for some the condition.
-fn compute_step(
-    kinds: &[u32; 256],
-    block: &[u8],
-    at: usize,
-    kind: u8,
-    values: &mut [u64; 256],
-) -> Outcome
-    requires { ⌜ Computed (now block) at kind × (now kinds ≡ kindTable) ⌝ }
+fn compute_step(e: u32, block: &[u8], at: usize, kind: u8, values: &mut [u64; 256]) -> Outcome
+    requires { ⌜ Computed (now block) at kind × (e ≡ getD kindTable kind 0) ⌝ }
     ensures { λ r. ⌜ PerformsAlone (viewOf (recordAt (now (block .entry)) at)) (now (values .entry)) (now (values .exit)) r ⌝ }
 {
-    let stated = evaluate(kinds, block, at, kind, values);
+    let stated = evaluate(e, block, at, kind, values);
     match stated {
         Stated::Value(v) => {
             put(values, block[at + 1], v);
@@ -119,29 +112,27 @@ fn compute_step(
     }
 }
 
-// Runs the op of this kind that starts at a place.
+// Runs the op of this kind, with this entry, that starts at a place. A record that is no op exits with 0.
 pub fn step(
-    kinds: &[u32; 256],
+    e: u32,
     block: &[u8],
     at: usize,
     kind: u8,
     values: &mut [u64; 256],
     memory: &mut [u8],
 ) -> Outcome
-    requires { ⌜ Stands (now block) at kind × (now kinds ≡ kindTable) ⌝ }
+    requires { ⌜ Stands (now block) at kind × (e ≡ getD kindTable kind 0) ⌝ }
     ensures { λ r. ⌜ Performs (viewOf (recordAt (now (block .entry)) at)) (now (values .entry)) (now (memory .entry)) (now (values .exit)) (now (memory .exit)) r ⌝ }
 {
-    let role = role_of(kinds, kind);
-    match role {
-        Role::Computes => compute_step(kinds, block, at, kind, values),
-        Role::Constant => constant_step(block, at, values),
-        Role::Loads => load_step(block, at, is_wide(kind), values, memory),
-        Role::Stores => store_step(block, at, values, memory),
-        Role::Branches => branch_step(block, at, is_wide(kind), values),
-        Role::SetsLabel => Outcome::Falls,
-        Role::Jumps => Outcome::JumpsTo(block[at + 1]),
-        Role::Exits => Outcome::Stops(Stop::Leaves(get(values, block[at + 1]))),
-        Role::Unknown => Outcome::Stops(Stop::Leaves(get(values, 0))),
-        Role::Declares => Outcome::Stops(Stop::Leaves(get(values, 0))),
+    match role(e) {
+        9 => compute_step(e, block, at, kind, values),
+        8 => constant_step(block, at, values),
+        6 => load_step(block, at, is_wide(kind), values, memory),
+        7 => store_step(block, at, values, memory),
+        5 => branch_step(block, at, is_wide(kind), values),
+        2 => Outcome::Falls,
+        3 => Outcome::JumpsTo(block[at + 1]),
+        4 => Outcome::Stops(Stop::Leaves(get(values, block[at + 1]))),
+        _ => Outcome::Stops(Stop::Leaves(0)),
     }
 }

@@ -4,10 +4,11 @@ ghost use Prim.Native.Nat.{_<_};
 ghost use lib.ListN.{length, getD, set};
 ghost use Rattle.block.specs.Scan.{SetAt};
 ghost use Rattle.runs.specs.Evaluates.{envOf, Computed, inputsAt, statesAt, valuesOf};
-ghost use Rattle.ops.specs.Table.{kindTable};
+ghost use Rattle.ops.specs.Kinds.{kindTable};
 ghost use Rattle.theory.specs.Machine.{reads};
 use evaluate::eval;
 use kinds::operand_count;
+use kinds::rest;
 use marks::index;
 use word::Stated;
 
@@ -49,21 +50,16 @@ fn input(block: &[u8], i: usize, values: &[u64; 256]) -> u64
     get(values, byte_at(block, i))
 }
 
-// What the op of this kind states: d, its inputs, and for some the condition.
-pub fn evaluate(
-    kinds: &[u32; 256],
-    block: &[u8],
-    at: usize,
-    kind: u8,
-    values: &[u64; 256],
-) -> Stated
-    requires { ⌜ Computed (now block) at kind × (now kinds ≡ kindTable) ⌝ }
+// What the op of this kind, with this entry, states of its inputs and the bytes after them.
+pub fn evaluate(e: u32, block: &[u8], at: usize, kind: u8, values: &[u64; 256]) -> Stated
+    requires { ⌜ Computed (now block) at kind × (e ≡ getD kindTable kind 0) ⌝ }
     ensures { λ r. ⌜ statesAt (now (block .entry)) at kind (reads (envOf (now (values .entry))) (inputsAt (now (block .entry)) at kind)) ≡ valuesOf r ⌝ }
 {
     let a = input(block, at + 2, values);
     let b = input(block, at + 3, values);
     let x = input(block, at + 4, values);
     let y = input(block, at + 5, values);
-    let c = byte_at(block, at + 1 + operand_count(kinds, kind));
-    eval(kind, c, a, b, x, y)
+    let p = at + 1 + operand_count(e);
+    let end = p + rest(e);
+    eval(kind, &block[p..end], a, b, x, y)
 }

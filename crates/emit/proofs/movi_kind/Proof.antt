@@ -1,17 +1,17 @@
--- `movi_kind` goes by the width of the output. Assumes nothing.
+-- `movi_kind` goes by the type of the output. Assumes nothing.
+use borrow.Author.Tests.{eq-eqb, ne-eqb}
 use borrow.Author.Needs.{needs}
-use Rattle.passes.proofs.Emitting.{movi-wide, movi-narrow}
 use Rattle.emit.proofs.movi_kind.Statement.{statement}
 use Rattle.emit.proofs.movi_kind.Tie as tie
 
-wide-bits-requires : tie.Need-wide-bits-requires
-wide-bits-requires c κs = search needs
+types-requires : tie.Need-types-requires
+types-requires c κs = search needs
 
 returns : tie.Need-returns
-returns c = movi-wide (c .before .before .args .kind) (c .before .before .pre .0) (c .before .wide-bits .ensures) (c .if1 .taken)
+returns c = rw (eq-eqb _ _ (rw (c .before .types .ensures) at (c .if1 .taken)))
 
 returns-2 : tie.Need-returns-2
-returns-2 c = movi-narrow (c .before .before .args .kind) (c .before .before .pre .0) (c .before .wide-bits .ensures) (c .if1 .left)
+returns-2 c = rw (ne-eqb _ _ (rw (c .before .types .ensures) at (c .if1 .left)))
 
 pub movi-kind-spec : {M : Type 1} → statement M
-movi-kind-spec = tie.close (tie.spec wide-bits-requires returns returns-2)
+movi-kind-spec = tie.close (tie.spec types-requires returns returns-2)

@@ -1,45 +1,25 @@
--- How many bytes the i-th op takes. Assumes nothing.
-use native.Mathlib.Omega.{arith}
+-- How many bytes an op takes. Assumes nothing.
+use mathlib.Core.Path.{ap}
+use Prim.Native.Nat.{ℕ, _+_}
+use borrow.Author.Tests.{eq-eqb, ne-eqb}
 use borrow.Author.Needs.{needs}
-use Rattle.passes.proofs.Emitting.{size-none, size-all}
 use Rattle.emit.proofs.size_at.Statement.{statement}
 use Rattle.emit.proofs.size_at.Tie as tie
 
-element-copy-out-if1 : tie.Need-element-copy-out-if1
-element-copy-out-if1 c = search needs
-
 returns : tie.Need-returns
-returns c = (omega arith, λ value. size-none _ (c .if1 .taken))
-
-mul-op-size : tie.Need-mul-op-size
-mul-op-size c = search needs
-
-element-copy-out-op-size : tie.Need-element-copy-out-op-size
-element-copy-out-op-size c = search needs
-
-cast-op-size : tie.Need-cast-op-size
-cast-op-size c = search needs
-
-element-copy-out-op-size-2 : tie.Need-element-copy-out-op-size-2
-element-copy-out-op-size-2 c = search needs
-
-op-size-requires : tie.Need-op-size-requires
-op-size-requires c κs =
-    (c .before .before .before .before .before .pre .1, c .before .before .before .before .before .pre .2)
+returns c = rw (ne-eqb _ _ (c .if1 .taken))
 
 returns-2 : tie.Need-returns-2
-returns-2 c =
-    (c .op-size .ensures .0, λ value. size-all (c .before .before .before .if1 .left) (c .op-size .ensures .1 value))
+returns-2 c = rw (eq-eqb _ _ (c .before .if1 .left), eq-eqb _ _ (c .if2 .taken))
+
+body-length-requires : tie.Need-body-length-requires
+body-length-requires c κs = search needs
+
+add-result : tie.Need-add-result
+add-result c = search needs
+
+returns-3 : tie.Need-returns-3
+returns-3 c = rw (eq-eqb _ _ (c .before .before .if1 .left), ne-eqb _ _ (c .before .if2 .left)) (ap (λ (n : ℕ). 1 + n) (c .body-length .ensures))
 
 pub size-at-spec : {M : Type 1} → statement M
-size-at-spec =
-    tie.close
-    (tie.spec
-    element-copy-out-if1
-    returns
-    mul-op-size
-    element-copy-out-op-size
-    cast-op-size
-    element-copy-out-op-size-2
-    op-size-requires
-    returns-2)
+size-at-spec = tie.close (tie.spec returns returns-2 body-length-requires add-result returns-3)

@@ -33,8 +33,8 @@ family-requires-2 c κs = search needs
 
 returns : tie.Need-returns
 returns c =
-    let s = c .before .before .before in
-    ap statedOf (c .converted .ensures ∙ sym (folded-convert _ _ _ _ _ (s .args .kind) (omega arith) (omega arith) (omega arith)))
+    let s = c .before .before .before .before in
+    ap statedOf (c .converted .ensures ∙ sym (folded-convert (s .args .kind) _ _ _ _ _ (omega arith) (omega arith) (omega arith)))
 
 returns-2 : tie.Need-returns-2
 returns-2 c =

@@ -1,34 +1,29 @@
 -- The byte and the constant of one op. Assumes nothing.
-use native.Mathlib.Omega.{arith}
-use borrow.Author.Needs.{needs}
 use Rattle.passes.proofs.Forward.{value-at, none-at}
+use borrow.Author.Needs.{needs}
 use Rattle.fold.proofs.fold_at.Statement.{statement}
 use Rattle.fold.proofs.fold_at.Tie as tie
 
-shared-slice-read-fold-op : tie.Need-shared-slice-read-fold-op
-shared-slice-read-fold-op c = omega (arith, c .before .before .before .before .pre .0 .whole)
-
 fold-op-requires : tie.Need-fold-op-requires
-fold-op-requires c κs =
-    (c .before .before .before .before .before .before .pre .0, c .before .before .before .before .before .before .pre .3)
+fold-op-requires c κs = search needs
 
 enum-known-stated : tie.Need-enum-known-stated
 enum-known-stated c = search needs
 
 slice-write-folded : tie.Need-slice-write-folded
-slice-write-folded c = c .before .before .before .before .before .before .before .before .before .before .pre .1
+slice-write-folded c = search needs
 
 mul-consts : tie.Need-mul-consts
 mul-consts c = search needs
 
 slice-write-consts : tie.Need-slice-write-consts
-slice-write-consts c = c .before .before .before .before .before .before .before .before .before .before .pre .2
+slice-write-consts c = search needs
 
 enum-told : tie.Need-enum-told
 enum-told c = search needs
 
 slice-write-folded-2 : tie.Need-slice-write-folded-2
-slice-write-folded-2 c = c .before .before .before .before .before .before .before .before .before .pre .1
+slice-write-folded-2 c = search needs
 
 same-length : tie.Need-same-length
 same-length c = search needs
@@ -37,24 +32,18 @@ same-length-2 : tie.Need-same-length-2
 same-length-2 c = search needs
 
 returns : tie.Need-returns
-returns c =
-    let pre = c .before .before .before .before .before .before .before .before .before .before .pre in
-    let fold-op = c .before .before .before .fold-op .ensures in
-    value-at fold-op (pre .1) (pre .2) (c .before .stated .given .1)
+returns c = value-at (c .before .before .before .fold-op .ensures) (c .before .before .before .before .before .before .before .before .before .pre .1) (c .before .before .before .before .before .before .before .before .before .pre .2) (c .before .stated .given .1)
 
 same-length-3 : tie.Need-same-length-3
 same-length-3 c = search needs
 
 returns-2 : tie.Need-returns-2
-returns-2 c =
-    let pre = c .before .before .before .before .before .before .before .before .before .pre in
-    none-at (c .before .before .fold-op .ensures) (pre .1) (pre .2) (c .enum-told .given .1)
+returns-2 c = none-at (c .before .before .fold-op .ensures) (c .before .before .before .before .before .before .before .before .pre .1) (c .before .before .before .before .before .before .before .before .pre .2) (c .enum-told .given .1)
 
 pub fold-at-spec : {M : Type 1} → statement M
 fold-at-spec =
     tie.close
     (tie.spec
-    shared-slice-read-fold-op
     fold-op-requires
     enum-known-stated
     slice-write-folded

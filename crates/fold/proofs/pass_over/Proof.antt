@@ -1,108 +1,80 @@
--- An op that stays as it is, role by role. Assumes nothing.
-use mathlib.Core.Path.{sym, _∙_}
-use mathlib.Core.List.{[], _∷_}
+-- What is known after an op that stays, by the number of its role. Assumes nothing.
+use mathlib.Core.Path.{_≡_}
 use native.Mathlib.Omega.{arith}
-use borrow.Author.Needs.{needs}
-use types.Run.{miss}
-use Rattle.ops.specs.Kinds.{at}
+use lib.ListN.{getD}
+use Rattle.ops.specs.Rows.{constant}
+use Rattle.ops.specs.Kinds.{roleOf}
 use Rattle.block.proofs.Views.{inside}
-use Rattle.passes.proofs.Knowing.{over-constant, over-load, over-store, over-end}
+use Rattle.passes.proofs.Before.{operands-inside}
+use Rattle.passes.proofs.Knowing.{is-constant, over-constant, over-end, over-others}
+use borrow.Author.Needs.{needs}
 use Rattle.fold.proofs.pass_over.Statement.{statement}
 use Rattle.fold.proofs.pass_over.Tie as tie
 
-role-of-requires : tie.Need-role-of-requires
-role-of-requires c κs = search needs
+-- past the first test
+constant-so : (r : tie.After-role) → r .role .result ≡ 8 → (let a = r .before .before .args in roleOf (getD (a .block .now) (a .at) 0) ≡ constant)
+constant-so r h = let start = r .before .before in is-constant (start .pre .0) (start .pre .1) (r .role .ensures) (start .args .known .now) (start .args .values .now) h
 
-enum-told : tie.Need-enum-told
-enum-told c = c .match .keys1
+role-requires : tie.Need-role-requires
+role-requires c κs = search needs
 
 add-learn : tie.Need-add-learn
 add-learn c = search needs
 
 shared-slice-read-learn : tie.Need-shared-slice-read-learn
-shared-slice-read-learn c =
-    inside (c .before .before .before .before .before .before .before .pre .0) (sym (c .before .before .before .before .before .role-of .ensures) ∙ c .before .before .before .enum-told .given .1) 1 (omega arith)
+shared-slice-read-learn c = inside (c .before .before .before .before .before .before .pre .0) (constant-so (c .before .before .before .before) (c .before .before .before .if1 .taken)) 1 (omega arith)
 
 add-low-first : tie.Need-add-low-first
 add-low-first c = search needs
 
 low-first-requires : tie.Need-low-first-requires
-low-first-requires c κs =
-    omega (arith, inside (c .before .before .before .before .before .before .before .pre .0) (sym (c .before .before .before .before .before .role-of .ensures) ∙ c .before .before .before .enum-told .given .1) 9 (omega arith))
+low-first-requires c κs = (omega (arith, inside (c .before .before .before .before .before .before .pre .0) (constant-so (c .before .before .before .before) (c .before .before .before .if1 .taken)) 9 (omega arith)), omega arith)
 
 learn-requires : tie.Need-learn-requires
-learn-requires c κs = tt
-
-enum-told-2 : tie.Need-enum-told-2
-enum-told-2 c = c .match .keys2
-
-add-put : tie.Need-add-put
-add-put c = search needs
-
-shared-slice-read-put : tie.Need-shared-slice-read-put
-shared-slice-read-put c =
-    inside (c .before .before .before .before .before .before .pre .0) (sym (c .before .before .before .before .role-of .ensures) ∙ c .before .before .enum-told2 .given .1) 1 (omega arith)
-
-put-requires : tie.Need-put-requires
-put-requires c κs = tt
-
-enum-told-3 : tie.Need-enum-told-3
-enum-told-3 c = c .match .keys3
-
-clear-requires : tie.Need-clear-requires
-clear-requires c κs = tt
+learn-requires c κs = search needs
 
 returns : tie.Need-returns
 returns c =
-    let pre = c .before .before .before .before .before .before .before .before .before .pre in
-    let args = c .before .before .before .before .before .before .before .before .before .args in
-    let role-of = c .before .before .before .before .before .before .before .role-of .ensures in
-    let told = c .before .before .before .before .before .enum-told .given .1 in
-    over-constant (pre .0) (args .known .now) (args .values .now) (sym role-of ∙ told) (c .before .low-first .ensures .0) (c .learn .ensures)
+    let start = c .before .before .before .before .before .before .before .before in
+    over-constant (start .pre .0) (start .pre .1) (c .before .before .before .before .before .before .role .ensures) (start .args .known .now) (start .args .values .now) (c .before .before .before .before .before .if1 .taken) (c .before .low-first .ensures .0) (c .learn .ensures)
+
+clear-requires : tie.Need-clear-requires
+clear-requires c κs = search needs
 
 returns-2 : tie.Need-returns-2
 returns-2 c =
-    let pre = c .before .before .before .before .before .before .before .pre in
-    let args = c .before .before .before .before .before .before .before .args in
-    let role-of = c .before .before .before .before .before .role-of .ensures in
-    let told = c .before .before .before .enum-told2 .given .1 in
-    over-load (pre .0) (args .known .now) (args .values .now) (sym role-of ∙ told) (c .put .ensures)
+    let start = c .before .before .before .before .before .before in
+    over-end (start .pre .0) (start .pre .1) (c .before .before .before .before .role .ensures) (start .args .known .now) (start .args .values .now) (c .before .before .if2 .taken) (c .clear .ensures)
+
+add-unmark-all : tie.Need-add-unmark-all
+add-unmark-all c = search needs
+
+outs-requires : tie.Need-outs-requires
+outs-requires c κs = search needs
+
+unmark-all-requires : tie.Need-unmark-all-requires
+unmark-all-requires c κs = omega (arith, operands-inside (c .before .before .before .before .before .before .pre .0) (c .before .before .before .before .before .before .pre .1), c .before .outs .ensures)
 
 returns-3 : tie.Need-returns-3
 returns-3 c =
-    let pre = c .before .before .before .before .pre in
-    let args = c .before .before .before .before .args in
-    over-store (pre .0) (args .known .now) (args .values .now) (sym (c .before .before .role-of .ensures) ∙ c .enum-told3 .given .1)
-
-returns-4 : tie.Need-returns-4
-returns-4 c =
-    let pre = c .before .before .before .before .before .pre in
-    let args = c .before .before .before .before .before .args in
-    let role-of = c .before .before .before .role-of .ensures in
-    over-end (pre .0) (args .known .now) (args .values .now) (pre .1)
-    (λ e. miss (0 ∷ 1 ∷ 2 ∷ 3 ∷ 4 ∷ 6 ∷ 7 ∷ []) 5 tt (rw (role-of ∙ e) at (c .before .before .match .keys4)))
-    (λ e. miss (0 ∷ 1 ∷ 2 ∷ 3 ∷ 4 ∷ 6 ∷ 7 ∷ []) 8 tt (rw (role-of ∙ e) at (c .before .before .match .keys4)))
-    (λ e. miss (0 ∷ 1 ∷ 2 ∷ 3 ∷ 4 ∷ 6 ∷ 7 ∷ []) 9 tt (rw (role-of ∙ e) at (c .before .before .match .keys4)))
-    (c .clear .ensures)
+    let start = c .before .before .before .before .before .before .before in
+    over-others (start .pre .0) (start .pre .1) (c .before .before .before .before .before .role .ensures) (start .args .known .now) (start .args .values .now) (c .before .before .before .if2 .left) (c .before .before .before .before .if1 .left) (start .pre .2)
+    (rw (c .before .before .outs .ensures) at (c .unmark-all .ensures))
 
 pub pass-over-spec : {M : Type 1} → statement M
 pass-over-spec =
     tie.close
     (tie.spec
-    role-of-requires
-    enum-told
+    role-requires
     add-learn
     shared-slice-read-learn
     add-low-first
     low-first-requires
     learn-requires
-    enum-told-2
-    add-put
-    shared-slice-read-put
-    put-requires
-    enum-told-3
-    clear-requires
     returns
+    clear-requires
     returns-2
-    returns-3
-    returns-4)
+    add-unmark-all
+    outs-requires
+    unmark-all-requires
+    returns-3)

@@ -1,12 +1,11 @@
--- `table` is the entry of every kind: one computed test of the whole table. Assumes nothing.
+-- `table` is document 01's: one computed comparison. Assumes nothing.
 use mathlib.Core.Path.{refl}
-use Rattle.ops.specs.Kinds.{rowOf, wideRow}
-use Rattle.ops.specs.Table.{entryOf, kindTable}
+use Rattle.ops.specs.Kinds.{kindTable}
 use Rattle.kinds.proofs.table.Statement.{statement}
 use Rattle.kinds.proofs.table.Tie as tie
 
 returns : tie.Need-returns
-unfolding kindTable entryOf rowOf wideRow
+unfolding kindTable
 returns c = refl
 
 pub table-spec : {M : Type 1} → statement M

@@ -1,5 +1,4 @@
 -- A class below the limit marks its variable. Assumes nothing.
-use Rattle.runs.specs.Runs.{fits}
 use Rattle.passes.proofs.Liveness.{class-marked, class-left}
 use Rattle.prune.proofs.mark_class.Statement.{statement}
 use Rattle.prune.proofs.mark_class.Tie as tie

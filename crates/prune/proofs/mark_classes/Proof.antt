@@ -1,7 +1,6 @@
 -- Each class below the limit marks its variable. Assumes nothing.
 use Prim.Native.Nat.{_-_, _≤_}
 use native.Mathlib.Omega.{arith}
-use Rattle.theory.specs.Prune.{live}
 use Rattle.passes.proofs.Liveness.{Classed, classed-start, classed-step, classed-end}
 use Rattle.prune.proofs.mark_classes.Statement.{statement}
 use Rattle.prune.proofs.mark_classes.Tie as tie

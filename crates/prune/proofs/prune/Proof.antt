@@ -1,9 +1,9 @@
 -- Prune, from the last op. Assumes nothing.
+use borrow.Author.Needs.{needs}
 use mathlib.Core.Path.{refl, sym, _∙_}
 use Prim.Native.Nat.{_-_, _≤_}
 use native.Mathlib.Omega.{arith}
 use lib.ListN.{take, replicate}
-use Rattle.theory.specs.Prune.{live}
 use Rattle.block.specs.Records.{recordsOf, opsFrom}
 use Rattle.passes.proofs.Bytes.{foldable-op}
 use Rattle.passes.proofs.Emitting.{place-inside}
@@ -27,45 +27,47 @@ loop-holds c =
 sub-i : tie.Need-sub-i Inv-loop μ-loop
 sub-i c = omega (arith, c .loop-test .taken)
 
-mul-prune-op : tie.Need-mul-prune-op Inv-loop μ-loop
-mul-prune-op c = omega (arith, c .before .before .before .before .before .before .pre .1 .here .few, c .before .loop .inv .0, c .loop-test .taken)
+mul-at : tie.Need-mul-at Inv-loop μ-loop
+mul-at c = omega (arith, c .before .before .before .before .before .before .pre .1 .here .few, c .before .loop .inv .0, c .loop-test .taken)
+
+element-copy-out-at : tie.Need-element-copy-out-at Inv-loop μ-loop
+element-copy-out-at c = omega (arith, c .before .before .before .before .before .before .pre .1 .here .few, c .before .loop .inv .0, c .loop-test .taken)
+
+cast-at : tie.Need-cast-at Inv-loop μ-loop
+cast-at c =
+    let start = c .before .before .before .before .before .before .before in
+    omega (arith, place-inside (foldable-op {i = c .before .before .loop .i - 1} (start .pre .1) (omega (arith, c .before .before .loop .inv .0, c .before .loop-test .taken))), start .good .1 .0)
+
+shared-slice-read-entry : tie.Need-shared-slice-read-entry Inv-loop μ-loop
+shared-slice-read-entry c =
+    let start = c .before .before .before .before .before .before .before .before in
+    place-inside (foldable-op {i = c .before .before .before .loop .i - 1} (start .pre .1) (omega (arith, c .before .before .before .loop .inv .0, c .before .before .loop-test .taken)))
+
+entry-requires : tie.Need-entry-requires Inv-loop μ-loop
+entry-requires c κs = search needs
 
 element-copy-out-prune-op : tie.Need-element-copy-out-prune-op Inv-loop μ-loop
-element-copy-out-prune-op c = omega (arith, c .before .before .before .before .before .before .pre .1 .here .few, c .before .loop .inv .0, c .loop-test .taken)
-
-cast-prune-op : tie.Need-cast-prune-op Inv-loop μ-loop
-cast-prune-op c =
-    let pre = c .before .before .before .before .before .before .before .pre in
-    let good = c .before .before .before .before .before .before .before .good in
-    omega (arith, place-inside (foldable-op {i = c .before .before .loop .i - 1} (pre .1) (omega (arith, c .before .before .loop .inv .0, c .before .loop-test .taken))), good .1 .0)
-
-element-copy-out-prune-op-2 : tie.Need-element-copy-out-prune-op-2 Inv-loop μ-loop
-element-copy-out-prune-op-2 c =
-    omega (arith, c .before .before .before .before .before .before .before .pre .1 .here .few, c .before .before .loop .inv .0, c .before .loop-test .taken)
+element-copy-out-prune-op c = omega (arith, c .before .before .before .before .before .before .before .before .before .pre .1 .here .few, c .before .before .before .before .loop .inv .0, c .before .before .before .loop-test .taken)
 
 prune-op-requires : tie.Need-prune-op-requires Inv-loop μ-loop
 prune-op-requires c κs =
-    let pre = c .before .before .before .before .before .before .before .before .before .pre in
-    let inv = c .before .before .before .before .loop .inv in
-    let more = c .before .before .before .loop-test .taken in
-    (pre .0, foldable-op (pre .1) (omega (arith, inv .0, more)), pre .3)
+    let start = c .before .before .before .before .before .before .before .before .before .before .before in
+    (start .pre .0, foldable-op (start .pre .1) (omega (arith, c .before .before .before .before .before .before .loop .inv .0, c .before .before .before .before .before .loop-test .taken)), rw (start .pre .3) at (c .before .before .entry .ensures))
 
 slice-write-keep : tie.Need-slice-write-keep Inv-loop μ-loop
 slice-write-keep c =
-    let pre = c .before .before .before .before .before .before .before .before .before .before .pre in
-    let inv = c .before .before .before .before .before .loop .inv in
-    let more = c .before .before .before .before .loop-test .taken in
-    omega (arith, pre .1 .here .few, inv .1 .long, inv .0, more)
+    let start = c .before .before .before .before .before .before .before .before .before .before .before .before in
+    let inv = c .before .before .before .before .before .before .before .loop .inv in
+    omega (arith, start .pre .1 .here .few, inv .1 .long, inv .0, c .before .before .before .before .before .before .loop-test .taken)
 
 loop-less : tie.Need-loop-less Inv-loop μ-loop
-loop-less c = omega (arith, c .before .before .before .before .loop-test .taken)
+loop-less c = omega (arith, c .before .before .before .before .before .before .loop-test .taken)
 
 loop-again : tie.Need-loop-again Inv-loop μ-loop
 loop-again c =
-    let pre = c .before .before .before .before .before .before .before .before .before .before .pre in
-    let inv = c .before .before .before .before .before .loop .inv in
-    let more = c .before .before .before .before .loop-test .taken in
-    (omega (arith, inv .0), pruning-back (pre .1) (inv .1) more (inv .0) (c .prune-op .ensures))
+    let start = c .before .before .before .before .before .before .before .before .before .before .before .before in
+    let inv = c .before .before .before .before .before .before .before .loop .inv in
+    (omega (arith, inv .0), pruning-back (start .pre .1) (inv .1) (c .before .before .before .before .before .before .loop-test .taken) (inv .0) (c .prune-op .ensures))
 
 same-length : tie.Need-same-length Inv-loop μ-loop
 same-length c = c .before .loop .inv .1 .long ∙ sym (c .before .before .before .before .before .before .pre .2)
@@ -82,10 +84,12 @@ prune-spec =
     mark-classes-requires
     loop-holds
     sub-i
-    mul-prune-op
+    mul-at
+    element-copy-out-at
+    cast-at
+    shared-slice-read-entry
+    entry-requires
     element-copy-out-prune-op
-    cast-prune-op
-    element-copy-out-prune-op-2
     prune-op-requires
     slice-write-keep
     loop-less

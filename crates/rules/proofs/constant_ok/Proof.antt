@@ -1,4 +1,4 @@
--- A constant at 64 bits is any, one at 32 bits is below 2^32. Assumes nothing.
+-- A constant is below 2^32. Assumes nothing.
 use borrow.Author.Needs.{needs}
 use Rattle.rules.proofs.constant_ok.Statement.{statement}
 use Rattle.rules.proofs.constant_ok.Tie as tie
@@ -7,10 +7,7 @@ low-first-requires : tie.Need-low-first-requires
 low-first-requires c κs = search needs
 
 returns : tie.Need-returns
-returns c = rw (c .if1 .taken)
-
-returns-2 : tie.Need-returns-2
-returns-2 c = rw (c .before .if1 .left, c .low-first .ensures .0)
+returns c = rw (c .low-first .ensures .0)
 
 pub constant-ok-spec : {M : Type 1} → statement M
-constant-ok-spec = tie.close (tie.spec low-first-requires returns returns-2)
+constant-ok-spec = tie.close (tie.spec low-first-requires returns)

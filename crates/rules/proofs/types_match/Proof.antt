@@ -4,18 +4,18 @@ use Prim.Native.Nat.{_-_, _≤_}
 use native.Mathlib.Omega.{arith}
 use borrow.Author.Tests.{not-true, not-false}
 use borrow.Author.Needs.{needs}
-use Rattle.block.proofs.Operands.{Widths, widths-start, widths-next, widths-stops, widths-ends}
+use Rattle.block.proofs.Operands.{Types, types-start, types-next, types-stops, types-ends}
 use Rattle.rules.proofs.types_match.Statement.{statement}
 use Rattle.rules.proofs.types_match.Tie as tie
 
 abbrev Inv-loop : tie.InvT-loop
-Inv-loop block p count bits types i₀ rest₀ i rest = (i ≤ count) × Widths block types p count bits i rest
+Inv-loop block p count codes types i₀ rest₀ i rest = (i ≤ count) × Types block types p count codes i rest
 
 abbrev μ-loop : tie.MeasureT-loop
-μ-loop block p count bits types i₀ rest₀ i rest = count - i
+μ-loop block p count codes types i₀ rest₀ i rest = count - i
 
 loop-holds : tie.Need-loop-holds Inv-loop μ-loop
-loop-holds c = (omega arith, widths-start _ _ _ _ _)
+loop-holds c = (omega arith, types-start _ _ _ _ _)
 
 add-get : tie.Need-add-get Inv-loop μ-loop
 add-get c = search needs
@@ -26,12 +26,12 @@ shared-slice-read-get c = search needs
 get-requires : tie.Need-get-requires Inv-loop μ-loop
 get-requires c κs = search needs
 
-wide-as-requires : tie.Need-wide-as-requires Inv-loop μ-loop
-wide-as-requires c κs = search needs
+same-type-requires : tie.Need-same-type-requires Inv-loop μ-loop
+same-type-requires c κs = search needs
 
 returns : tie.Need-returns Inv-loop μ-loop
 returns c =
-    widths-stops (c .before .before .before .before .before .loop .inv .1) (c .before .before .get .ensures) (c .before .before .before .before .loop-test .taken) (sym (c .before .wide-as .ensures) ∙ not-true _ (c .if1 .taken))
+    types-stops (c .before .before .before .before .before .loop .inv .1) (c .before .before .get .ensures) (c .before .before .before .before .loop-test .taken) (sym (c .before .same-type .ensures) ∙ not-true _ (c .if1 .taken))
 
 add-i : tie.Need-add-i Inv-loop μ-loop
 add-i c = search needs
@@ -41,10 +41,10 @@ loop-less c = search needs
 
 loop-again : tie.Need-loop-again Inv-loop μ-loop
 loop-again c =
-    (search needs, widths-next (c .before .before .before .before .before .loop .inv .1) (c .before .before .get .ensures) (c .before .before .before .before .loop-test .taken) (sym (c .before .wide-as .ensures) ∙ not-false _ (c .if1 .left)))
+    (search needs, types-next (c .before .before .before .before .before .loop .inv .1) (c .before .before .get .ensures) (c .before .before .before .before .loop-test .taken) (sym (c .before .same-type .ensures) ∙ not-false _ (c .if1 .left)))
 
 returns-2 : tie.Need-returns-2 Inv-loop μ-loop
-returns-2 c = widths-ends (c .before .loop .inv .1) (c .loop-test .left)
+returns-2 c = types-ends (c .before .loop .inv .1) (c .loop-test .left)
 
 pub types-match-spec : {M : Type 1} → statement M
 types-match-spec =
@@ -56,7 +56,7 @@ types-match-spec =
     add-get
     shared-slice-read-get
     get-requires
-    wide-as-requires
+    same-type-requires
     returns
     add-i
     loop-less

@@ -1,10 +1,11 @@
 -- `op_rule` asks the rules of an op in order. Assumes nothing.
-use mathlib.Core.Path.{sym, _∙_}
 use native.Mathlib.Omega.{arith}
 use borrow.Author.Tests.{not-true, not-false}
 use borrow.Author.Needs.{needs}
+use Rattle.ops.proofs.Entry.{digits}
+use Rattle.ops.proofs.Table.{asks-few}
 use Rattle.block.proofs.OpRules.{Op, Met9, Met4, Met5, Met6, Met7, is-9, is-4, is-5, is-6, is-7, is-8, is-0, Counted, count-inside, rest-inside}
-use Rattle.block.proofs.OpRules.{below-by, match-by, rest-by, outs-few, reads-inside, reads-by, here, stands-here}
+use Rattle.block.proofs.OpRules.{below-by, match-by, rest-by, free-by, reads-inside, reads-by}
 use Rattle.scan.proofs.op_rule.Statement.{statement}
 use Rattle.scan.proofs.op_rule.Tie as tie
 
@@ -13,6 +14,7 @@ abbrev op : tie.Start → Op
 op s = record {
   block = s .args .block .now;
   place = s .args .at;
+  entry = s .args .e;
   classes = s .args .classes .now;
   types = s .args .types .now;
   written = s .args .written .now;
@@ -22,7 +24,7 @@ op s = record {
 }
 
 abbrev start : tie.After-operand-count → tie.Start
-start k = k .before .before .before .before
+start k = k .before .before .before
 
 abbrev count-2 : tie.Else2 → tie.After-operand-count
 count-2 c = c .before .before
@@ -38,10 +40,10 @@ count-5 c = count-4 (c .before .before)
 
 -- what the tests have shown, once each is passed
 met-9 : (c : tie.Else1) → Met9 (op (c .before .before))
-met-9 c = record { stands = c .before .before .pre .0; few = c .if1 .left }
+met-9 c = record { stands = c .before .before .pre .0; few = c .if1 .left; digits = digits (c .before .before .pre .1) }
 
 counted : (k : tie.After-operand-count) → Counted (op (start k)) (k .operand-count .result)
-counted k = record { met = met-9 (k .before .before); counted = k .operand-count .ensures }
+counted k = record { met = met-9 (k .before); counted = k .operand-count .ensures }
 
 met-4 : (c : tie.Else2) → Met4 (op (start (count-2 c)))
 met-4 c = record {
@@ -52,7 +54,7 @@ met-4 c = record {
 met-5 : (c : tie.Else3) → Met5 (op (start (count-3 c)))
 met-5 c = record {
   before = met-4 (c .before .before .before);
-  test = match-by (counted (count-3 c)) (c .before .before .wide-bits .ensures) (c .before .types-match .ensures) (not-false _ (c .if3 .left));
+  test = match-by (counted (count-3 c)) (c .before .before .types .ensures) (c .before .types-match .ensures) (not-false _ (c .if3 .left));
 }
 
 met-6 : (c : tie.Else4) → Met6 (op (start (count-4 c)))
@@ -62,13 +64,10 @@ met-6 c = record {
 }
 
 met-7 : (c : tie.Else5) → Met7 (op (start (count-5 c)))
-met-7 c = record { before = met-6 (c .before .before); test = sym (c .before .label-free .ensures) ∙ not-false _ (c .if5 .left) }
+met-7 c = record { before = met-6 (c .before .before); test = free-by (counted (count-5 c)) (c .before .label-free .ensures) (not-false _ (c .if5 .left)) }
 
 returns : tie.Need-returns
 returns c = is-9 (op (c .before .before)) (c .if1 .taken)
-
-shared-slice-read-kind : tie.Need-shared-slice-read-kind
-shared-slice-read-kind c = here (met-9 (c .before) .stands)
 
 operand-count-requires : tie.Need-operand-count-requires
 operand-count-requires c κs = search needs
@@ -87,8 +86,8 @@ returns-2 c =
 add-types-match : tie.Need-add-types-match
 add-types-match c = search needs
 
-wide-bits-requires : tie.Need-wide-bits-requires
-wide-bits-requires c κs = search needs
+types-requires : tie.Need-types-requires
+types-requires c κs = search needs
 
 types-match-requires : tie.Need-types-match-requires
 types-match-requires c κs = count-inside (counted (count-2 (c .before)))
@@ -96,7 +95,7 @@ types-match-requires c κs = count-inside (counted (count-2 (c .before)))
 returns-3 : tie.Need-returns-3
 returns-3 c =
     let m = c .before .before .before in
-    is-5 (met-4 m) (match-by (counted (count-2 m)) (c .before .before .wide-bits .ensures) (c .before .types-match .ensures) (not-true _ (c .if3 .taken)))
+    is-5 (met-4 m) (match-by (counted (count-2 m)) (c .before .before .types .ensures) (c .before .types-match .ensures) (not-true _ (c .if3 .taken)))
 
 add-rest-ok : tie.Need-add-rest-ok
 add-rest-ok c = search needs
@@ -105,7 +104,7 @@ add-rest-ok-2 : tie.Need-add-rest-ok-2
 add-rest-ok-2 c = omega (arith, count-inside (counted (count-3 c)))
 
 rest-ok-requires : tie.Need-rest-ok-requires
-rest-ok-requires c κs = (rest-inside (counted (count-3 c)), start (count-3 c) .pre .1)
+rest-ok-requires c κs = (rest-inside (counted (count-3 c)), asks-few _ (start (count-3 c) .pre .1))
 
 returns-4 : tie.Need-returns-4
 returns-4 c =
@@ -113,50 +112,47 @@ returns-4 c =
     is-6 (met-5 m) (rest-by (counted (count-3 m)) (c .before .rest-ok .ensures) (not-true _ (c .if4 .taken)))
 
 label-free-requires : tie.Need-label-free-requires
-label-free-requires c κs = (stands-here (start (count-4 c) .pre .0), start (count-4 c) .pre .1)
+label-free-requires c κs = omega (arith, rest-inside (counted (count-4 c)), counted (count-4 c) .counted)
 
 returns-5 : tie.Need-returns-5
-returns-5 c = is-7 (met-6 (c .before .before)) (sym (c .before .label-free .ensures) ∙ not-true _ (c .if5 .taken))
-
-output-count-requires : tie.Need-output-count-requires
-output-count-requires c κs = search needs
+returns-5 c = is-7 (met-6 (c .before .before)) (free-by (counted (count-4 (c .before .before))) (c .before .label-free .ensures) (not-true _ (c .if5 .taken)))
 
 add-may-read : tie.Need-add-may-read
 add-may-read c = search needs
 
-add-may-read-2 : tie.Need-add-may-read-2
-add-may-read-2 c =
-    let k = counted (count-5 (c .before)) in
-    omega (arith, count-inside k, outs-few k (c .output-count .ensures))
+outs-requires : tie.Need-outs-requires
+outs-requires c κs = search needs
 
-sub-may-read : tie.Need-sub-may-read
-sub-may-read c = outs-few (counted (count-5 (c .before))) (c .output-count .ensures)
+add-may-read-2 : tie.Need-add-may-read-2
+add-may-read-2 c = let k = counted (count-5 (c .before)) in omega (arith, count-inside k, k .counted, c .outs .ensures)
+
+ins-requires : tie.Need-ins-requires
+ins-requires c κs = search needs
 
 may-read-requires : tie.Need-may-read-requires
-may-read-requires c κs = reads-inside (counted (count-5 (c .before))) (c .output-count .ensures)
+may-read-requires c κs = reads-inside (counted (count-5 (c .before .before))) (c .before .outs .ensures) (c .ins .ensures)
 
 returns-6 : tie.Need-returns-6
 returns-6 c =
-    let m = c .before .before .before in
-    is-8 (met-7 m) (reads-by (counted (count-5 m)) (c .before .before .output-count .ensures) (c .before .may-read .ensures) (not-true _ (c .if6 .taken)))
+    let m = c .before .before .before .before in
+    is-8 (met-7 m) (reads-by (counted (count-5 m)) (c .before .before .before .outs .ensures) (c .before .before .ins .ensures) (c .before .may-read .ensures) (not-true _ (c .if6 .taken)))
 
 returns-7 : tie.Need-returns-7
 returns-7 c =
-    let m = c .before .before .before in
-    is-0 (met-7 m) (reads-by (counted (count-5 m)) (c .before .before .output-count .ensures) (c .before .may-read .ensures) (not-false _ (c .if6 .left)))
+    let m = c .before .before .before .before in
+    is-0 (met-7 m) (reads-by (counted (count-5 m)) (c .before .before .before .outs .ensures) (c .before .before .ins .ensures) (c .before .may-read .ensures) (not-false _ (c .if6 .left)))
 
 pub op-rule-spec : {M : Type 1} → statement M
 op-rule-spec =
     tie.close
     (tie.spec
     returns
-    shared-slice-read-kind
     operand-count-requires
     add-all-below
     all-below-requires
     returns-2
     add-types-match
-    wide-bits-requires
+    types-requires
     types-match-requires
     returns-3
     add-rest-ok
@@ -165,10 +161,10 @@ op-rule-spec =
     returns-4
     label-free-requires
     returns-5
-    output-count-requires
     add-may-read
+    outs-requires
     add-may-read-2
-    sub-may-read
+    ins-requires
     may-read-requires
     returns-6
     returns-7)

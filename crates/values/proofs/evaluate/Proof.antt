@@ -1,7 +1,7 @@
 -- The op states what eval answers. Assumes nothing.
 use native.Mathlib.Omega.{arith}
 use borrow.Author.Needs.{needs}
-use Rattle.runs.proofs.Stating.{count-fits, evaluates}
+use Rattle.runs.proofs.Stating.{bytes-fit, evaluates}
 use Rattle.values.proofs.evaluate.Statement.{statement}
 use Rattle.values.proofs.evaluate.Tie as tie
 
@@ -29,32 +29,46 @@ add-input-4 c = search needs
 input-requires-4 : tie.Need-input-requires-4
 input-requires-4 c κs = search needs
 
-add-byte-at : tie.Need-add-byte-at
-add-byte-at c = search needs
+add-p : tie.Need-add-p
+add-p c = search needs
 
 operand-count-requires : tie.Need-operand-count-requires
 operand-count-requires c κs = search needs
 
-add-byte-at-2 : tie.Need-add-byte-at-2
-add-byte-at-2 c =
-    omega (arith, count-fits (c .before .before .before .before .before .before .pre .0) (c .operand-count .ensures), c .before .before .before .before .before .before .good .1 .0)
+add-p-2 : tie.Need-add-p-2
+add-p-2 c = search needs
 
-byte-at-requires : tie.Need-byte-at-requires
-byte-at-requires c κs = search needs
+rest-requires : tie.Need-rest-requires
+rest-requires c κs = search needs
+
+add-end : tie.Need-add-end
+add-end c = search needs
+
+sub-eval : tie.Need-sub-eval
+sub-eval c = search needs
+
+part-eval-start : tie.Need-part-eval-start
+part-eval-start c = search needs
+
+part-eval-end : tie.Need-part-eval-end
+part-eval-end c =
+    let pre = c .before .before .before .before .before .before .before .pre in
+    omega (arith, bytes-fit (pre .0) (pre .1) (c .before .operand-count .ensures) (c .rest .ensures))
 
 eval-requires : tie.Need-eval-requires
 eval-requires c κs = search needs
 
 returns : tie.Need-returns
 returns c =
-    let pre = c .before .before .before .before .before .before .before .before .pre in
-    let fits = c .before .before .before .before .before .before .before .before .fits in
-    let args = c .before .before .before .before .before .before .before .before .args in
-    let input = c .before .before .before .before .before .before .input .ensures in
-    let input2 = c .before .before .before .before .before .input2 .ensures in
-    let input3 = c .before .before .before .before .input3 .ensures in
-    let input4 = c .before .before .before .input4 .ensures in
-    evaluates (pre .0) (omega (arith, fits .kind)) (args .values .now) (c .before .before .operand-count .ensures) (c .before .byte-at .ensures) input input2 input3 input4 (c .eval .ensures)
+    let pre = c .before .before .before .before .before .before .before .before .before .pre in
+    let values = c .before .before .before .before .before .before .before .before .before .args .values .now in
+    let count = c .before .before .before .operand-count .ensures in
+    let rest = c .before .before .rest .ensures in
+    let input = c .before .before .before .before .before .before .before .input .ensures in
+    let input2 = c .before .before .before .before .before .before .input2 .ensures in
+    let input3 = c .before .before .before .before .before .input3 .ensures in
+    let input4 = c .before .before .before .before .input4 .ensures in
+    evaluates (pre .0) (pre .1) count rest values input input2 input3 input4 (c .eval .ensures)
 
 pub evaluate-spec : {M : Type 1} → statement M
 evaluate-spec =
@@ -68,9 +82,13 @@ evaluate-spec =
     input-requires-3
     add-input-4
     input-requires-4
-    add-byte-at
+    add-p
     operand-count-requires
-    add-byte-at-2
-    byte-at-requires
+    add-p-2
+    rest-requires
+    add-end
+    sub-eval
+    part-eval-start
+    part-eval-end
     eval-requires
     returns)

@@ -1,27 +1,24 @@
 -- A label that is set gets its number. Assumes nothing.
-use mathlib.Core.Path.{sym, _∙_}
-use mathlib.Core.List.{[], _∷_}
-use native.Mathlib.Omega.{arith}
+use mathlib.Core.Path.{ap}
+use Prim.Native.Nat.{ℕ, _+_}
+use lib.ListN.{getD}
+use Rattle.ops.specs.Rows.{rowIn}
+use Rattle.block.proofs.MarkSets.{labelled-so, labelled-not}
 use borrow.Author.Needs.{needs}
-use types.Run.{miss}
-use Rattle.block.proofs.MarkSets.{numbered-upd}
-use Rattle.block.proofs.OtherRoles.{labels-kept}
-use Rattle.block.proofs.Views.{inside, label-view}
 use Rattle.scan.proofs.leaves.mark_label.Statement.{statement}
 use Rattle.scan.proofs.leaves.mark_label.Tie as tie
 
-role-of-requires : tie.Need-role-of-requires
-role-of-requires c κs = search needs
+is-setting-requires : tie.Need-is-setting-requires
+is-setting-requires c κs = search needs
 
-enum-told : tie.Need-enum-told
-enum-told c = c .match .keys1
+body-length-requires : tie.Need-body-length-requires
+body-length-requires c κs = search needs
 
 add-put-number : tie.Need-add-put-number
 add-put-number c = search needs
 
 shared-slice-read-put-number : tie.Need-shared-slice-read-put-number
-shared-slice-read-put-number c =
-    inside (c .before .before .before .before .before .before .pre .0) (sym (c .before .before .before .before .role-of .ensures) ∙ c .before .before .enum-told .given .1) 1 (omega arith)
+shared-slice-read-put-number c = search needs
 
 add-put-number-2 : tie.Need-add-put-number-2
 add-put-number-2 c = search needs
@@ -30,26 +27,26 @@ cast-put-number : tie.Need-cast-put-number
 cast-put-number c = search needs
 
 put-number-requires : tie.Need-put-number-requires
-put-number-requires c κs = tt
+put-number-requires c κs = search needs
 
 returns : tie.Need-returns
 returns c =
-    let r = c .before .before .before .before .before in
-    rw (label-view (r .before .before .pre .0) (sym (r .role-of .ensures) ∙ c .before .before .before .enum-told .given .1))
-    (numbered-upd (c .put-number .ensures) (omega arith), c .put-number .ensures .becomes)
+    let t = c .before .before .before .before in
+    let a = t .before .before .before .args in
+    labelled-so (rowIn (a .e)) _ (a .op) (t .before .is-setting .ensures) (t .if1 .taken) (ap (λ (n : ℕ). getD (a .block .now) (a .at + n) 0) (c .before .before .body-length .ensures))
+    (c .put-number .ensures)
 
 returns-2 : tie.Need-returns-2
 returns-2 c =
-    labels-kept (c .before .before .before .pre .0)
-    (λ e. miss (0 ∷ 1 ∷ 3 ∷ 4 ∷ 5 ∷ 6 ∷ 7 ∷ 8 ∷ 9 ∷ []) 2 tt (rw (c .before .role-of .ensures ∙ e) at (c .match .keys2)))
-    _ _
+    let a = c .before .before .before .args in
+    labelled-not (rowIn (a .e)) _ (a .op) (c .before .is-setting .ensures) (c .if1 .left)
 
 pub mark-label-spec : {M : Type 1} → statement M
 mark-label-spec =
     tie.close
     (tie.spec
-    role-of-requires
-    enum-told
+    is-setting-requires
+    body-length-requires
     add-put-number
     shared-slice-read-put-number
     add-put-number-2

@@ -1,72 +1,44 @@
--- The label of a jump or of a branch joins the labels jumped to. Assumes nothing.
-use mathlib.Core.Path.{sym, _∙_}
-use mathlib.Core.List.{[], _∷_}
-use native.Mathlib.Omega.{arith}
+-- A label that is jumped to is marked. Assumes nothing.
+use mathlib.Core.Path.{ap}
+use Prim.Native.Nat.{ℕ, _+_}
+use lib.ListN.{getD}
+use Rattle.block.proofs.MarkSets.{target-so, target-not}
 use borrow.Author.Needs.{needs}
-use types.Run.{miss}
-use Rattle.block.proofs.MarkSets.{marked-upd}
-use Rattle.block.proofs.OtherRoles.{targets-kept}
-use Rattle.block.proofs.Views.{inside, jump-view, branch-view}
 use Rattle.scan.proofs.leaves.mark_target.Statement.{statement}
 use Rattle.scan.proofs.leaves.mark_target.Tie as tie
 
-role-of-requires : tie.Need-role-of-requires
-role-of-requires c κs = search needs
+is-jumping-requires : tie.Need-is-jumping-requires
+is-jumping-requires c κs = search needs
 
-enum-told : tie.Need-enum-told
-enum-told c = c .match .keys1
+body-length-requires : tie.Need-body-length-requires
+body-length-requires c κs = search needs
 
 add-put : tie.Need-add-put
 add-put c = search needs
 
 shared-slice-read-put : tie.Need-shared-slice-read-put
-shared-slice-read-put c =
-    inside (c .before .before .before .before .before .before .pre .0) (sym (c .before .before .before .before .role-of .ensures) ∙ c .before .before .enum-told .given .1) 1 (omega arith)
+shared-slice-read-put c = search needs
 
 put-requires : tie.Need-put-requires
-put-requires c κs = tt
-
-enum-told-2 : tie.Need-enum-told-2
-enum-told-2 c = c .match .keys2
-
-add-put-2 : tie.Need-add-put-2
-add-put-2 c = search needs
-
-shared-slice-read-put-2 : tie.Need-shared-slice-read-put-2
-shared-slice-read-put-2 c =
-    inside (c .before .before .before .before .before .before .pre .0) (sym (c .before .before .before .before .role-of .ensures) ∙ c .before .before .enum-told2 .given .1) 4 (omega arith)
-
-put-requires-2 : tie.Need-put-requires-2
-put-requires-2 c κs = tt
+put-requires c κs = search needs
 
 returns : tie.Need-returns
 returns c =
-    rw (jump-view (c .before .before .before .before .before .before .before .pre .0) (sym (c .before .before .before .before .before .role-of .ensures) ∙ c .before .before .before .enum-told .given .1)) (marked-upd (c .put .ensures))
+    let t = c .before .before .before .before in
+    let a = t .before .before .before .args in
+    target-so _ (a .targets .now) (t .before .is-jumping .ensures) (t .if1 .taken) (ap (λ (n : ℕ). getD (a .block .now) (a .at + n) 0) (c .before .before .body-length .ensures)) (c .put .ensures)
 
 returns-2 : tie.Need-returns-2
-returns-2 c =
-    rw (branch-view (c .before .before .before .before .before .before .before .pre .0) (sym (c .before .before .before .before .before .role-of .ensures) ∙ c .before .before .before .enum-told2 .given .1)) (marked-upd (c .put2 .ensures))
-
-returns-3 : tie.Need-returns-3
-returns-3 c =
-    targets-kept (c .before .before .before .pre .0)
-    (λ e. miss (0 ∷ 1 ∷ 2 ∷ 4 ∷ 5 ∷ 6 ∷ 8 ∷ 9 ∷ []) 3 tt (rw (c .before .role-of .ensures ∙ e) at (c .match .keys3)))
-    (λ e. miss (0 ∷ 1 ∷ 2 ∷ 4 ∷ 5 ∷ 6 ∷ 8 ∷ 9 ∷ []) 7 tt (rw (c .before .role-of .ensures ∙ e) at (c .match .keys3)))
-    _
+returns-2 c = target-not _ (c .before .before .before .args .targets .now) (c .before .is-jumping .ensures) (c .if1 .left)
 
 pub mark-target-spec : {M : Type 1} → statement M
 mark-target-spec =
     tie.close
     (tie.spec
-    role-of-requires
-    enum-told
+    is-jumping-requires
+    body-length-requires
     add-put
     shared-slice-read-put
     put-requires
-    enum-told-2
-    add-put-2
-    shared-slice-read-put-2
-    put-requires-2
     returns
-    returns-2
-    returns-3)
+    returns-2)

@@ -1,0 +1,10 @@
+-- A column of the role, by its number. Assumes nothing.
+use mathlib.Core.Path.{ap}
+use Prim.Native.Nat.{ℕ}
+use lib.Dec.{ltb}
+use borrow.Author.Needs.{needs}
+use Rattle.kinds.proofs.is_closing.Statement.{statement}
+use Rattle.kinds.proofs.is_closing.Tie as tie
+
+pub is-closing-spec : {M : Type 1} → statement M
+is-closing-spec = tie.close (tie.spec (λ c κs. search needs) (λ c. ap (λ (n : ℕ). ltb n 6) (c .role .ensures)))
