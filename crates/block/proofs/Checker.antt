@@ -7,8 +7,8 @@ use native.Mathlib.Omega.{arith}
 use lib.Dec.{eqb, ltb, leb, eqb·suc-zero}
 use lib.ListN.{length, length-append}
 use borrow.Author.Tests.{ltb-true, not-true}
-use Rattle.theory.specs.Checker.{Checker, checks}
-use Rattle.theory.specs.Scope.{scoped}
+use Rattle.theory.proofs.Checker.{Checker, checks}
+use Rattle.theory.proofs.Scoped.{scoped}
 use Rattle.theory.specs.Sets.{Vars, allIn}
 use Rattle.theory.proofs.Sets.{and-l, and-r, and-i, clash}
 use Rattle.theory.proofs.Simulation.{more}

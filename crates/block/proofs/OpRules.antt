@@ -2,15 +2,15 @@
 use mathlib.Core.Path.{_≡_, refl, sym, ap, ap₂, _∙_}
 use mathlib.Core.Bool.{Bool, true, false}
 use mathlib.Core.List.{List, []}
-use Prim.Native.Nat.{ℕ, zero, suc, _+_, _-_, _≤_, _<_}
+use Prim.Native.Nat.{ℕ, zero, suc, _+_, _≤_, _<_}
 use native.Mathlib.Omega.{arith}
 use lib.ListN.{length, getD, take, drop}
 use lib.Seq.{length-take-le}
 use borrow.Author.Tests.{lt-ltb, le-ltb}
 use Rattle.theory.specs.Sets.{allIn}
-use Rattle.ops.specs.Rows.{outsIn, insIn, restIn, testIn, typesIn, typesOf, rowIn, Row, testOk}
+use Rattle.ops.specs.Rows.{outsIn, insIn, restIn, testIn, typesIn, rowIn, Row, testOk}
 use Rattle.ops.specs.Kinds.{rowOf, bodyLength, outputCount, operandTypes, operandCount}
-use Rattle.ops.specs.Ops.{rowAt, bytesAt, outsBy, insBy, labelBy}
+use Rattle.ops.specs.Ops.{rowAt, bytesAt, outsBy, insBy}
 use Rattle.ops.proofs.Entry.{Digits}
 use Rattle.block.specs.Checks.{firstBroken, opRules}
 use Rattle.block.specs.Rules.{Seen, keptIn, allBelow, operandsOf, rule4, haveTypes, rule5, rule6, labelFree, rule7, rule8, rule9}

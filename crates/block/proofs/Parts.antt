@@ -3,8 +3,8 @@ use mathlib.Core.Path.{_≡_, refl, sym, ap, _∙_, subst}
 use mathlib.Core.Bool.{true, _&&_}
 use mathlib.Core.List.{List, _++_}
 use Prim.Native.Nat.{ℕ}
-use Rattle.theory.specs.Checker.{checks}
-use Rattle.theory.specs.Scope.{scoped}
+use Rattle.theory.proofs.Checker.{checks}
+use Rattle.theory.proofs.Scoped.{scoped}
 use Rattle.theory.specs.Sets.{empty}
 use Rattle.theory.proofs.Sets.{and-l, and-r, and-i}
 use Rattle.ops.specs.Ops.{tcg}

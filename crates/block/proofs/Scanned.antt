@@ -15,7 +15,6 @@ use Rattle.block.specs.Scan.{Scanned, rejected, approved}
 use Rattle.block.proofs.Cut.{headOp, split-again}
 use Rattle.block.proofs.Fields.{kind-at}
 use Rattle.block.proofs.Places.{standing}
-use Rattle.block.specs.declared.Verdict.{Verdict}
 use Rattle.block.specs.declared.Verdict.the-variants.{Accepted, Refused}
 
 -- the first record after the declarations is an op

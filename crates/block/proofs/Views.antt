@@ -1,11 +1,9 @@
 -- What the op that starts at a place of a block does, from its kind's row and the block's bytes. Assumes nothing.
 use mathlib.Core.Path.{_≡_, refl, sym, ap, ap₂, _∙_, subst, fun-ext}
-use mathlib.Core.Bool.{Bool, cond}
 use mathlib.Core.Option.{some}
 use mathlib.Core.List.{List, [], _∷_, _++_}
-use Prim.Native.Nat.{ℕ, zero, suc, _+_, _/_, _≤_, _<_}
+use Prim.Native.Nat.{ℕ, zero, suc, _+_, _≤_, _<_}
 use native.Mathlib.Omega.{arith}
-use lib.Dec.{eqb}
 use lib.ListN.{length, getD, take, drop, length-append}
 use lib.Seq.{take-nil, getD-take, drop-drop, getD-drop}
 use native.Mathlib.Nat.{zero-add, suc-add, add-zero, add-suc, add-assoc}
@@ -18,7 +16,7 @@ use Rattle.ops.specs.Rows.{Role, unknown, declares, setsLabel, jumpsTo, exits, 
 use Rattle.ops.specs.Kinds.{rowOf, roleOf, bodyLength, outputCount, operandCount}
 use Rattle.ops.specs.Ops.{kindOf, rowAt, bytesAt, outsBy, insBy, restBy, labelBy, atTypes, evalOf, opWidth, Fault, afterLoad, afterStore, loadOf, storeOf, holdsOf, leave, viewFor, viewOf}
 use Rattle.ops.proofs.Inputs.{constant-states}
-use Rattle.ops.proofs.Table.{typeAt, rowWith, RowFor, row-of}
+use Rattle.ops.proofs.Table.{typeAt, RowFor, row-of}
 use Rattle.block.specs.Rules.{Seen, allBelow, operandsOf, rule4, rule6}
 use Rattle.block.specs.Scan.{recordAt, Stands}
 

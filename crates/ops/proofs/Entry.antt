@@ -1,11 +1,11 @@
 -- The row of a kind, from the digits of its entry. Assumes nothing.
-use mathlib.Core.Path.{_≡_, refl, sym, ap, ap₂, _∙_}
-use mathlib.Core.List.{List, [], _∷_, _++_}
+use mathlib.Core.Path.{_≡_, sym, ap, ap₂, _∙_}
+use mathlib.Core.List.{List, _∷_, _++_}
 use Prim.Native.Nat.{ℕ, zero, suc, _+_, _/_, _%_, _^_}
 use native.Mathlib.Omega.{arith}
 use native.Mathlib.Nat.{zero-add, suc-add, pow-zero, pow-succ', div-one, div-div-eq-div-mul}
 use lib.ListN.{length, getD, length-append}
-use Rattle.ops.specs.Rows.{outsIn, insIn, restIn, testIn, roleIn, typesIn, typesOf, roleNo, rowIn, Row, isKnown}
+use Rattle.ops.specs.Rows.{outsIn, insIn, restIn, roleIn, typesIn, typesOf, roleNo, rowIn, Row, isKnown}
 use Rattle.ops.specs.Kinds.{kindTable, rowOf, known, bodyLength, outputCount, operandTypes, operandCount}
 use Rattle.ops.proofs.Table.{types-length}
 

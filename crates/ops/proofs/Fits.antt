@@ -1,14 +1,13 @@
 -- What an op that may fold states fits its output's type, for every kind. Assumes nothing.
 use mathlib.Core.Path.{_≡_, refl, sym, subst}
 use mathlib.Core.Bool.{Bool, true, false, cond, not, _&&_, _||_}
-use mathlib.Core.Option.{Option, none, some}
+use mathlib.Core.Option.{Option, some}
 use mathlib.Core.List.{List, [], _∷_}
 use mathlib.Core.Logic.{_⊎_, inl, inr}
 use Prim.Native.Nat.{ℕ, zero, suc, _-_, _%_, _^_, _≤_, _<_}
 use native.Mathlib.Omega.{arith}
 use lib.Dec.{eqb, leb, lit<, lit≤}
 use lib.Bits.{and-lt, or-lt, xor-lt}
-use lib.ListN.{length}
 use borrow.Author.Tests.{eqb-true, eqb-false, ne-eqb, leb-true, le-leb, lt-leb}
 use native.Mathlib.Nat.{lt-of-lt-of-le}
 use lib.Pow.{pow-pos}
@@ -20,7 +19,7 @@ use Rattle.word.proofs.Fits.{divu-fits, remu-fits, shr-fits, rotl-fits, rotr-fi
 use Rattle.word.proofs.Fits.{signed-states, count-states}
 use Rattle.word.proofs.Tests.{cond-told, cond-all}
 use Rattle.ops.specs.Eval.{convertOf, unaryOf, logicOf, divideOf, shiftOf, setcondOf, movcondOf}
-use Rattle.ops.specs.Rows.{Row, bitsOf, roleNo, typesOf, at}
+use Rattle.ops.specs.Rows.{bitsOf, roleNo, typesOf, at}
 use Rattle.ops.specs.Kinds.{kindTable, rowOf, between, wideOf, computedOf}
 use Rattle.ops.specs.Ops.{atTypes, foldableRow}
 use Rattle.theory.proofs.Views.{no-some}

@@ -1,7 +1,7 @@
 -- What a kind that may fold states of four values, by its family, and that every other kind states nothing. Assumes nothing.
 use mathlib.Core.Path.{_≡_, refl, sym, ap, _∙_}
-use mathlib.Core.Bool.{Bool, true, false, cond, _&&_, _||_}
-use mathlib.Core.Option.{Option, none}
+use mathlib.Core.Bool.{true, false}
+use mathlib.Core.Option.{none}
 use mathlib.Core.List.{List, [], _∷_}
 use mathlib.Core.Logic.{_⊎_, inl, inr}
 use Prim.Native.Nat.{ℕ, zero, suc, _-_, _%_, _^_, _≤_, _<_}
@@ -14,10 +14,10 @@ use Rattle.theory.proofs.Sets.{and-l, and-r, tell}
 use Rattle.ops.specs.Eval.{convertOf}
 use Rattle.ops.specs.Evaluate.{foldedOf}
 use Rattle.ops.specs.Rows.{bitsOf, at}
-use Rattle.ops.specs.Kinds.{rowOf, between, wideOf, computedOf}
+use Rattle.ops.specs.Kinds.{rowOf, wideOf, computedOf}
 use Rattle.ops.specs.Ops.{atTypes, foldableRow}
-use Rattle.ops.proofs.Inputs.{within, outside, Alike, folds-alike, foldable-kinds}
-use Rattle.ops.proofs.Fits.{allAre, inType, ins-are, Types, extending, narrow, wide}
+use Rattle.ops.proofs.Inputs.{within, outside, folds-alike, foldable-kinds}
+use Rattle.ops.proofs.Fits.{allAre, inType, ins-are, extending, narrow, wide}
 
 -- values read at one type
 read-at : (t : ℕ) (ts vs : List ℕ) → allAre t ts ≡ true → (i : ℕ) → i < length ts → at (atTypes ts vs) i ≡ at vs i % 2 ^ bitsOf t

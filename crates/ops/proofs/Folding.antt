@@ -1,11 +1,11 @@
 -- The movi that fold puts in an op's place: what it does, and what the check finds in it. Assumes nothing.
 use mathlib.Core.Path.{_≡_, refl, sym, ap, _∙_, fun-ext}
-use mathlib.Core.Bool.{Bool, true, false, cond, _&&_}
+use mathlib.Core.Bool.{true, false, cond}
 use mathlib.Core.Option.{Option, none, some}
 use mathlib.Core.List.{List, [], _∷_}
-use Prim.Native.Nat.{ℕ, zero, suc, _+_, _^_, _<_}
+use Prim.Native.Nat.{ℕ, zero, suc, _^_, _<_}
 use native.Mathlib.Omega.{arith}
-use lib.Dec.{eqb, ltb}
+use lib.Dec.{eqb}
 use lib.ListN.{length}
 use borrow.Author.Tests.{eqb-true, lt-ltb}
 use Rattle.theory.specs.Machine.{calc, computes as stated, outputs, headOr}
@@ -19,7 +19,7 @@ use Rattle.ops.specs.Rows.{isKnown, isComputing, at, testOk}
 use Rattle.ops.specs.Kinds.{kindTable, rowOf, known, bodyLength, one, computedOf, statesOf}
 use Rattle.ops.specs.Ops.{kindOf, rowAt, bytesAt, outsBy, insBy, restBy, atTypes, evalOf, viewFor, viewOf, tcg, foldableRow, moviKind, moviOf, folding}
 use Rattle.ops.proofs.Table.{rowWith}
-use Rattle.ops.proofs.Inputs.{folds-small, no-movi, evaluated}
+use Rattle.ops.proofs.Inputs.{no-movi, evaluated}
 use Rattle.ops.proofs.Fits.{folded-fits, out-small}
 
 -- the bytes of a movi, as the check reads them; m is moviOf t d x

@@ -4,7 +4,7 @@ use mathlib.Core.Logic.{_⊎_, inl, inr}
 use mathlib.Core.Bool.{Bool, true, false, cond, not, _&&_, _||_}
 use mathlib.Core.Option.{some}
 use mathlib.Core.List.{List, [], _∷_}
-use Prim.Native.Nat.{ℕ, zero, suc, _+_, _-_, _%_, _^_, _≤_, _<_}
+use Prim.Native.Nat.{ℕ, zero, suc, _-_, _%_, _^_, _≤_, _<_}
 use native.Mathlib.Nat.{zero-mod}
 use native.Mathlib.Omega.{arith}
 use lib.Dec.{eqb, ltb, leb, lit<}
@@ -14,8 +14,8 @@ use Rattle.theory.specs.Machine.{reads}
 use Rattle.theory.proofs.Sets.{and-l, and-r, tell, clash}
 use Rattle.memory.specs.Bytes.{lowFirst}
 use Rattle.word.proofs.Tests.{cond-all}
-use Rattle.ops.specs.Eval.{unaryOf, logicOf, divideOf, shiftOf, setcondOf, movcondOf, convertOf}
-use Rattle.ops.specs.Rows.{Role, constant, numberOf, roleNo, Row, bitsOf, typesOf, isComputing, at}
+use Rattle.ops.specs.Eval.{unaryOf, logicOf, divideOf, shiftOf, convertOf}
+use Rattle.ops.specs.Rows.{Role, constant, numberOf, roleNo, bitsOf, typesOf, isComputing, at}
 use Rattle.ops.specs.Evaluate.{foldedOf}
 use Rattle.ops.specs.Kinds.{kindTable, rowOf, roleOf, between, one, wideOf, computedOf, statesOf}
 use Rattle.ops.specs.Ops.{bytesAt, atTypes, evalOf, foldableRow, moviKind}

@@ -6,7 +6,7 @@ use mathlib.Core.List.{List, []}
 use Prim.Native.Nat.{ℕ}
 use Rattle.theory.specs.Machine.{inputs, outputs, closes, labelOf, target, pure}
 use Rattle.theory.specs.Sets.{Vars, plus, empty}
-use Rattle.theory.specs.Scope.{wrote}
+use Rattle.theory.proofs.Scoped.{wrote}
 use Rattle.theory.proofs.Sets.{clash}
 use Rattle.ops.specs.Rows.{Role, unknown, declares, setsLabel, jumpsTo, exits, branches, loads, stores, constant, computing, Row, isPure, isClosing, isSetting, isJumping}
 use Rattle.ops.specs.Ops.{kindOf, rowAt, outsBy, insBy, labelBy, viewFor, viewOf}

@@ -1,7 +1,7 @@
 -- What the pure ops compute, by kind, once over the width: none where no result is stated. Assumes nothing.
 use Prim.Native.Nat.{ℕ, _/_, _%_, _^_}
 use mathlib.Core.Bool.{cond}
-use mathlib.Core.Option.{Option, none, some}
+use mathlib.Core.Option.{Option, some}
 use lib.Dec.{eqb}
 use lib.Bits.{bitAnd, bitOr, bitXor}
 use Rattle.word.specs.Word.{addW, subW, mulW, negW, notW, andcW, orcW, eqvW, nandW, norW, shlW, shrW, sarW, rotlW, rotrW, divsW, remsW, extendW}

@@ -8,7 +8,7 @@ use lib.Dec.{eqb, leb}
 use lib.ListN.{length}
 use borrow.Author.Tests.{eqb-true}
 use Rattle.theory.specs.Machine.{End, exit, fault, unstated, fell, spent, Result, runs}
-use Rattle.theory.specs.Scope.{scoped}
+use Rattle.theory.proofs.Scoped.{scoped}
 use Rattle.theory.specs.Sets.{empty}
 use Rattle.theory.proofs.PruneBy.{Agree}
 use Rattle.theory.proofs.Sets.{and-l, and-r}

@@ -8,7 +8,7 @@ use lib.ListN.{length, getD, length-append}
 use borrow.Author.Tests.{eqb-true, le-leb}
 use Rattle.theory.specs.Fold.{Rule, baseRule}
 use Rattle.theory.specs.Machine.{Prog, All}
-use Rattle.theory.specs.Scope.{scoped}
+use Rattle.theory.proofs.Scoped.{scoped}
 use Rattle.theory.specs.Sets.{empty}
 use Rattle.theory.proofs.Accept.{pass-checks}
 use Rattle.theory.proofs.Pass.{Preserves, preserves}

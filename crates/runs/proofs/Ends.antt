@@ -8,7 +8,7 @@ use native.Mathlib.Omega.{arith}
 use lib.Dec.{eqb}
 use borrow.Author.Tests.{eqb-true, eqb-false, eq-eqb, not-true}
 use lib.Arith.{lt-of-le-ne}
-use Rattle.theory.specs.Checker.{checks}
+use Rattle.theory.proofs.Checker.{checks}
 use Rattle.theory.specs.Machine.{isLabel, St, seek}
 use Rattle.theory.specs.Sets.{Vars}
 use Rattle.theory.proofs.Ends.{Grounded, ends-properly}

@@ -9,7 +9,7 @@ use lib.ListN.{length, getD, drop, set, replicate, length-set, length-drop}
 use lib.Seq.{drop-cons, drop-drop}
 use borrow.Author.Tests.{eqb-true, not-true, ne-eqb}
 use native.Mathlib.Nat.{zero-add, add-zero}
-use Rattle.theory.specs.Checker.{checks}
+use Rattle.theory.proofs.Checker.{checks}
 use Rattle.theory.specs.Machine.{isLabel, seek, upd}
 use Rattle.theory.specs.Sets.{Vars, empty}
 use Rattle.theory.proofs.Simulation.{isJump}

@@ -8,7 +8,7 @@ use lib.ListN.{length, getD, drop, drop-of-length-le, length-drop}
 use lib.Seq.{drop-cons}
 use native.Mathlib.Nat.{zero-add, sub-zero, add-zero, mod-eq-of-lt}
 use native.Mathlib.Numerals.{add-one}
-use Rattle.theory.specs.Checker.{checks}
+use Rattle.theory.proofs.Checker.{checks}
 use Rattle.theory.specs.Machine.{View, fell, Effect}
 use Rattle.theory.specs.Machine.{jumps, stops, effect, St, Result, cost, seek, moved, counted, after, run}
 use Rattle.theory.specs.Sets.{empty}

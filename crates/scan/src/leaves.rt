@@ -2,10 +2,10 @@
 ghost use mathlib.Core.Path.{_≡_};
 ghost use Prim.Native.Nat.{_+_, _<_};
 ghost use lib.ListN.{length, getD};
-ghost use Rattle.ops.specs.Rows.{outsIn, insIn, restIn, roleIn, rowIn, roleNo, isSetting, isJumping};
+ghost use Rattle.ops.specs.Rows.{outsIn, insIn, restIn, roleIn, rowIn, roleNo, isJumping};
 ghost use Rattle.ops.specs.Ops.{bytesAt};
 ghost use Rattle.block.specs.Rules.{wroteBy, markedBy};
-ghost use Rattle.block.specs.Scan.{marked, numbered, LabelledAs};
+ghost use Rattle.block.specs.Scan.{marked, LabelledAs};
 use kinds::body_length;
 use kinds::is_closing;
 use kinds::is_jumping;

@@ -3,7 +3,7 @@ use mathlib.Core.Path.{_≡_, refl, ap}
 use mathlib.Core.Bool.{Bool, true, false}
 use mathlib.Core.List.{[], _∷_}
 use mathlib.Core.Logic.{_⊎_, inl, inr}
-use Rattle.theory.specs.Checker.{Checker, checks}
+use Rattle.theory.proofs.Checker.{Checker, checks}
 use Rattle.theory.specs.Fold.{Known, nothing, Rewrite, put, omit, cut, Mode, on, off, learned, Rule, emit}
 use Rattle.theory.specs.Fold.{resume, fold, pass}
 use Rattle.theory.specs.Machine.{Lang, outputs, pure, anyLabel, Prog}

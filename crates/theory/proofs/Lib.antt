@@ -1,4 +1,6 @@
 pub mod Sets
+pub mod Scoped
+pub mod Checker
 pub mod Views
 pub mod Simulation
 pub mod PruneBy

@@ -6,7 +6,7 @@ use mathlib.Core.Logic.{_⊎_, inl, inr}
 use Prim.Native.Nat.{ℕ}
 use Rattle.theory.specs.Machine.{Lang, outputs, pure, closes, isLabel, St, Prog, Viewed, seek, runs}
 use Rattle.theory.specs.Prune.{dead, live, prune}
-use Rattle.theory.specs.Scope.{mayRead, wrote, scoped}
+use Rattle.theory.proofs.Scoped.{mayRead, wrote, scoped}
 use Rattle.theory.specs.Sets.{Vars, empty, has, noneIn}
 use Rattle.theory.proofs.PruneBy.{Agree, Keeps, asks, Covers, prune-by-right}
 use Rattle.theory.proofs.Sets.{or-l, and-l, and-r, tell, dead-out, or-mid, or-no}

@@ -9,7 +9,7 @@ use borrow.Author.Tests.{eq-eqb}
 use Rattle.theory.specs.Fold.{nothing, Rewrite, put, omit, cut, Mode, on, off, learned, Rule, emit, resume, fold, pass}
 use Rattle.theory.specs.Machine.{View, Lang, inputs, outputs, closes, anyLabel, Prog, Viewed}
 use Rattle.theory.specs.Prune.{dead, pruneBy, live}
-use Rattle.theory.specs.Scope.{mayRead, wrote, scoped}
+use Rattle.theory.proofs.Scoped.{mayRead, wrote, scoped}
 use Rattle.theory.specs.Sets.{Vars, empty, has, plus, allIn}
 use Rattle.theory.proofs.Law.{Among, Fits, Lawful}
 use Rattle.theory.proofs.Liveness.{base-keeps, live-scoped}

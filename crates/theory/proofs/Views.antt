@@ -9,7 +9,7 @@ use borrow.Author.Tests.{not-true}
 use Rattle.theory.specs.Machine.{Touch, always, when, Way, to, out, View, calc, access, label, flow, isSome, oneOf, inputs, outputs}
 use Rattle.theory.specs.Machine.{computes, pure, closes, labelOf, anyLabel, isLabel}
 use Rattle.theory.specs.Prune.{dead, there, need}
-use Rattle.theory.specs.Scope.{mayRead, wrote}
+use Rattle.theory.proofs.Scoped.{mayRead, wrote}
 use Rattle.theory.specs.Sets.{Vars, has, without, both}
 use Rattle.theory.proofs.Sets.{or-cases, or-l, or-r, and-l, and-r, in-all, or-mid, or-no, or-both, or-map, and-map}
 

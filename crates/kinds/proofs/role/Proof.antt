@@ -1,12 +1,10 @@
 -- The number of a role. Assumes nothing.
 use mathlib.Core.Path.{ap, sym, _∙_}
 use mathlib.Core.Bool.{Bool, cond}
-use Prim.Native.Nat.{ℕ}
 use native.Mathlib.Omega.{arith}
 use borrow.Author.Tests.{lt-ltb, le-ltb}
 use Rattle.ops.specs.Rows.{roleIn}
 use Rattle.ops.proofs.Table.{role-read}
-use borrow.Author.Needs.{needs}
 use Rattle.kinds.proofs.role.Statement.{statement}
 use Rattle.kinds.proofs.role.Tie as tie
 
