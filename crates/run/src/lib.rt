@@ -6,7 +6,7 @@ ghost use Rattle.ops.specs.Kinds.{kindTable};
 ghost use Rattle.block.specs.Records.{recordsOf, opsFrom};
 ghost use Rattle.runs.specs.Runs.{ranAs, runOf, runOps};
 ghost use Rattle.runs.specs.Steps.{Ready};
-use exec::execute;
+use execute::execute;
 use kinds::table;
 use lending::copy_in;
 use lending::copy_out;
@@ -14,7 +14,6 @@ use lending::lent_ok;
 use runs::Ending;
 use scan::scan;
 
-mod exec;
 mod lending;
 
 // Runs the ops of a block that the scan has accepted.

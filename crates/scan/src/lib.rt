@@ -25,7 +25,6 @@ use rules::may_read;
 use rules::rest_ok;
 use rules::types_match;
 
-mod declarations;
 mod leaves;
 
 // The rule from 9 on that the op at a place breaks, or 0. e is the entry of its kind.

@@ -7,8 +7,8 @@ use borrow.Author.Tests.{not-true, not-false}
 use borrow.Author.Needs.{needs}
 use Rattle.block.specs.Scan.{Declaring}
 use Rattle.block.proofs.Declaring.{declaring-few, declaring-start, short-by, ended-by, stopped-by, Here, refused-by, again-global, again-other}
-use Rattle.scan.proofs.declarations.scan_declarations.Statement.{statement}
-use Rattle.scan.proofs.declarations.scan_declarations.Tie as tie
+use Rattle.declarations.proofs.scan_declarations.Statement.{statement}
+use Rattle.declarations.proofs.scan_declarations.Tie as tie
 
 abbrev Inv-loop : tie.InvT-loop
 Inv-loop block classes₀ types₀ n₀ globals₀ at₀ classes types n globals at = (at ≤ length block) × Declaring block classes types at n globals

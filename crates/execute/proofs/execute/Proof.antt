@@ -9,8 +9,8 @@ use borrow.Author.Needs.{needs}
 use Rattle.ops.specs.Kinds.{kindTable}
 use Rattle.runs.proofs.Running.{Running, Turn, running-start, ends-past, inside-now, stands-now, body-now, few-now, stops-now, falls-on, number-now, target-now}
 use Rattle.runs.proofs.Running.{jumps-on}
-use Rattle.run.proofs.exec.execute.Statement.{statement}
-use Rattle.run.proofs.exec.execute.Tie as tie
+use Rattle.execute.proofs.execute.Statement.{statement}
+use Rattle.execute.proofs.execute.Tie as tie
 
 abbrev Inv-loop : tie.InvT-loop
 Inv-loop kinds block start ops places labels values₀ memory₀ op₀ at₀ count₀ values memory op at count = (length memory ≡ length memory₀) × Running block values₀ memory₀ values memory op at count

@@ -4,8 +4,8 @@ use lib.Dec.{eqb, ltb, leb}
 use borrow.Author.Tests.{lt-ltb, le-ltb, le-leb, lt-leb, eq-eqb, ne-eqb}
 use Rattle.block.specs.Scan.{declarationOk}
 use Rattle.block.proofs.Declaring.{last-false, only}
-use Rattle.scan.proofs.declarations.declaration_ok.Statement.{statement}
-use Rattle.scan.proofs.declarations.declaration_ok.Tie as tie
+use Rattle.declarations.proofs.declaration_ok.Statement.{statement}
+use Rattle.declarations.proofs.declaration_ok.Tie as tie
 
 returns : tie.Need-returns
 unfolding declarationOk

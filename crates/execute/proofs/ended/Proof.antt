@@ -1,8 +1,8 @@
 -- An exit and a fault count, an op without a stated result does not. Assumes nothing.
 use borrow.Author.Needs.{needs}
 use Rattle.runs.proofs.Running.{ended-so, ended-uncounted}
-use Rattle.run.proofs.exec.ended.Statement.{statement}
-use Rattle.run.proofs.exec.ended.Tie as tie
+use Rattle.execute.proofs.ended.Statement.{statement}
+use Rattle.execute.proofs.ended.Tie as tie
 
 enum-known-stop : tie.Need-enum-known-stop
 enum-known-stop c = search needs
