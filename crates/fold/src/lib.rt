@@ -19,6 +19,8 @@ use marks::clear;
 use marks::put;
 use marks::unmark_all;
 use memory::low_first;
+use ops::CONSTANT;
+use ops::LOADS;
 use values::evaluate;
 use word::Stated;
 
@@ -66,17 +68,17 @@ fn stated_by(e: u32, block: &[u8], at: usize, known: &[u8; 256], values: &[u64; 
     Stated::NoResult
 }
 
-// What is known after an op that stays as it is. Role 8 is a constant; those below 6 end a basic block.
+// What is known after an op that stays as it is.
 fn pass_over(e: u32, block: &[u8], at: usize, known: &mut [u8; 256], values: &mut [u64; 256])
     requires { ⌜ Stands (now block) at (getD (now block) at 0) × (e ≡ getD kindTable (getD (now block) at 0) 0) × StatesKnown (now block) at (now known) (now values) Stated.NoResult ⌝ }
     ensures { λ _. ⌜ Stays (now (block .entry)) at (now (known .entry)) (now (values .entry)) (now (known .exit)) (now (values .exit)) ⌝ }
 {
     let r = role(e);
-    if r == 8 {
+    if r == CONSTANT {
         learn(known, values, block[at + 1], low_first(block, at + 2, 8));
         return;
     }
-    if r < 6 {
+    if r < LOADS {
         clear(known);
         return;
     }

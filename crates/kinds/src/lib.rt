@@ -5,6 +5,12 @@ ghost use lib.ListN.{getD};
 ghost use Rattle.ops.specs.Rows.{outsIn, insIn, restIn, testIn, roleIn, typesIn, roleNo, numberOf, isKnown, isPure, isComputing, isClosing, isSetting, isJumping};
 ghost use Rattle.ops.specs.Kinds.{kindTable};
 ghost use Prim.Native.Nat.{_+_};
+use ops::BRANCHES;
+use ops::CONSTANT;
+use ops::JUMPS_TO;
+use ops::LOADS;
+use ops::SETS_LABEL;
+use ops::STORES;
 
 // A kind's entry, in hexadecimal digits from the lowest: its outputs, its inputs, the bytes after them, the number of their test, the number of its
 // role; then the types of its operands, two bits each, 1 for 64 bits. 0 for a kind that is unknown.
@@ -344,33 +350,33 @@ pub fn is_known(e: u32) -> bool
 pub fn is_pure(e: u32) -> bool
     ensures { λ r. ⌜ r ≡ isPure (roleNo (roleIn e)) ⌝ }
 {
-    7 < role(e)
+    STORES < role(e)
 }
 
 pub fn is_computing(e: u32) -> bool
     ensures { λ r. ⌜ r ≡ isComputing (roleNo (roleIn e)) ⌝ }
 {
-    8 < role(e)
+    CONSTANT < role(e)
 }
 
 // No basic block goes on after the op; it sets a label; it may jump to one.
 pub fn is_closing(e: u32) -> bool
     ensures { λ r. ⌜ r ≡ isClosing (roleNo (roleIn e)) ⌝ }
 {
-    role(e) < 6
+    role(e) < LOADS
 }
 
 pub fn is_setting(e: u32) -> bool
     ensures { λ r. ⌜ r ≡ isSetting (roleNo (roleIn e)) ⌝ }
 {
-    role(e) == 2
+    role(e) == SETS_LABEL
 }
 
 pub fn is_jumping(e: u32) -> bool
     ensures { λ r. ⌜ r ≡ isJumping (roleNo (roleIn e)) ⌝ }
 {
     let n = role(e);
-    (n == 3) | (n == 5)
+    (n == JUMPS_TO) | (n == BRANCHES)
 }
 
 // The op has its 64-bit form.

@@ -23,6 +23,9 @@ use marks::clear;
 use marks::mark_all;
 use marks::put;
 use marks::unmark_all;
+use ops::CONSTANT;
+use ops::LOADS;
+use ops::STORES;
 
 // A variable whose class is below a limit becomes live.
 fn mark_class(class: u8, limit: u8, v: usize, live: &mut [u8; 256])
@@ -62,7 +65,7 @@ fn end_limit(e: u32) -> u8
     if is_setting(e) | is_jumping(e) { 2 } else { 1 }
 }
 
-// What is live before an op that is kept, but for its inputs, from what is live after it. Roles below 6 end a basic block; 6 and 7, loads and stores,
+// What is live before an op that is kept, but for its inputs, from what is live after it. Loads and stores
 // show all globals.
 fn live_but_inputs(
     e: u32,
@@ -76,12 +79,12 @@ fn live_but_inputs(
     ensures { λ _. ⌜ marked (now (live .exit)) ≡ beforeBy (roleNo (roleIn e)) (take n (now (classes .entry))) (bytesAt (now (block .entry)) (at + 1) (outsIn e)) (marked (now (live .entry))) ⌝ }
 {
     let r = role(e);
-    if r < 6 {
+    if r < LOADS {
         live_at_end(classes, n, end_limit(e), live);
         return;
     }
     unmark_all(block, at + 1, outs(e), live);
-    if 7 < r {
+    if STORES < r {
         return;
     }
     mark_classes(classes, n, 1, live);
@@ -118,12 +121,12 @@ fn none_live(block: &[u8], from: usize, count: usize, live: &[u8; 256]) -> bool
     true
 }
 
-// Whether an op is pure, role 8 or 9, and none of its outputs is live after it.
+// Whether an op is pure and none of its outputs is live after it.
 fn dead_op(e: u32, block: &[u8], at: usize, live: &[u8; 256]) -> bool
     requires { ⌜ Stands (now block) at (getD (now block) at 0) × (e ≡ getD kindTable (getD (now block) at 0) 0) ⌝ }
     ensures { λ r. ⌜ r ≡ dead (viewOf (recordAt (now (block .entry)) at)) (marked (now (live .entry))) ⌝ }
 {
-    if role(e) < 8 {
+    if role(e) < CONSTANT {
         return false;
     }
     none_live(block, at + 1, outs(e), live)
