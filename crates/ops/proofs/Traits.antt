@@ -13,65 +13,26 @@ use Rattle.ops.specs.Ops.{kindOf, rowAt, outsBy, insBy, labelBy, viewFor
 use Rattle.ops.proofs.Table.{row-of}
 
 module _ (row : Row) (r : List ℕ) where
-  closes-by : (x : Role) → closes (viewFor x row r) ≡ isClosing x
-  closes-by unknown = refl
-  closes-by declares = refl
-  closes-by setsLabel = refl
-  closes-by jumpsTo = refl
-  closes-by exits = refl
-  closes-by branches = refl
-  closes-by loads = refl
-  closes-by stores = refl
-  closes-by constant = refl
-  closes-by computing = refl
+  -- what the theory sees of an op, by the columns of its role
+  abbrev Columns : Role → Type 0
+  Columns x =
+      (closes (viewFor x row r) ≡ isClosing x)
+      × (pure (viewFor x row r) ≡ isPure x)
+      × (labelOf (viewFor x row r) ≡ cond (isSetting x) (some (labelBy row r)) none)
+      × (target (viewFor x row r) ≡ cond (isJumping x) (some (labelBy row r)) none)
+      × (outputs (viewFor x row r) ≡ cond (isClosing x) [] (outsBy row r))
 
-  pure-by : (x : Role) → pure (viewFor x row r) ≡ isPure x
-  pure-by unknown = refl
-  pure-by declares = refl
-  pure-by setsLabel = refl
-  pure-by jumpsTo = refl
-  pure-by exits = refl
-  pure-by branches = refl
-  pure-by loads = refl
-  pure-by stores = refl
-  pure-by constant = refl
-  pure-by computing = refl
-
-  label-by : (x : Role) → labelOf (viewFor x row r) ≡ cond (isSetting x) (some (labelBy row r)) none
-  label-by unknown = refl
-  label-by declares = refl
-  label-by setsLabel = refl
-  label-by jumpsTo = refl
-  label-by exits = refl
-  label-by branches = refl
-  label-by loads = refl
-  label-by stores = refl
-  label-by constant = refl
-  label-by computing = refl
-
-  target-by : (x : Role) → target (viewFor x row r) ≡ cond (isJumping x) (some (labelBy row r)) none
-  target-by unknown = refl
-  target-by declares = refl
-  target-by setsLabel = refl
-  target-by jumpsTo = refl
-  target-by exits = refl
-  target-by branches = refl
-  target-by loads = refl
-  target-by stores = refl
-  target-by constant = refl
-  target-by computing = refl
-
-  outputs-by : (x : Role) → outputs (viewFor x row r) ≡ cond (isClosing x) [] (outsBy row r)
-  outputs-by unknown = refl
-  outputs-by declares = refl
-  outputs-by setsLabel = refl
-  outputs-by jumpsTo = refl
-  outputs-by exits = refl
-  outputs-by branches = refl
-  outputs-by loads = refl
-  outputs-by stores = refl
-  outputs-by constant = refl
-  outputs-by computing = refl
+  columns : (x : Role) → Columns x
+  columns unknown = (refl, refl, refl, refl, refl)
+  columns declares = (refl, refl, refl, refl, refl)
+  columns setsLabel = (refl, refl, refl, refl, refl)
+  columns jumpsTo = (refl, refl, refl, refl, refl)
+  columns exits = (refl, refl, refl, refl, refl)
+  columns branches = (refl, refl, refl, refl, refl)
+  columns loads = (refl, refl, refl, refl, refl)
+  columns stores = (refl, refl, refl, refl, refl)
+  columns constant = (refl, refl, refl, refl, refl)
+  columns computing = (refl, refl, refl, refl, refl)
 
   inputs-by : (x : Role) → (x ≡ setsLabel → insBy row r ≡ []) → inputs (viewFor x row r) ≡ insBy row r
   inputs-by unknown h = refl
@@ -88,23 +49,23 @@ module _ (row : Row) (r : List ℕ) where
 module _ (r : List ℕ) where
   pub closes-at : closes (viewOf r) ≡ isClosing ((rowAt r) .role)
   unfolding viewOf
-  closes-at = closes-by (rowAt r) r ((rowAt r) .role)
+  closes-at = (columns (rowAt r) r ((rowAt r) .role)) .0
 
   pub pure-at : pure (viewOf r) ≡ isPure ((rowAt r) .role)
   unfolding viewOf
-  pure-at = pure-by (rowAt r) r ((rowAt r) .role)
+  pure-at = (columns (rowAt r) r ((rowAt r) .role)) .1
 
   pub label-at : labelOf (viewOf r) ≡ cond (isSetting ((rowAt r) .role)) (some (labelBy (rowAt r) r)) none
   unfolding viewOf
-  label-at = label-by (rowAt r) r ((rowAt r) .role)
+  label-at = (columns (rowAt r) r ((rowAt r) .role)) .2
 
   pub target-at : target (viewOf r) ≡ cond (isJumping ((rowAt r) .role)) (some (labelBy (rowAt r) r)) none
   unfolding viewOf
-  target-at = target-by (rowAt r) r ((rowAt r) .role)
+  target-at = (columns (rowAt r) r ((rowAt r) .role)) .3
 
   pub outputs-at : outputs (viewOf r) ≡ cond (isClosing ((rowAt r) .role)) [] (outsBy (rowAt r) r)
   unfolding viewOf
-  outputs-at = outputs-by (rowAt r) r ((rowAt r) .role)
+  outputs-at = (columns (rowAt r) r ((rowAt r) .role)) .4
 
   pub wrote-at : (w : Vars) → wrote w (viewOf r) ≡ cond (isClosing ((rowAt r) .role)) empty (plus w (outsBy (rowAt r) r))
   wrote-at w = rw (closes-at, outputs-at) (go (isClosing ((rowAt r) .role)))
