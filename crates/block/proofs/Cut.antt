@@ -11,70 +11,70 @@ use borrow.Author.Tests.{ltb-false, eqb-true, not-true, le-ltb, eq-eqb}
 use Rattle.theory.specs.Machine.{All}
 use Rattle.theory.proofs.Sets.{and-l, and-r, and-i, clash}
 use Rattle.theory.proofs.Simulation.{more}
-use Rattle.ops.specs.Kinds.{known, bodyLength}
+use Rattle.ops.specs.Rows.{known, bodyLength, Table}
 use Rattle.ops.specs.Ops.{kindOf}
 use Rattle.block.specs.Records.{Cut, nothingLeft, stray, cons, cutBy, cutOf, concat, isDeclaration, declarations, opsFrom}
 
 -- a record of a known kind, with its body
-abbrev pub whole : List ℕ → Bool
-whole r = known (kindOf r) && eqb (length r) (suc (bodyLength (kindOf r)))
+abbrev pub whole : Table → List ℕ → Bool
+whole T r = known T (kindOf r) && eqb (length r) (suc (bodyLength T (kindOf r)))
 
-abbrev pub AllWhole : List (List ℕ) → Type 0
-AllWhole rs = All (λ r. whole r ≡ true) rs
+abbrev pub AllWhole : Table → List (List ℕ) → Type 0
+AllWhole T rs = All (λ r. whole T r ≡ true) rs
 
 abbrev pub cut-clean : List (List ℕ) → Cut
 cut-clean rs = record { records = rs; tail = 0 }
 
 -- what is cut is whole
-cut-cons : (k : ℕ) (bytes : List ℕ) (more : Cut) (t s : Bool) → known k ≡ t → ltb (length bytes) (bodyLength k) ≡ s → AllWhole (more .records)
-    → AllWhole ((cond t (cond s (stray 1) (cons (k ∷ take (bodyLength k) bytes) more)) (stray 2)) .records)
-cut-cons k bytes more true true e f h = tt
-cut-cons k bytes more true false e f h = (
-  and-i (known k) (eqb (suc (length (take (bodyLength k) bytes))) (suc (bodyLength k))) e
-      (eq-eqb (suc (length (take (bodyLength k) bytes))) (suc (bodyLength k))
-      (ap suc (length-take-le (bodyLength k) bytes (ltb-false (length bytes) (bodyLength k) f)))),
+cut-cons : (T : Table) (k : ℕ) (bytes : List ℕ) (more : Cut) (t s : Bool) → known T k ≡ t → ltb (length bytes) (bodyLength T k) ≡ s → AllWhole T (more .records)
+    → AllWhole T ((cond t (cond s (stray 1) (cons (k ∷ take (bodyLength T k) bytes) more)) (stray 2)) .records)
+cut-cons T k bytes more true true e f h = tt
+cut-cons T k bytes more true false e f h = (
+  and-i (known T k) (eqb (suc (length (take (bodyLength T k) bytes))) (suc (bodyLength T k))) e
+      (eq-eqb (suc (length (take (bodyLength T k) bytes))) (suc (bodyLength T k))
+      (ap suc (length-take-le (bodyLength T k) bytes (ltb-false (length bytes) (bodyLength T k) f)))),
   h,
 )
-cut-cons k bytes more false s e f h = tt
+cut-cons T k bytes more false s e f h = tt
 
-pub cut-whole : (n : ℕ) (bytes : List ℕ) → AllWhole ((cutBy n bytes) .records)
+pub cut-whole : (T : Table) (n : ℕ) (bytes : List ℕ) → AllWhole T ((cutBy T n bytes) .records)
 unfolding cutBy
-cut-whole zero bytes = tt
-cut-whole (suc n) [] = tt
-cut-whole (suc n) (k ∷ bytes) =
-    cut-cons k bytes (cutBy n (drop (bodyLength k) bytes)) (known k) (ltb (length bytes) (bodyLength k)) refl refl (cut-whole n (drop (bodyLength k) bytes))
+cut-whole T zero bytes = tt
+cut-whole T (suc n) [] = tt
+cut-whole T (suc n) (k ∷ bytes) =
+    cut-cons T k bytes (cutBy T n (drop (bodyLength T k) bytes)) (known T k) (ltb (length bytes) (bodyLength T k)) refl refl (cut-whole T n (drop (bodyLength T k) bytes))
 
 -- a whole record in front is the first that is cut
-cut-first : (n k : ℕ) (body bytes : List ℕ) → whole (k ∷ body) ≡ true → cutBy (suc n) (k ∷ (body ++ bytes)) ≡ cons (k ∷ body) (cutBy n bytes)
+cut-first : (T : Table) (n k : ℕ) (body bytes : List ℕ) → whole T (k ∷ body) ≡ true → cutBy T (suc n) (k ∷ (body ++ bytes)) ≡ cons (k ∷ body) (cutBy T n bytes)
 unfolding cutBy
-cut-first n k body bytes h =
-    let e : length body ≡ bodyLength k = omega (arith, eqb-true (length (k ∷ body)) (suc (bodyLength k)) (and-r (known k) (eqb (length (k ∷ body)) (suc (bodyLength k))) h)) in
-    let f : ltb (length (body ++ bytes)) (bodyLength k) ≡ false = le-ltb (length (body ++ bytes)) (bodyLength k) (omega (arith, length-append body bytes)) in
-    rw (and-l (known k) (eqb (length (k ∷ body)) (suc (bodyLength k))) h, f, take-at body bytes (bodyLength k) e, drop-at body bytes (bodyLength k) e)
+cut-first T n k body bytes h =
+    let e : length body ≡ bodyLength T k = omega (arith, eqb-true (length (k ∷ body)) (suc (bodyLength T k)) (and-r (known T k) (eqb (length (k ∷ body)) (suc (bodyLength T k))) h)) in
+    let f : ltb (length (body ++ bytes)) (bodyLength T k) ≡ false = le-ltb (length (body ++ bytes)) (bodyLength T k) (omega (arith, length-append body bytes)) in
+    rw (and-l (known T k) (eqb (length (k ∷ body)) (suc (bodyLength T k))) h, f, take-at body bytes (bodyLength T k) e, drop-at body bytes (bodyLength T k) e)
 
-cut-none : (n : ℕ) → cutBy n [] ≡ nothingLeft
+cut-none : (T : Table) (n : ℕ) → cutBy T n [] ≡ nothingLeft
 unfolding cutBy
-cut-none zero = refl
-cut-none (suc n) = refl
+cut-none T zero = refl
+cut-none T (suc n) = refl
 
-pub no-record : whole [] ≡ false
-no-record = go (known 0)
+pub no-record : (T : Table) → whole T [] ≡ false
+no-record T = go (known T 0)
   where
-    go : (b : Bool) → (b && eqb 0 (suc (bodyLength 0))) ≡ false
-    go true = eqb·zero-suc (bodyLength 0)
+    go : (b : Bool) → (b && eqb 0 (suc (bodyLength T 0))) ≡ false
+    go true = eqb·zero-suc (bodyLength T 0)
     go false = refl
 
-cut-records : (rs : List (List ℕ)) (n : ℕ) → AllWhole rs → length (concat rs) ≤ n → cutBy n (concat rs) ≡ cut-clean rs
-cut-records [] n h l = cut-none n
-cut-records ([] ∷ rs) n h l = clash (whole []) (h .0) no-record
-cut-records ((k ∷ body) ∷ rs) zero h l = absurd (omega arith)
-cut-records ((k ∷ body) ∷ rs) (suc n) h l =
-    cut-first n k body (concat rs) (h .0)
-    ∙ ap (cons (k ∷ body)) (cut-records rs n (h .1) (omega (arith, length-append body (concat rs))))
+cut-records : (T : Table) (rs : List (List ℕ)) (n : ℕ) → AllWhole T rs → length (concat rs) ≤ n → cutBy T n (concat rs) ≡ cut-clean rs
+cut-records T [] n h l = cut-none T n
+cut-records T ([] ∷ rs) n h l = clash (whole T []) (h .0) (no-record T)
+cut-records T ((k ∷ body) ∷ rs) zero h l = absurd (omega arith)
+cut-records T ((k ∷ body) ∷ rs) (suc n) h l =
+    cut-first T n k body (concat rs) (h .0)
+    ∙ ap (cons (k ∷ body)) (cut-records T rs n (h .1) (omega (arith, length-append body (concat rs))))
 
-pub cut-concat : (rs : List (List ℕ)) → AllWhole rs → cutOf (concat rs) ≡ cut-clean rs
+pub cut-concat : (T : Table) (rs : List (List ℕ)) → AllWhole T rs → cutOf T (concat rs) ≡ cut-clean rs
 unfolding cutOf
-cut-concat rs h = cut-records rs (length (concat rs)) h (omega arith)
+cut-concat T rs h = cut-records T rs (length (concat rs)) h (omega arith)
 
 -- the declarations and the records from the first op on
 pub split-records : (rs : List (List ℕ)) → declarations rs ++ opsFrom rs ≡ rs

@@ -10,16 +10,16 @@ use lib.Seq.{getD-take}
 use borrow.Author.Tests.{ltb-true}
 use Rattle.theory.specs.Sets.{allIn}
 use Rattle.theory.proofs.Sets.{and-l, and-r}
-use Rattle.ops.specs.Rows.{typesOf}
-use Rattle.ops.specs.Kinds.{bodyLength}
+use Rattle.ops.specs.Rows.{typesOf, Table}
+use Rattle.ops.specs.Rows.{bodyLength}
 use Rattle.ops.specs.Ops.{kindOf}
 use Rattle.block.specs.Rules.{keptIn, allBelow, haveTypes}
 use Rattle.block.specs.Scan.{recordAt, typesMatch, mayReadAll, marked}
 use Rattle.block.proofs.Views.{kind-byte}
 
 -- its kind is the byte at the place
-pub kind-at : (b : List ℕ) (p : ℕ) → p + suc (bodyLength (getD b p 0)) ≤ length b → kindOf (recordAt b p) ≡ getD b p 0
-kind-at b p h = kind-byte (record { its-kind = refl; whole = h })
+pub kind-at : (T : Table) (b : List ℕ) (p : ℕ) → p + suc (bodyLength T (getD b p 0)) ≤ length b → kindOf (recordAt T b p) ≡ getD b p 0
+kind-at T b p h = kind-byte {T = T} (record { its-kind = refl; whole = h })
 
 -- below n, the first n entries of an array are the array's
 first : (n v d e : ℕ) (xs : List ℕ) → n ≤ length xs → v < n → getD (take n xs) v d ≡ getD xs v e

@@ -8,6 +8,7 @@ use Rattle.theory.proofs.Scoped.{scoped}
 use Rattle.theory.specs.Sets.{empty}
 use Rattle.theory.proofs.Sets.{and-l, and-r, and-i}
 use Rattle.ops.specs.Ops.{tcg}
+use Rattle.ops.specs.Kinds.{rowOf, document01}
 use Rattle.block.specs.Checks.{checkOf}
 use Rattle.block.specs.Meaning.{seen}
 use Rattle.block.specs.Records.{Cut, recordsOf, concat, declarations, opsFrom, classesOf}
@@ -18,18 +19,18 @@ use Rattle.block.proofs.Checker.{checker, inScope, accepts-ops, ops-acc
 use Rattle.block.proofs.Cut.{whole, AllWhole, cut-concat, split-records, AllDeclared, declared-all, headOp, ops-head, split-again, all-append}
 use Rattle.block.specs.declared.Verdict.the-variants.{Accepted}
 
--- the records of an accepted block: declarations, and ops that meet every rule
+-- the records of an accepted block: declarations, and ops that (meet rowOf) every rule
 pub record Parts (block : List ℕ) (ds os : List (List ℕ)) : Type 0 where
-  pub records : recordsOf block ≡ ds ++ os
-  pub declared : declarations (recordsOf block) ≡ ds
-  pub ops : opsFrom (recordsOf block) ≡ os
-  pub wholes : AllWhole ds × AllWhole os
+  pub records : recordsOf rowOf block ≡ ds ++ os
+  pub declared : declarations (recordsOf rowOf block) ≡ ds
+  pub ops : opsFrom (recordsOf rowOf block) ≡ os
+  pub wholes : AllWhole rowOf ds × AllWhole rowOf os
   pub all-declared : AllDeclared ds
-  pub met : meet start ds ≡ true
-  pub checked : checks tcg checker (declaredIn start ds) os ≡ true
-  pub in-scope : scoped tcg (keptIn (classesOf ds)) empty os ≡ true
+  pub met : meet rowOf start ds ≡ true
+  pub checked : checks (tcg document01) checker (declaredIn start ds) os ≡ true
+  pub in-scope : scoped (tcg document01) (keptIn (classesOf ds)) empty os ≡ true
 
-pub parts : (block : List ℕ) → checkOf block ≡ Accepted → Parts block (declarations (recordsOf block)) (opsFrom (recordsOf block))
+pub parts : (block : List ℕ) → checkOf block ≡ Accepted → Parts block (declarations (recordsOf rowOf block)) (opsFrom (recordsOf rowOf block))
 parts block h =
     record {
       records = sym (split-records rs);
@@ -43,7 +44,7 @@ parts block h =
     }
   where
     rs : List (List ℕ)
-    rs = recordsOf block
+    rs = recordsOf rowOf block
 
     ds : List (List ℕ)
     ds = declarations rs
@@ -51,36 +52,36 @@ parts block h =
     os : List (List ℕ)
     os = opsFrom rs
 
-    a : AllWhole rs × (accepts start rs ≡ true)
-    a = accepted-records block h
+    a : AllWhole rowOf rs × (accepts rowOf start rs ≡ true)
+    a = accepted-records rowOf block h
 
-    w′ : AllWhole (ds ++ os)
-    w′ = subst AllWhole (sym (split-records rs)) (a .0)
+    w′ : AllWhole rowOf (ds ++ os)
+    w′ = subst (AllWhole rowOf) (sym (split-records rs)) (a .0)
 
-    w : AllWhole ds × AllWhole os
-    w = (all-left (λ r. whole r ≡ true) ds os w′, all-right (λ r. whole r ≡ true) ds os w′)
+    w : AllWhole rowOf ds × AllWhole rowOf os
+    w = (all-left (λ r. whole rowOf r ≡ true) ds os w′, all-right (λ r. whole rowOf r ≡ true) ds os w′)
 
-    b : (meet start ds && accepts (seen start ds) os) ≡ true
-    b = sym (accepts-append start ds os) ∙ ap (accepts start) (split-records rs) ∙ a .1
+    b : (meet rowOf start ds && accepts rowOf (seen rowOf start ds) os) ≡ true
+    b = sym (accepts-append rowOf start ds os) ∙ ap (accepts rowOf start) (split-records rs) ∙ a .1
 
-    m : meet start ds ≡ true
-    m = and-l (meet start ds) (accepts (seen start ds) os) b
+    m : meet rowOf start ds ≡ true
+    m = and-l (meet rowOf start ds) (accepts rowOf (seen rowOf start ds) os) b
 
-    c : accepts (declaredIn start ds) os ≡ true
-    c = sym (ap (λ (s : Seen). accepts s os) (seen-declared start ds (declared-all rs))) ∙ and-r (meet start ds) (accepts (seen start ds) os) b
+    c : accepts rowOf (declaredIn start ds) os ≡ true
+    c = sym (ap (λ (s : Seen). accepts rowOf s os) (seen-declared start ds (declared-all rs))) ∙ and-r (meet rowOf start ds) (accepts rowOf (seen rowOf start ds) os) b
 
-    p : (checks tcg checker (declaredIn start ds) os ≡ true) × (inScope (declaredIn start ds) os ≡ true)
+    p : (checks (tcg document01) checker (declaredIn start ds) os ≡ true) × (inScope (declaredIn start ds) os ≡ true)
     p = accepts-ops (declaredIn start ds) os (ops-head rs) (w .1) c
 
--- the other way: declarations and ops that meet every rule make an accepted block
-pub joined : (ds os : List (List ℕ)) → AllWhole ds → AllDeclared ds → meet start ds ≡ true → checks tcg checker (declaredIn start ds) os ≡ true
-    → scoped tcg (keptIn (classesOf ds)) empty os ≡ true → (checkOf (concat (ds ++ os)) ≡ Accepted) × Parts (concat (ds ++ os)) ds os
+-- the other way: declarations and ops that (meet rowOf) every rule make an accepted block
+pub joined : (ds os : List (List ℕ)) → AllWhole rowOf ds → AllDeclared ds → meet rowOf start ds ≡ true → checks (tcg document01) checker (declaredIn start ds) os ≡ true
+    → scoped (tcg document01) (keptIn (classesOf ds)) empty os ≡ true → (checkOf (concat (ds ++ os)) ≡ Accepted) × Parts (concat (ds ++ os)) ds os
 joined ds os wd d m c k = (
-  records-accepted (ds ++ os) w (accepts-append start ds os ∙ and-i (meet start ds) (accepts (seen start ds) os) m (ap (λ (s : Seen). accepts s os) (seen-declared start ds d) ∙ q .2)),
+  records-accepted rowOf (ds ++ os) w (accepts-append rowOf start ds os ∙ and-i (meet rowOf start ds) (accepts rowOf (seen rowOf start ds) os) m (ap (λ (s : Seen). accepts rowOf s os) (seen-declared start ds d) ∙ q .2)),
   record {
-    records = ap (λ (t : Cut). t .records) (cut-concat (ds ++ os) w);
-    declared = ap (λ (t : Cut). declarations (t .records)) (cut-concat (ds ++ os) w) ∙ z .0;
-    ops = ap (λ (t : Cut). opsFrom (t .records)) (cut-concat (ds ++ os) w) ∙ z .1;
+    records = ap (λ (t : Cut). t .records) (cut-concat rowOf (ds ++ os) w);
+    declared = ap (λ (t : Cut). declarations (t .records)) (cut-concat rowOf (ds ++ os) w) ∙ z .0;
+    ops = ap (λ (t : Cut). opsFrom (t .records)) (cut-concat rowOf (ds ++ os) w) ∙ z .1;
     wholes = (wd, q .0);
     all-declared = d;
     met = m;
@@ -89,11 +90,11 @@ joined ds os wd d m c k = (
   },
 )
   where
-    q : AllWhole os × (headOp os ≡ true) × (accepts (declaredIn start ds) os ≡ true)
+    q : AllWhole rowOf os × (headOp os ≡ true) × (accepts rowOf (declaredIn start ds) os ≡ true)
     q = ops-accepts (declaredIn start ds) os c k
 
-    w : AllWhole (ds ++ os)
-    w = all-append (λ r. whole r ≡ true) ds os wd (q .0)
+    w : AllWhole rowOf (ds ++ os)
+    w = all-append (λ r. whole rowOf r ≡ true) ds os wd (q .0)
 
     z : (declarations (ds ++ os) ≡ ds) × (opsFrom (ds ++ os) ≡ os)
     z = split-again ds os d (q .1)

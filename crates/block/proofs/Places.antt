@@ -9,39 +9,39 @@ use lib.ListN.{length, getD, drop, set, length-set}
 use lib.Seq.{getD-set-same, getD-set-other}
 use borrow.Author.Tests.{ltb-true, ltb-false}
 use native.Mathlib.Nat.{add-zero}
-use Rattle.ops.specs.Kinds.{known, bodyLength}
+use Rattle.ops.specs.Rows.{known, bodyLength, Table}
 use Rattle.block.specs.Records.{Cut}
 use Rattle.block.specs.Scan.{recordAt, placesFrom, recordsAt}
 use Rattle.block.proofs.Steps.{cut-unknown, cut-short, cut-record, record-length, cut-end}
 
 -- a record stands at a place, and the others follow it
-pub record Standing (b : List ℕ) (p : ℕ) (o : List ℕ) (rest : List (List ℕ)) : Type 0 where
+pub record Standing (T : Table) (b : List ℕ) (p : ℕ) (o : List ℕ) (rest : List (List ℕ)) : Type 0 where
   pub inside : p < length b
-  pub is-known : known (getD b p 0) ≡ true
-  pub whole-here : p + suc (bodyLength (getD b p 0)) ≤ length b
-  pub record-here : recordAt b p ≡ o
-  pub others : recordsAt b (p + suc (bodyLength (getD b p 0))) ≡ rest
+  pub is-known : known T (getD b p 0) ≡ true
+  pub whole-here : p + suc (bodyLength T (getD b p 0)) ≤ length b
+  pub record-here : recordAt T b p ≡ o
+  pub others : recordsAt T b (p + suc (bodyLength T (getD b p 0))) ≡ rest
 
 no-cons : {A : Type 0} (o : List ℕ) (rest : List (List ℕ)) → [] ≡ o ∷ rest → A
 no-cons o rest e = let z : _≡_ {A = ℕ} 0 1 = cc in absurd (omega arith)
 
-pub standing : (b : List ℕ) (p : ℕ) (o : List ℕ) (rest : List (List ℕ)) → recordsAt b p ≡ o ∷ rest → Standing b p o rest
-standing b p o rest e = go (ltb p (length b)) refl
+pub standing : (T : Table) (b : List ℕ) (p : ℕ) (o : List ℕ) (rest : List (List ℕ)) → recordsAt T b p ≡ o ∷ rest → Standing T b p o rest
+standing T b p o rest e = go (ltb p (length b)) refl
   where
     k : ℕ
     k = getD b p 0
 
-    found : p < length b → (t : Bool) → known k ≡ t → (u : Bool) → ltb (length b) (p + suc (bodyLength k)) ≡ u → Standing b p o rest
-    found h false f u g = no-cons o rest (sym (ap (λ (c : Cut). c .records) (cut-unknown b p h f)) ∙ e)
-    found h true f true g = no-cons o rest (sym (ap (λ (c : Cut). c .records) (cut-short b p h f (ltb-true (length b) (p + suc (bodyLength k)) g))) ∙ e)
+    found : p < length b → (t : Bool) → known T k ≡ t → (u : Bool) → ltb (length b) (p + suc (bodyLength T k)) ≡ u → Standing T b p o rest
+    found h false f u g = no-cons o rest (sym (ap (λ (c : Cut). c .records) (cut-unknown T b p h f)) ∙ e)
+    found h true f true g = no-cons o rest (sym (ap (λ (c : Cut). c .records) (cut-short T b p h f (ltb-true (length b) (p + suc (bodyLength T k)) g))) ∙ e)
     found h true f false g =
-        let w = ltb-false (length b) (p + suc (bodyLength k)) g in
-        let q : recordAt b p ∷ recordsAt b (p + suc (bodyLength k)) ≡ o ∷ rest = sym (ap (λ (c : Cut). c .records) (cut-record b p h f w)) ∙ e in
+        let w = ltb-false (length b) (p + suc (bodyLength T k)) g in
+        let q : recordAt T b p ∷ recordsAt T b (p + suc (bodyLength T k)) ≡ o ∷ rest = sym (ap (λ (c : Cut). c .records) (cut-record T b p h f w)) ∙ e in
         record { inside = h; is-known = f; whole-here = w; record-here = cc; others = cc }
 
-    go : (t : Bool) → ltb p (length b) ≡ t → Standing b p o rest
-    go true h = found (ltb-true p (length b) h) (known k) refl (ltb (length b) (p + suc (bodyLength k))) refl
-    go false h = no-cons o rest (sym (ap (λ (c : Cut). c .records) (cut-end b p (ltb-false p (length b) h))) ∙ e)
+    go : (t : Bool) → ltb p (length b) ≡ t → Standing T b p o rest
+    go true h = found (ltb-true p (length b) h) (known T k) refl (ltb (length b) (p + suc (bodyLength T k))) refl
+    go false h = no-cons o rest (sym (ap (λ (c : Cut). c .records) (cut-end T b p (ltb-false p (length b) h))) ∙ e)
 
 -- the bytes of the first j records
 abbrev pub spanOf : ℕ → List (List ℕ) → ℕ
@@ -50,14 +50,14 @@ spanOf (suc j) [] = 0
 spanOf (suc j) (o ∷ os) = length o + spanOf j os
 
 -- the records from the j-th on
-pub records-from : (b : List ℕ) (p j : ℕ) (os : List (List ℕ)) → recordsAt b p ≡ os → j ≤ length os → recordsAt b (p + spanOf j os) ≡ drop j os
-records-from b p zero os e l = rw (add-zero p) e
-records-from b p (suc j) [] e l = absurd (omega arith)
-records-from b p (suc j) (o ∷ os) e l =
-    let s = standing b p o os e in
-    let n : length o ≡ suc (bodyLength (getD b p 0)) = sym (ap length (s .record-here)) ∙ record-length b p (s .inside) (s .whole-here) in
-    let q : p + (length o + spanOf j os) ≡ p + suc (bodyLength (getD b p 0)) + spanOf j os = omega (arith, n) in
-    ap (recordsAt b) q ∙ records-from b (p + suc (bodyLength (getD b p 0))) j os (s .others) (omega arith)
+pub records-from : (T : Table) (b : List ℕ) (p j : ℕ) (os : List (List ℕ)) → recordsAt T b p ≡ os → j ≤ length os → recordsAt T b (p + spanOf j os) ≡ drop j os
+records-from T b p zero os e l = rw (add-zero p) e
+records-from T b p (suc j) [] e l = absurd (omega arith)
+records-from T b p (suc j) (o ∷ os) e l =
+    let s = standing T b p o os e in
+    let n : length o ≡ suc (bodyLength T (getD b p 0)) = sym (ap length (s .record-here)) ∙ record-length T b p (s .inside) (s .whole-here) in
+    let q : p + (length o + spanOf j os) ≡ p + suc (bodyLength T (getD b p 0)) + spanOf j os = omega (arith, n) in
+    ap (recordsAt T b) q ∙ records-from T b (p + suc (bodyLength T (getD b p 0))) j os (s .others) (omega arith)
 
 -- a place that is kept before the i-th stays
 places-before : (os : List (List ℕ)) (p i : ℕ) (P : List ℕ) (j : ℕ) → j < i → getD (placesFrom p i P os) j 0 ≡ getD P j 0

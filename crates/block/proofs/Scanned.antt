@@ -7,7 +7,7 @@ use lib.ListN.{length, getD, replicate}
 use borrow.Author.Tests.{ne-eqb}
 use Rattle.theory.specs.Machine.{after}
 use Rattle.ops.specs.Ops.{kindOf}
-use Rattle.block.specs.Checks.{checkOf}
+use Rattle.ops.specs.Rows.{Table}
 use Rattle.block.specs.Records.{recordsOf, declarations, opsFrom, classesOf, declaredTypes, globalCount}
 use Rattle.block.specs.Rules.{start}
 use Rattle.block.specs.Scan.{DeclaredBy, refuses, reads-on, placesFrom, labelsFrom, recordsAt, ScannedBy, refuses-op, accepts-ops, Begins, Approved}
@@ -16,29 +16,30 @@ use Rattle.block.proofs.Cut.{headOp, split-again}
 use Rattle.block.proofs.Fields.{kind-at}
 use Rattle.block.proofs.Places.{standing}
 use Rattle.block.specs.declared.Verdict.the-variants.{Accepted, Refused}
+use Rattle.block.specs.Checks.{checkBy}
 
 -- the first record after the declarations is an op
-no-declaration : (b : List ℕ) (p : ℕ) → (p < length b → getD b p 0 ≡ 1 → ⊥) → headOp (recordsAt b p) ≡ true
-no-declaration b p k = go (recordsAt b p) refl
+no-declaration : (T : Table) (b : List ℕ) (p : ℕ) → (p < length b → getD b p 0 ≡ 1 → ⊥) → headOp (recordsAt T b p) ≡ true
+no-declaration T b p k = go (recordsAt T b p) refl
   where
-    go : (rs : List (List ℕ)) → recordsAt b p ≡ rs → headOp rs ≡ true
+    go : (rs : List (List ℕ)) → recordsAt T b p ≡ rs → headOp rs ≡ true
     go [] e = refl
     go (r ∷ rs) e =
-        let s = standing b p r rs e in
-        ap not (ne-eqb (kindOf r) 0x01 (λ q. k (s .inside) (sym (kind-at b p (s .whole-here)) ∙ ap kindOf (s .record-here) ∙ q)))
+        let s = standing T b p r rs e in
+        ap not (ne-eqb (kindOf r) 0x01 (λ q. k (s .inside) (sym (kind-at T b p (s .whole-here)) ∙ ap kindOf (s .record-here) ∙ q)))
 
-module _ {b classes types : List ℕ} {p n : ℕ} (g : Begins b classes types p n) where
+module _ {T : Table} {b classes types : List ℕ} {p n : ℕ} (g : Begins T b classes types p n) where
   ds : List (List ℕ)
   ds = g .after .before
 
-  split : (declarations (recordsOf b) ≡ ds) × (opsFrom (recordsOf b) ≡ recordsAt b p)
+  split : (declarations (recordsOf T b) ≡ ds) × (opsFrom (recordsOf T b) ≡ recordsAt T b p)
   unfolding ds
   split =
-      let q = split-again (g .after .before) (recordsAt b p) (g .after .all-declared) (no-declaration b p (g .no-more)) in
+      let q = split-again (g .after .before) (recordsAt T b p) (g .after .all-declared) (no-declaration T b p (g .no-more)) in
       (ap declarations (g .after .records-are) ∙ q .0, ap opsFrom (g .after .records-are) ∙ q .1)
 
-  pub approve : (places₀ places labels : List ℕ) (ops : ℕ) → checkOf b ≡ Accepted → ops ≡ length (recordsAt b p) → places ≡ placesFrom p 0 places₀ (recordsAt b p)
-      → labels ≡ labelsFrom 0 (replicate 256 0) (recordsAt b p) → Approved b places₀ classes types places labels p n (g .globals) ops
+  pub approve : (places₀ places labels : List ℕ) (ops : ℕ) → checkBy T b ≡ Accepted → ops ≡ length (recordsAt T b p) → places ≡ placesFrom p 0 places₀ (recordsAt T b p)
+      → labels ≡ labelsFrom T 0 (replicate 256 0) (recordsAt T b p) → Approved T b places₀ classes types places labels p n (g .globals) ops
   unfolding ds
   approve places₀ places labels ops a c q l =
       record {
@@ -53,34 +54,34 @@ module _ {b classes types : List ℕ} {p n : ℕ} (g : Begins b classes types p 
         ops-are = sym (split .1);
         count-is = c ∙ ap length (sym (split .1));
         places-are = q ∙ ap (placesFrom p 0 places₀) (sym (split .1));
-        labels-are = l ∙ ap (labelsFrom 0 (replicate 256 0)) (sym (split .1));
+        labels-are = l ∙ ap (labelsFrom T 0 (replicate 256 0)) (sym (split .1));
       }
 
 -- what the first scan leaves to the second
-pub begins-by : {b classes types : List ℕ} {rule p n globals : ℕ} → DeclaredBy b classes types rule p n globals → rule ≡ 0
-    → (g : Begins b classes types p n) × (g .globals ≡ globals)
+pub begins-by : {T : Table} {b classes types : List ℕ} {rule p n globals : ℕ} → DeclaredBy T b classes types rule p n globals → rule ≡ 0
+    → (g : Begins T b classes types p n) × (g .globals ≡ globals)
 begins-by (refuses z q) e = absurd (z e)
 begins-by {globals = globals} (reads-on d k) e = (record { globals = globals; after = d; no-more = k }, refl)
 
-pub scan-refused : {b classes types : List ℕ} {rule p n globals : ℕ} (places₀ places labels : List ℕ) → DeclaredBy b classes types rule p n globals → (rule ≡ 0 → ⊥)
-    → Scanned b places₀ classes types places labels rule p p n globals 0
+pub scan-refused : {T : Table} {b classes types : List ℕ} {rule p n globals : ℕ} (places₀ places labels : List ℕ) → DeclaredBy T b classes types rule p n globals → (rule ≡ 0 → ⊥)
+    → Scanned T b places₀ classes types places labels rule p p n globals 0
 scan-refused places₀ places labels (refuses z q) k = rejected z q
 scan-refused places₀ places labels (reads-on d k) z = absurd (z refl)
 
-pub scan-done : {b classes types places₀ places labels : List ℕ} {rule₀ p n globals rule place ops : ℕ} → DeclaredBy b classes types rule₀ p n globals → rule₀ ≡ 0
-    → ScannedBy b p places₀ places labels rule place ops → Scanned b places₀ classes types places labels rule place p n globals ops
+pub scan-done : {T : Table} {b classes types places₀ places labels : List ℕ} {rule₀ p n globals rule place ops : ℕ} → DeclaredBy T b classes types rule₀ p n globals → rule₀ ≡ 0
+    → ScannedBy T b p places₀ places labels rule place ops → Scanned T b places₀ classes types places labels rule place p n globals ops
 scan-done d e (refuses-op z q) = rejected z q
-scan-done {b = b} {classes = classes} {types = types} {places₀ = places₀} {places = places} {labels = labels} {p = p} {n = n} d e (accepts-ops {ops = ops} a c q l) =
+scan-done {T = T} {b = b} {classes = classes} {types = types} {places₀ = places₀} {places = places} {labels = labels} {p = p} {n = n} d e (accepts-ops {ops = ops} a c q l) =
     let g = begins-by d e in
-    approved (subst (λ (m : ℕ). Approved b places₀ classes types places labels p n m ops) (g .1) (approve (g .0) places₀ places labels ops a c q l))
+    approved (subst (λ (m : ℕ). Approved T b places₀ classes types places labels p n m ops) (g .1) (approve (g .0) places₀ places labels ops a c q l))
 
 -- the check's answer
-pub check-by : {b places₀ classes types places labels : List ℕ} {rule place start n globals ops : ℕ} → Scanned b places₀ classes types places labels rule place start n globals ops
-    → rule ≡ 0 → Accepted ≡ checkOf b
+pub check-by : {T : Table} {b places₀ classes types places labels : List ℕ} {rule place start n globals ops : ℕ} → Scanned T b places₀ classes types places labels rule place start n globals ops
+    → rule ≡ 0 → Accepted ≡ checkBy T b
 check-by (rejected z q) e = absurd (z e)
 check-by (approved a) e = sym (a .accepted)
 
-pub refuse-by : {b places₀ classes types places labels : List ℕ} {rule place start n globals ops : ℕ} → Scanned b places₀ classes types places labels rule place start n globals ops
-    → (rule ≡ 0 → ⊥) → Refused rule place ≡ checkOf b
+pub refuse-by : {T : Table} {b places₀ classes types places labels : List ℕ} {rule place start n globals ops : ℕ} → Scanned T b places₀ classes types places labels rule place start n globals ops
+    → (rule ≡ 0 → ⊥) → Refused rule place ≡ checkBy T b
 refuse-by (rejected z q) k = q
 refuse-by (approved a) k = absurd (k refl)

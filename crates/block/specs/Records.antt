@@ -4,8 +4,8 @@ use mathlib.Core.Bool.{Bool, cond}
 use mathlib.Core.List.{List, [], _∷_, _++_}
 use lib.Dec.{eqb, ltb}
 use lib.ListN.{length, take, drop}
-use Rattle.ops.specs.Rows.{at}
-use Rattle.ops.specs.Kinds.{known, bodyLength}
+use Rattle.ops.specs.Rows.{at, Table}
+use Rattle.ops.specs.Rows.{known, bodyLength}
 use Rattle.ops.specs.Ops.{kindOf}
 
 -- the whole records of a block, and the rule that the record after them breaks: 2, unknown kind; 1, it runs past the end; 0, none follows
@@ -23,18 +23,18 @@ abbrev pub cons : List ℕ → Cut → Cut
 cons r c = record { records = r ∷ c .records; tail = c .tail }
 
 -- "one byte of kind, then a body whose length the kind fixes"; the number bounds the records
-unfoldable pub cutBy : ℕ → List ℕ → Cut
-cutBy zero bytes = nothingLeft
-cutBy (suc n) [] = nothingLeft
-cutBy (suc n) (k ∷ bytes) =
-    let more = cons (k ∷ take (bodyLength k) bytes) (cutBy n (drop (bodyLength k) bytes)) in
-    cond (known k) (cond (ltb (length bytes) (bodyLength k)) (stray 1) more) (stray 2)
+unfoldable pub cutBy : Table → ℕ → List ℕ → Cut
+cutBy T zero bytes = nothingLeft
+cutBy T (suc n) [] = nothingLeft
+cutBy T (suc n) (k ∷ bytes) =
+    let more = cons (k ∷ take (bodyLength T k) bytes) (cutBy T n (drop (bodyLength T k) bytes)) in
+    cond (known T k) (cond (ltb (length bytes) (bodyLength T k)) (stray 1) more) (stray 2)
 
-unfoldable pub cutOf : List ℕ → Cut
-cutOf block = cutBy (length block) block
+unfoldable pub cutOf : Table → List ℕ → Cut
+cutOf T block = cutBy T (length block) block
 
-abbrev pub recordsOf : List ℕ → List (List ℕ)
-recordsOf block = (cutOf block) .records
+abbrev pub recordsOf : Table → List ℕ → List (List ℕ)
+recordsOf T block = (cutOf T block) .records
 
 -- the bytes of records
 abbrev pub concat : List (List ℕ) → List ℕ

@@ -7,7 +7,7 @@ use lib.ListN.{length, getD}
 use Rattle.theory.specs.Machine.{upd}
 use Rattle.theory.specs.Sets.{Vars, empty, plus, allIn}
 use Rattle.ops.specs.Limits.{maxVariables, maxOps, labelCount}
-use Rattle.ops.specs.Rows.{Row, isClosing, isSetting, isJumping, testOk}
+use Rattle.ops.specs.Rows.{Row, isClosing, isSetting, isJumping, testOk, Table}
 use Rattle.ops.specs.Ops.{kindOf, rowAt, outsBy, insBy, restBy, labelBy}
 use Rattle.block.specs.Records.{isDeclaration, classOf, typeOf}
 
@@ -45,11 +45,11 @@ abbrev pub allBelow : ℕ → List ℕ → Bool
 allBelow n [] = true
 allBelow n (v ∷ vs) = ltb v n && allBelow n vs
 
-abbrev pub operandsOf : List ℕ → List ℕ
-operandsOf r = outsBy (rowAt r) r ++ insBy (rowAt r) r
+abbrev pub operandsOf : Table → List ℕ → List ℕ
+operandsOf T r = outsBy (rowAt T r) r ++ insBy (rowAt T r) r
 
-unfoldable pub rule4 : Seen → List ℕ → Bool
-rule4 s r = allBelow (length (s .classes)) (operandsOf r)
+unfoldable pub rule4 : Table → Seen → List ℕ → Bool
+rule4 T s r = allBelow (length (s .classes)) (operandsOf T r)
 
 -- 5: "an operand has the wrong width"
 abbrev pub haveTypes : List ℕ → List ℕ → List ℕ → Bool
@@ -57,23 +57,23 @@ haveTypes types [] ts = true
 haveTypes types (v ∷ vs) [] = true
 haveTypes types (v ∷ vs) (t ∷ ts) = eqb (getD types v 0) t && haveTypes types vs ts
 
-unfoldable pub rule5 : Seen → List ℕ → Bool
-rule5 s r = haveTypes (s .types) (operandsOf r) ((rowAt r) .outs ++ (rowAt r) .ins)
+unfoldable pub rule5 : Table → Seen → List ℕ → Bool
+rule5 T s r = haveTypes (s .types) (operandsOf T r) ((rowAt T r) .outs ++ (rowAt T r) .ins)
 
 -- 6: "cond above 9, bad flags, label above 31, 32-bit movi of 2^32 or more"
-unfoldable pub rule6 : Seen → List ℕ → Bool
-rule6 s r = testOk ((rowAt r) .test) (restBy (rowAt r) r)
+unfoldable pub rule6 : Table → Seen → List ℕ → Bool
+rule6 T s r = testOk ((rowAt T r) .test) (restBy (rowAt T r) r)
 
 -- 7: "label set twice, or jump to a label already set"
 abbrev pub labelFree : Row → Vars → ℕ → Bool
 labelFree row labels l = not (isSetting (row .role) || isJumping (row .role)) || not (labels l)
 
-unfoldable pub rule7 : Seen → List ℕ → Bool
-rule7 s r = labelFree (rowAt r) (s .labels) (labelBy (rowAt r) r)
+unfoldable pub rule7 : Table → Seen → List ℕ → Bool
+rule7 T s r = labelFree (rowAt T r) (s .labels) (labelBy (rowAt T r) r)
 
 -- 8: "temporary read before a write in its basic block"; "reads come before the record's own write"
-unfoldable pub rule8 : Seen → List ℕ → Bool
-rule8 s r = allIn (keptIn (s .classes)) (insBy (rowAt r) r) (s .written)
+unfoldable pub rule8 : Table → Seen → List ℕ → Bool
+rule8 T s r = allIn (keptIn (s .classes)) (insBy (rowAt T r) r) (s .written)
 
 -- 9: "257th op"
 unfoldable pub rule9 : Seen → List ℕ → Bool
@@ -111,17 +111,17 @@ wroteBy row w outs = cond (isClosing (row .role)) empty (plus w outs)
 abbrev pub markedBy : Bool → Vars → ℕ → Vars
 markedBy b labels l = cond b (upd labels l true) labels
 
-abbrev pub passed : Seen → List ℕ → Seen
-passed s r =
+abbrev pub passed : Table → Seen → List ℕ → Seen
+passed T s r =
     record {
       classes = s .classes;
       types = s .types;
-      written = wroteBy (rowAt r) (s .written) (outsBy (rowAt r) r);
-      labels = markedBy (isSetting ((rowAt r) .role)) (s .labels) (labelBy (rowAt r) r);
-      targets = markedBy (isJumping ((rowAt r) .role)) (s .targets) (labelBy (rowAt r) r);
+      written = wroteBy (rowAt T r) (s .written) (outsBy (rowAt T r) r);
+      labels = markedBy (isSetting ((rowAt T r) .role)) (s .labels) (labelBy (rowAt T r) r);
+      targets = markedBy (isJumping ((rowAt T r) .role)) (s .targets) (labelBy (rowAt T r) r);
       ops = suc (s .ops);
       last = kindOf r;
     }
 
-unfoldable pub next : Seen → List ℕ → Seen
-next s r = cond (isDeclaration r) (declared s r) (passed s r)
+unfoldable pub next : Table → Seen → List ℕ → Seen
+next T s r = cond (isDeclaration r) (declared s r) (passed T s r)

@@ -5,16 +5,16 @@ use Rattle.word.specs.Word.{sarW, divsW, remsW, extendW, byDivisor, bySigned, b
 use Rattle.memory.specs.Access.{loaded, loadAt}
 use Rattle.memory.specs.Bytes.{lowFirst, highFirst}
 use Rattle.ops.specs.Eval.{convertOf, unaryOf, logicOf, divideOf, shiftOf, setcondOf, movcondOf}
-use Rattle.ops.specs.Rows.{roleNo, typesOf, testOk}
-use Rattle.ops.specs.Kinds.{kindTable, rowOf, wideOf, computedOf, statesOf}
-use Rattle.ops.specs.Ops.{loadOf, storeOf, holdsOf}
+use Rattle.ops.specs.Rows.{roleNo, typesOf, testOk, tableOf}
+use Rattle.ops.specs.Kinds.{kindTable, wideOf, computedOf, statesOf}
+use Rattle.ops.specs.Kinds.{loadOf, storeOf, holdsOf}
 use Rattle.ops.specs.Ops.{evalOf, viewOf}
-use Rattle.block.specs.Checks.{firstBroken, checkFrom, checkOf}
+use Rattle.block.specs.Checks.{firstBroken, checkFrom, checkBy}
 use Rattle.block.specs.Records.{cutBy, cutOf}
 use Rattle.block.specs.Rules.{rule3, rule4, rule5, rule6, rule7, rule8, rule9, rule10, rule7end, next}
-use Rattle.runs.specs.Runs.{fits, runOps, runChecked, runOf}
+use Rattle.runs.specs.Runs.{fits, runOps, runChecked, runBy}
 use Rattle.cases.specs.Marked.{marked, MarkedCases}
 
 pub marked-cases : MarkedCases
-unfolding MarkedCases marked checkOf checkFrom cutOf cutBy firstBroken rule3 rule4 rule5 rule6 rule7 rule8 rule9 rule10 rule7end next runOf runChecked runOps fits evalOf viewOf rowOf kindTable roleNo typesOf testOk wideOf computedOf statesOf loadOf storeOf holdsOf convertOf unaryOf logicOf divideOf shiftOf setcondOf movcondOf condW ltsW lesW byDivisor bySigned byCount divsW remsW sarW extendW loadAt loaded lowFirst highFirst
+unfolding MarkedCases marked checkBy checkFrom cutOf cutBy firstBroken rule3 rule4 rule5 rule6 rule7 rule8 rule9 rule10 rule7end next runBy runChecked runOps fits evalOf viewOf tableOf kindTable roleNo typesOf testOk wideOf computedOf statesOf loadOf storeOf holdsOf convertOf unaryOf logicOf divideOf shiftOf setcondOf movcondOf condW ltsW lesW byDivisor bySigned byCount divsW remsW sarW extendW loadAt loaded lowFirst highFirst
 marked-cases = refl

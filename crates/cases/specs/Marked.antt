@@ -5,6 +5,7 @@ use mathlib.Core.Option.{Option, none, some}
 use mathlib.Core.List.{List, [], _∷_, map}
 use Rattle.memory.specs.Access.{loadAt}
 use Rattle.ops.specs.Ops.{evalOf}
+use Rattle.ops.specs.Kinds.{document01}
 use Rattle.block.specs.declared.Verdict.{Verdict}
 use Rattle.block.specs.declared.Verdict.the-variants.{Accepted, Refused}
 use Rattle.block.specs.Checks.{checkOf}
@@ -47,18 +48,18 @@ marked =
     ∷ is 1 (check (checkOf (0x01 ∷ 0x00 ∷ []))) (check (Refused 1 0))
     ∷ is 2 (check (checkOf exitWithGlobal)) (check Accepted)
     ∷ is 2 (run (runOf exitWithGlobal (0x0123456789ABCDEF ∷ []) [])) (run (record { answer = Exit 0x0123456789ABCDEF 1; globals = 0x0123456789ABCDEF ∷ []; memory = [] }))
-    ∷ is 3 (op (evalOf 0x14 [] (two 0xFFFFFFFF 1))) (gives 0)
-    ∷ is 4 (op (evalOf 0x1F [] (two 0x80000000 0xFFFFFFFF))) (op none)
-    ∷ is 4 (op (evalOf 0x1F [] (two 0x80000001 0xFFFFFFFF))) (gives 0x7FFFFFFF)
-    ∷ is 5 (op (evalOf 0x1F [] (two 0xFFFFFFF9 2))) (gives 0xFFFFFFFD)
-    ∷ is 5 (op (evalOf 0x21 [] (two 0xFFFFFFF9 2))) (gives 0xFFFFFFFF)
-    ∷ is 6 (op (evalOf 0x25 [] (two 0x80000000 31))) (gives 0xFFFFFFFF)
-    ∷ is 6 (op (evalOf 0x25 [] (two 0x80000000 32))) (op none)
-    ∷ is 7 (op (evalOf 0x28 (2 ∷ []) (two 0xFFFFFFFF 0))) (gives 1)
-    ∷ is 7 (op (evalOf 0x28 (6 ∷ []) (two 0xFFFFFFFF 0))) (gives 0)
-    ∷ is 8 (op (evalOf 0x05 [] (0x80000000 ∷ []))) (gives 0xFFFFFFFF80000000)
-    ∷ is 8 (op (evalOf 0x06 [] (0x80000000 ∷ []))) (gives 0x80000000)
-    ∷ is 8 (op (evalOf 0x07 [] (0x100000005 ∷ []))) (gives 5)
+    ∷ is 3 (op (evalOf document01 0x14 [] (two 0xFFFFFFFF 1))) (gives 0)
+    ∷ is 4 (op (evalOf document01 0x1F [] (two 0x80000000 0xFFFFFFFF))) (op none)
+    ∷ is 4 (op (evalOf document01 0x1F [] (two 0x80000001 0xFFFFFFFF))) (gives 0x7FFFFFFF)
+    ∷ is 5 (op (evalOf document01 0x1F [] (two 0xFFFFFFF9 2))) (gives 0xFFFFFFFD)
+    ∷ is 5 (op (evalOf document01 0x21 [] (two 0xFFFFFFF9 2))) (gives 0xFFFFFFFF)
+    ∷ is 6 (op (evalOf document01 0x25 [] (two 0x80000000 31))) (gives 0xFFFFFFFF)
+    ∷ is 6 (op (evalOf document01 0x25 [] (two 0x80000000 32))) (op none)
+    ∷ is 7 (op (evalOf document01 0x28 (2 ∷ []) (two 0xFFFFFFFF 0))) (gives 1)
+    ∷ is 7 (op (evalOf document01 0x28 (6 ∷ []) (two 0xFFFFFFFF 0))) (gives 0)
+    ∷ is 8 (op (evalOf document01 0x05 [] (0x80000000 ∷ []))) (gives 0xFFFFFFFF80000000)
+    ∷ is 8 (op (evalOf document01 0x06 [] (0x80000000 ∷ []))) (gives 0x80000000)
+    ∷ is 8 (op (evalOf document01 0x07 [] (0x100000005 ∷ []))) (gives 5)
     ∷ is 9 (load (loadAt 32 2 sixteen 12)) (load (some 0x0F0E0D0C))
     ∷ is 9 (load (loadAt 32 2 sixteen 13)) (load none)
     ∷ is 9 (load (loadAt 32 0 sixteen 0xFFFFFFFFFFFFFFFF)) (load none)

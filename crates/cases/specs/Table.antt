@@ -3,7 +3,8 @@ use Prim.Native.Nat.{ℕ, zero, suc, _+_}
 use mathlib.Core.Path.{_≡_}
 use mathlib.Core.Bool.{Bool, true, not, _&&_, _||_, Bool·beq}
 use lib.Dec.{eqb}
-use Rattle.ops.specs.Kinds.{rowOf, known, bodyLength, outputCount, pureKind, between}
+use Rattle.ops.specs.Kinds.{rowOf, between}
+use Rattle.ops.specs.Rows.{known, bodyLength, outputCount, pureKind}
 use Rattle.ops.specs.Ops.{foldableRow}
 
 -- a range of kinds from 10 on, in either width
@@ -16,24 +17,24 @@ given test n m = not test || eqb n m
 -- the kinds there are, those that fold ("kinds 05 to 07 or 11 to 29 (either width)"), and the pure ones ("kinds 05 to 07 and 10 to 29 in either width")
 abbrev pub kindRow : ℕ → Bool
 kindRow k =
-    Bool·beq (known k) (between 0x01 0x07 k || either 0x10 0x2C k)
+    Bool·beq (known rowOf k) (between 0x01 0x07 k || either 0x10 0x2C k)
     && Bool·beq (foldableRow (rowOf k)) (between 0x05 0x07 k || either 0x11 0x29 k)
-    && Bool·beq (pureKind k) (between 0x05 0x07 k || either 0x10 0x29 k)
+    && Bool·beq (pureKind rowOf k) (between 0x05 0x07 k || either 0x10 0x29 k)
 
 -- the lengths of the bodies in document 01's table of ops, and of the declaration
 abbrev pub lengthRow : ℕ → Bool
 lengthRow k =
-    given (eqb k 0x01) (bodyLength k) 2
-    && given (between 0x02 0x04 k) (bodyLength k) 1
-    && given (between 0x05 0x07 k || either 0x11 0x13 k) (bodyLength k) 2
-    && given (either 0x10 0x10 k) (bodyLength k) 9
-    && given (either 0x14 0x27 k || either 0x2B 0x2C k) (bodyLength k) 3
-    && given (either 0x28 0x28 k || either 0x2A 0x2A k) (bodyLength k) 4
-    && given (either 0x29 0x29 k) (bodyLength k) 6
+    given (eqb k 0x01) (bodyLength rowOf k) 2
+    && given (between 0x02 0x04 k) (bodyLength rowOf k) 1
+    && given (between 0x05 0x07 k || either 0x11 0x13 k) (bodyLength rowOf k) 2
+    && given (either 0x10 0x10 k) (bodyLength rowOf k) 9
+    && given (either 0x14 0x27 k || either 0x2B 0x2C k) (bodyLength rowOf k) 3
+    && given (either 0x28 0x28 k || either 0x2A 0x2A k) (bodyLength rowOf k) 4
+    && given (either 0x29 0x29 k) (bodyLength rowOf k) 6
 
 -- an output for each pure op and each load, none for any other
 abbrev pub outputRow : ℕ → Bool
-outputRow k = given (pureKind k || either 0x2B 0x2B k) (outputCount k) 1 && given (not (pureKind k || either 0x2B 0x2B k)) (outputCount k) 0
+outputRow k = given (pureKind rowOf k || either 0x2B 0x2B k) (outputCount rowOf k) 1 && given (not (pureKind rowOf k || either 0x2B 0x2B k)) (outputCount rowOf k) 0
 
 abbrev pub allKinds : (ℕ → Bool) → ℕ → Bool
 allKinds test zero = true

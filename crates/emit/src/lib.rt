@@ -6,8 +6,8 @@ ghost use lib.ListN.{length, getD, take, drop};
 ghost use lib.Seq.{sets};
 ghost use Rattle.memory.specs.Bytes.{bytesOf};
 ghost use Rattle.ops.specs.Rows.{typesIn};
-ghost use Rattle.ops.specs.Kinds.{kindTable};
-ghost use Rattle.ops.specs.Ops.{moviKind};
+ghost use Rattle.ops.specs.Kinds.{kindTable, rowOf};
+ghost use Rattle.ops.specs.Kinds.{moviKind};
 ghost use Rattle.block.specs.Records.{recordsOf, opsFrom};
 ghost use Rattle.block.specs.Scan.{recordAt};
 ghost use Rattle.passes.specs.Choose.{pickOp, bytesFrom, sizeBy, Chosen, Emittable, EmitsAt};
@@ -56,7 +56,7 @@ fn emit_op(
     to: usize,
 ) -> usize
     requires { ⌜ Emittable (now block) at folded value (now out) to × (e ≡ getD kindTable (getD (now block) at 0) 0) ⌝ }
-    ensures { λ r. ⌜ (r ≡ to + length (pickOp folded value (recordAt (now (block .entry)) at))) × (now (out .exit) ≡ sets (now (out .entry)) to (pickOp folded value (recordAt (now (block .entry)) at))) ⌝ }
+    ensures { λ r. ⌜ (r ≡ to + length (pickOp folded value (recordAt rowOf (now (block .entry)) at))) × (now (out .exit) ≡ sets (now (out .entry)) to (pickOp folded value (recordAt rowOf (now (block .entry)) at))) ⌝ }
 {
     if folded == 1 {
         put_movi(out, to, movi_kind(e), block[at + 1], value);
@@ -90,7 +90,7 @@ pub fn kept_size(
     keep: &[u8; 256],
 ) -> usize
     requires { ⌜ Chosen (now block) (now places) (now folded) ops × (now kinds ≡ kindTable) ⌝ }
-    ensures { λ r. ⌜ ((values : List ℕ) → r ≡ length (bytesFrom 0 (now (folded .entry)) values (now (keep .entry)) (opsFrom (recordsOf (now (block .entry)))))) ⌝ }
+    ensures { λ r. ⌜ ((values : List ℕ) → r ≡ length (bytesFrom 0 (now (folded .entry)) values (now (keep .entry)) (opsFrom (recordsOf rowOf (now (block .entry)))))) ⌝ }
 {
     let mut i: usize = 0;
     let mut size: usize = 0;
@@ -114,7 +114,7 @@ fn emit_at(
     to: usize,
 ) -> usize
     requires { ⌜ (keep ≡ 1 → Emittable (now block) at folded value (now out) to) × (e ≡ getD kindTable (getD (now block) at 0) 0) ⌝ }
-    ensures { λ r. ⌜ EmitsAt keep (pickOp folded value (recordAt (now (block .entry)) at)) (now (out .entry)) (now (out .exit)) to r ⌝ }
+    ensures { λ r. ⌜ EmitsAt keep (pickOp folded value (recordAt rowOf (now (block .entry)) at)) (now (out .entry)) (now (out .exit)) to r ⌝ }
 {
     if keep != 1 {
         return to;
@@ -134,8 +134,8 @@ pub fn emit_ops(
     out: &mut [u8],
     to: usize,
 ) -> usize
-    requires { ⌜ Chosen (now block) (now places) (now folded) ops × (to + length (bytesFrom 0 (now folded) (now values) (now keep) (opsFrom (recordsOf (now block)))) ≤ length (now out)) × (now kinds ≡ kindTable) ⌝ }
-    ensures { λ r. ⌜ (r ≡ to + length (bytesFrom 0 (now (folded .entry)) (now (values .entry)) (now (keep .entry)) (opsFrom (recordsOf (now (block .entry)))))) × (now (out .exit) ≡ sets (now (out .entry)) to (bytesFrom 0 (now (folded .entry)) (now (values .entry)) (now (keep .entry)) (opsFrom (recordsOf (now (block .entry)))))) ⌝ }
+    requires { ⌜ Chosen (now block) (now places) (now folded) ops × (to + length (bytesFrom 0 (now folded) (now values) (now keep) (opsFrom (recordsOf rowOf (now block)))) ≤ length (now out)) × (now kinds ≡ kindTable) ⌝ }
+    ensures { λ r. ⌜ (r ≡ to + length (bytesFrom 0 (now (folded .entry)) (now (values .entry)) (now (keep .entry)) (opsFrom (recordsOf rowOf (now (block .entry)))))) × (now (out .exit) ≡ sets (now (out .entry)) to (bytesFrom 0 (now (folded .entry)) (now (values .entry)) (now (keep .entry)) (opsFrom (recordsOf rowOf (now (block .entry)))))) ⌝ }
 {
     let mut op: usize = 0;
     let mut p = to;

@@ -4,7 +4,7 @@ ghost use mathlib.Core.Option.{some};
 ghost use Prim.Native.Nat.{_+_, _≤_, _<_};
 ghost use lib.ListN.{length, getD};
 ghost use Rattle.theory.specs.Machine.{upd};
-ghost use Rattle.ops.specs.Kinds.{kindTable};
+ghost use Rattle.ops.specs.Kinds.{kindTable, rowOf};
 ghost use Rattle.ops.specs.Ops.{bytesAt};
 ghost use Rattle.block.specs.Records.{recordsOf, opsFrom};
 ghost use Rattle.block.specs.Scan.{Stands, marked};
@@ -56,7 +56,7 @@ fn all_known(block: &[u8], from: usize, count: usize, known: &[u8; 256]) -> bool
 
 // What an op that may fold states, where all its inputs are known.
 fn stated_by(e: u32, block: &[u8], at: usize, known: &[u8; 256], values: &[u64; 256]) -> Stated
-    requires { ⌜ Stands (now block) at (getD (now block) at 0) × (e ≡ getD kindTable (getD (now block) at 0) 0) ⌝ }
+    requires { ⌜ Stands rowOf (now block) at (getD (now block) at 0) × (e ≡ getD kindTable (getD (now block) at 0) 0) ⌝ }
     ensures { λ r. ⌜ StatesKnown (now (block .entry)) at (now (known .entry)) (now (values .entry)) r ⌝ }
 {
     if !is_computing(e) {
@@ -70,7 +70,7 @@ fn stated_by(e: u32, block: &[u8], at: usize, known: &[u8; 256], values: &[u64; 
 
 // What is known after an op that stays as it is.
 fn pass_over(e: u32, block: &[u8], at: usize, known: &mut [u8; 256], values: &mut [u64; 256])
-    requires { ⌜ Stands (now block) at (getD (now block) at 0) × (e ≡ getD kindTable (getD (now block) at 0) 0) × StatesKnown (now block) at (now known) (now values) Stated.NoResult ⌝ }
+    requires { ⌜ Stands rowOf (now block) at (getD (now block) at 0) × (e ≡ getD kindTable (getD (now block) at 0) 0) × StatesKnown (now block) at (now known) (now values) Stated.NoResult ⌝ }
     ensures { λ _. ⌜ Stays (now (block .entry)) at (now (known .entry)) (now (values .entry)) (now (known .exit)) (now (values .exit)) ⌝ }
 {
     let r = role(e);
@@ -93,7 +93,7 @@ fn fold_op(
     known: &mut [u8; 256],
     values: &mut [u64; 256],
 ) -> Stated
-    requires { ⌜ Stands (now block) at (getD (now block) at 0) × (e ≡ getD kindTable (getD (now block) at 0) 0) ⌝ }
+    requires { ⌜ Stands rowOf (now block) at (getD (now block) at 0) × (e ≡ getD kindTable (getD (now block) at 0) 0) ⌝ }
     ensures { λ r. ⌜ Folds (now (block .entry)) at (now (known .entry)) (now (values .entry)) (now (known .exit)) (now (values .exit)) r ⌝ }
 {
     let stated = stated_by(e, block, at, known, values);
@@ -120,7 +120,7 @@ fn fold_at(
     folded: &mut [u8],
     consts: &mut [u64],
 )
-    requires { ⌜ Stands (now block) at (getD (now block) at 0) × (i < length (now folded)) × (i < length (now consts)) × (e ≡ getD kindTable (getD (now block) at 0) 0) ⌝ }
+    requires { ⌜ Stands rowOf (now block) at (getD (now block) at 0) × (i < length (now folded)) × (i < length (now consts)) × (e ≡ getD kindTable (getD (now block) at 0) 0) ⌝ }
     ensures { λ _. ⌜ FoldsAt (now (block .entry)) at i (now (known .entry)) (now (values .entry)) (now (known .exit)) (now (values .exit)) (now (folded .entry)) (now (consts .entry)) (now (folded .exit)) (now (consts .exit)) ⌝ }
 {
     let stated = fold_op(e, block, at, known, values);
@@ -142,7 +142,7 @@ pub fn fold(
     folded: &mut [u8],
     consts: &mut [u64],
 )
-    requires { ⌜ OpsHere (now block) (now places) (opsFrom (recordsOf (now block))) ops × (length (now folded) ≡ 256) × (length (now consts) ≡ 256) × (now kinds ≡ kindTable) ⌝ }
+    requires { ⌜ OpsHere (now block) (now places) (opsFrom (recordsOf rowOf (now block))) ops × (length (now folded) ≡ 256) × (length (now consts) ≡ 256) × (now kinds ≡ kindTable) ⌝ }
     ensures { λ _. ⌜ FoldsAll (now (block .entry)) (now (folded .exit)) (now (consts .exit)) ⌝ }
 {
     let mut known = [0u8; 256];

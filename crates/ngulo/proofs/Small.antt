@@ -8,6 +8,7 @@ use lib.Dec.{leb}
 use lib.ListN.{length, length-append}
 use Rattle.theory.specs.Machine.{End, exit, fault, unstated, fell, spent, Result}
 use Rattle.ops.specs.Ops.{kindOf, tcg}
+use Rattle.ops.specs.Kinds.{rowOf, document01}
 use Rattle.ops.proofs.Table.{body-short}
 use Rattle.block.specs.Checks.{asks, opRules, checkOf}
 use Rattle.block.specs.Meaning.{AllMet, EachMeets}
@@ -15,8 +16,8 @@ use Rattle.block.specs.Records.{recordsOf, concat, isDeclaration, declarations,
 use Rattle.block.proofs.Checker.{room3, room9}
 use Rattle.block.proofs.Meaning.{refused-means}
 use Rattle.block.proofs.Parts.{parts}
-use Rattle.runs.specs.Runs.{fits, entry, Ran, ranAs, answerOf, ranOf, opsRun, runOps, runRefused, runChecked, runOf}
-use Rattle.passes.specs.Passes.{passOps, resultOf, passRefused, written, passChecked, passOf}
+use Rattle.runs.specs.Runs.{fits, entry, Ran, ranAs, answerOf, ranOf, opsRun, runOps, runRefused, runChecked, runOf, runBy}
+use Rattle.passes.specs.Passes.{passOps, resultOf, passRefused, written, passChecked, passOf, passBy}
 use Rattle.passes.proofs.Result.{parts-size, kept-parts, result-of}
 use Rattle.ngulo.specs.Numbers.{runNumber, reportOf, RunAnswer}
 use Rattle.block.specs.Rules.{Seen, start, rule3, declared, passed, next}
@@ -27,42 +28,42 @@ use Rattle.runs.specs.declared.Ending.the-variants.{Refused as RunRefused, Exit
 use Rattle.passes.specs.declared.Written.{Written}
 use Rattle.passes.specs.declared.Written.the-variants.{Refused as PassRefused, Length}
 
-next-is : (s : Seen) (r : List ℕ) (b : Bool) → isDeclaration r ≡ b → next s r ≡ cond b (declared s r) (passed s r)
+next-is : (s : Seen) (r : List ℕ) (b : Bool) → isDeclaration r ≡ b → next rowOf s r ≡ cond b (declared s r) (passed rowOf s r)
 unfolding next
-next-is s r b e = ap (λ (t : Bool). cond t (declared s r) (passed s r)) e
+next-is s r b e = ap (λ (t : Bool). cond t (declared s r) (passed rowOf s r)) e
 
-each-short : (rs : List (List ℕ)) (s : Seen) → EachMeets s rs → length (concat rs) ≤ 10 * length rs
+each-short : (rs : List (List ℕ)) (s : Seen) → EachMeets rowOf s rs → length (concat rs) ≤ 10 * length rs
 each-short [] s e = omega arith
 each-short (r ∷ rs) s e =
     let m = e [] r rs refl in
-    omega (arith, length-append r (concat rs), m .met1, body-short (kindOf r), each-short rs (next s r) (λ before q after z. e (r ∷ before) q after (ap (λ (l : List (List ℕ)). r ∷ l) z)))
+    omega (arith, length-append r (concat rs), m .met1, body-short (kindOf r), each-short rs (next rowOf s r) (λ before q after z. e (r ∷ before) q after (ap (λ (l : List (List ℕ)). r ∷ l) z)))
 
-each-few : (rs : List (List ℕ)) (s : Seen) → EachMeets s rs → length (s .classes) ≤ 64 → s .ops ≤ 256 → length rs + length (s .classes) + s .ops ≤ 320
+each-few : (rs : List (List ℕ)) (s : Seen) → EachMeets rowOf s rs → length (s .classes) ≤ 64 → s .ops ≤ 256 → length rs + length (s .classes) + s .ops ≤ 320
 each-few [] s e l n = omega arith
-each-few (r ∷ rs) s e l n = go (isDeclaration r) refl (each-few rs (next s r) (λ before q after z. e (r ∷ before) q after (ap (λ (k : List (List ℕ)). r ∷ k) z)))
+each-few (r ∷ rs) s e l n = go (isDeclaration r) refl (each-few rs (next rowOf s r) (λ before q after z. e (r ∷ before) q after (ap (λ (k : List (List ℕ)). r ∷ k) z)))
   where
-    met : (b : Bool) → isDeclaration r ≡ b → AllMet (cond b (asks 3 (rule3 s r) ∷ []) (opRules s r))
-    met b d = subst (λ (t : Bool). AllMet (cond t (asks 3 (rule3 s r) ∷ []) (opRules s r))) d ((e [] r rs refl) .rules)
+    met : (b : Bool) → isDeclaration r ≡ b → AllMet (cond b (asks 3 (rule3 s r) ∷ []) (opRules rowOf s r))
+    met b d = subst (λ (t : Bool). AllMet (cond t (asks 3 (rule3 s r) ∷ []) (opRules rowOf s r))) d ((e [] r rs refl) .rules)
 
-    go : (b : Bool) → isDeclaration r ≡ b → (length ((next s r) .classes) ≤ 64 → (next s r) .ops ≤ 256 → length rs + length ((next s r) .classes) + (next s r) .ops ≤ 320)
+    go : (b : Bool) → isDeclaration r ≡ b → (length ((next rowOf s r) .classes) ≤ 64 → (next rowOf s r) .ops ≤ 256 → length rs + length ((next rowOf s r) .classes) + (next rowOf s r) .ops ≤ 320)
         → suc (length rs) + length (s .classes) + s .ops ≤ 320
     go true d ih =
         let q = next-is s r true d in
-        let c : length ((next s r) .classes) ≡ length (s .classes) + 1 = ap (λ (t : Seen). length (t .classes)) q ∙ length-append (s .classes) (classOf r ∷ []) in
-        let o : (next s r) .ops ≡ s .ops = ap (λ (t : Seen). t .ops) q in
+        let c : length ((next rowOf s r) .classes) ≡ length (s .classes) + 1 = ap (λ (t : Seen). length (t .classes)) q ∙ length-append (s .classes) (classOf r ∷ []) in
+        let o : (next rowOf s r) .ops ≡ s .ops = ap (λ (t : Seen). t .ops) q in
         let b = room3 s r ((met true d) .0) in
         omega (arith, ih (omega arith) (omega arith))
     go false d ih =
         let q = next-is s r false d in
-        let c : length ((next s r) .classes) ≡ length (s .classes) = ap (λ (t : Seen). length (t .classes)) q in
-        let o : (next s r) .ops ≡ suc (s .ops) = ap (λ (t : Seen). t .ops) q in
+        let c : length ((next rowOf s r) .classes) ≡ length (s .classes) = ap (λ (t : Seen). length (t .classes)) q in
+        let o : (next rowOf s r) .ops ≡ suc (s .ops) = ap (λ (t : Seen). t .ops) q in
         let b = room9 s r ((met false d) .0) in
         omega (arith, ih (omega arith) (omega arith))
 
 -- a refusal stands at a place of at most 3,200
 pub place-small : (block : List ℕ) (number place : ℕ) → checkOf block ≡ Refused number place → place ≤ 3200
 place-small block number place e =
-    let b = (refused-means block number place) .refused-broken e in
+    let b = (refused-means rowOf block number place) .refused-broken e in
     omega (arith, b .place-is, each-short (b .before) start (b .each), each-few (b .before) start (b .each) (omega arith) (omega arith))
 
 -- the numbers of an answer fit
@@ -78,24 +79,24 @@ abbrev pub SmallWritten : Written → Type 0
 SmallWritten (PassRefused number place) = place ≤ 4096
 SmallWritten (Length n) = n ≤ 4096
 
-result-small : (block : List ℕ) → checkOf block ≡ Accepted → length (resultOf block) ≤ 2752
+result-small : (block : List ℕ) → checkOf block ≡ Accepted → length (resultOf document01 block) ≤ 2752
 result-small block h =
     let p = parts block h in
-    let e = result-of block (declarations (recordsOf block)) (opsFrom (recordsOf block)) p in
-    let q = (kept-parts block (declarations (recordsOf block)) (opsFrom (recordsOf block)) p) .1 in
-    omega (arith, ap length e, parts-size _ (declarations (recordsOf block)) (passOps (classesOf (declarations (recordsOf block))) (opsFrom (recordsOf block))) q)
+    let e = result-of block (declarations (recordsOf rowOf block)) (opsFrom (recordsOf rowOf block)) p in
+    let q = (kept-parts block (declarations (recordsOf rowOf block)) (opsFrom (recordsOf rowOf block)) p) .1 in
+    omega (arith, ap length e, parts-size _ (declarations (recordsOf rowOf block)) (passOps document01 (classesOf (declarations (recordsOf rowOf block))) (opsFrom (recordsOf rowOf block))) q)
 
-written-by : (block out : List ℕ) (v : Verdict) → checkOf block ≡ v → SmallWritten ((passChecked (resultOf block) out v) .answer)
+written-by : (block out : List ℕ) (v : Verdict) → checkOf block ≡ v → SmallWritten ((passChecked (resultOf document01 block) out v) .answer)
 unfolding passChecked
 written-by block out (Refused number place) e = omega (arith, place-small block number place e)
-written-by block out Accepted e = go (leb (length (resultOf block)) (length out))
+written-by block out Accepted e = go (leb (length (resultOf document01 block)) (length out))
   where
-    go : (b : Bool) → SmallWritten ((cond b (written (resultOf block) out) (passRefused 12 0 out)) .answer)
+    go : (b : Bool) → SmallWritten ((cond b (written (resultOf document01 block) out) (passRefused 12 0 out)) .answer)
     go true = omega (arith, result-small block e)
     go false = omega arith
 
 pub written-small : (block out : List ℕ) (w : Written) → w ≡ (passOf block out) .answer → SmallWritten w
-unfolding passOf
+unfolding passBy
 written-small block out w e = subst SmallWritten (sym e) (written-by block out (checkOf block) refl)
 
 abbrev pub SmallEnding : Ending → Type 0
@@ -104,27 +105,27 @@ SmallEnding (Exit value count) = Unit {0}
 SmallEnding (Fault store address flags count) = Unit {0}
 SmallEnding (NoResult position count) = Unit {0}
 
-ran-small : (ops : ℕ) (globals : ℕ) (r : Result tcg) → SmallEnding ((ranOf ops globals r) .answer)
+ran-small : (ops : ℕ) (globals : ℕ) (r : Result (tcg document01)) → SmallEnding ((ranOf document01 ops globals r) .answer)
 ran-small ops globals r = go (r .end)
   where
-    go : (e : End ℕ (tcg .Flt)) → SmallEnding (answerOf e (ops - length (r .left)) (r .count))
+    go : (e : End ℕ (tcg document01 .Flt)) → SmallEnding (answerOf e (ops - length (r .left)) (r .count))
     go (exit v) = tt
     go (fault f) = tt
     go unstated = tt
     go fell = tt
     go spent = tt
 
-ending-by : (block globals memory : List ℕ) (v : Verdict) → checkOf block ≡ v → SmallEnding ((runChecked (recordsOf block) globals memory v) .answer)
+ending-by : (block globals memory : List ℕ) (v : Verdict) → checkOf block ≡ v → SmallEnding ((runChecked document01 (recordsOf rowOf block) globals memory v) .answer)
 unfolding runChecked runOps
 ending-by block globals memory (Refused number place) e = omega (arith, place-small block number place e)
-ending-by block globals memory Accepted e = go (fits (declarations (recordsOf block)) globals memory)
+ending-by block globals memory Accepted e = go (fits (declarations (recordsOf rowOf block)) globals memory)
   where
-    go : (b : Bool) → SmallEnding ((cond b (runOps (opsFrom (recordsOf block)) globals memory) (runRefused 11 0 globals memory)) .answer)
-    go true = ran-small (length (opsFrom (recordsOf block))) (length globals) (opsRun (opsFrom (recordsOf block)) (entry globals memory))
+    go : (b : Bool) → SmallEnding ((cond b (runOps document01 (opsFrom (recordsOf rowOf block)) globals memory) (runRefused 11 0 globals memory)) .answer)
+    go true = ran-small (length (opsFrom (recordsOf rowOf block))) (length globals) (opsRun document01 (opsFrom (recordsOf rowOf block)) (entry document01 globals memory))
     go false = omega arith
 
 pub ending-small : (block globals memory : List ℕ) (w : Ending) → w ≡ (runOf block globals memory) .answer → SmallEnding w
-unfolding runOf
+unfolding runBy
 ending-small block globals memory w e = subst SmallEnding (sym e) (ending-by block globals memory (checkOf block) refl)
 
 -- a refusal's place, as the calls answer it

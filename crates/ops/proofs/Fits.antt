@@ -19,7 +19,7 @@ use Rattle.word.proofs.Fits.{divu-fits, remu-fits, shr-fits, rotl-fits, rotr-fi
 use Rattle.word.proofs.Fits.{signed-states, count-states}
 use Rattle.word.proofs.Tests.{cond-told, cond-all}
 use Rattle.ops.specs.Eval.{convertOf, unaryOf, logicOf, divideOf, shiftOf, setcondOf, movcondOf}
-use Rattle.ops.specs.Rows.{bitsOf, roleNo, typesOf, at}
+use Rattle.ops.specs.Rows.{bitsOf, roleNo, typesOf, at, tableOf}
 use Rattle.ops.specs.Kinds.{kindTable, rowOf, between, wideOf, computedOf}
 use Rattle.ops.specs.Ops.{atTypes, foldableRow}
 use Rattle.theory.proofs.Views.{no-some}
@@ -183,7 +183,7 @@ abbrev typed : ℕ → Bool
 typed k = let row = rowOf k in not (foldableRow row) || (eqb (at (row .outs) 0) (outType k) && allAre (inType k) (row .ins))
 
 all-typed : everyFrom typed 0 256 ≡ true
-unfolding rowOf kindTable roleNo typesOf
+unfolding tableOf kindTable roleNo typesOf
 all-typed = refl
 
 -- what a kind that may fold states, of its inputs read at their types, fits its output's

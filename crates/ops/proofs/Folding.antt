@@ -15,35 +15,37 @@ use Rattle.theory.proofs.Sets.{and-l, and-r, clash}
 use Rattle.memory.specs.Bytes.{lowFirst, bytesOf}
 use Rattle.memory.proofs.Numbers.{low-bytes, length-bytes}
 use Rattle.ops.specs.Rows.{Role, unknown, declares, setsLabel, jumpsTo, exits, branches, loads, stores, constant, computing, roleNo, Row, bitsOf, typesOf, bodyOf}
-use Rattle.ops.specs.Rows.{isKnown, isComputing, at, testOk}
-use Rattle.ops.specs.Kinds.{kindTable, rowOf, known, bodyLength, one, computedOf, statesOf}
-use Rattle.ops.specs.Ops.{kindOf, rowAt, bytesAt, outsBy, insBy, restBy, atTypes, evalOf, viewFor, viewOf, tcg, foldableRow, moviKind, moviOf, folding}
+use Rattle.ops.specs.Rows.{isKnown, isComputing, at, testOk, tableOf}
+use Rattle.ops.specs.Kinds.{kindTable, rowOf, one, computedOf, statesOf, document01}
+use Rattle.ops.specs.Rows.{known, bodyLength}
+use Rattle.ops.specs.Ops.{kindOf, rowAt, bytesAt, outsBy, insBy, restBy, atTypes, evalOf, viewFor, viewOf, tcg, foldableRow, folding}
+use Rattle.ops.specs.Kinds.{moviKind, moviOf}
 use Rattle.ops.proofs.Table.{rowWith}
 use Rattle.ops.proofs.Inputs.{no-movi, evaluated}
 use Rattle.ops.proofs.Fits.{folded-fits, out-small}
 
 -- the bytes of a movi, as the check reads them; m is moviOf t d x
 pub record Movi (t d x : ℕ) (m : List ℕ) : Type 0 where
-  pub view : viewOf m ≡ calc (d ∷ []) [] (λ ys. some (x ∷ []))
-  pub is-known : known (kindOf m) ≡ true
-  pub long : length m ≡ suc (bodyLength (kindOf m))
+  pub view : viewOf document01 m ≡ calc (d ∷ []) [] (λ ys. some (x ∷ []))
+  pub is-known : known rowOf (kindOf m) ≡ true
+  pub long : length m ≡ suc (bodyLength rowOf (kindOf m))
   pub kind : kindOf m ≡ moviKind t
-  pub outs : outsBy (rowAt m) m ≡ d ∷ []
-  pub ins : insBy (rowAt m) m ≡ []
-  pub types : (rowAt m) .outs ≡ t ∷ []
-  pub no-inputs : (rowAt m) .ins ≡ []
-  pub rest : testOk ((rowAt m) .test) (restBy (rowAt m) m) ≡ true
+  pub outs : outsBy (rowAt rowOf m) m ≡ d ∷ []
+  pub ins : insBy (rowAt rowOf m) m ≡ []
+  pub types : (rowAt rowOf m) .outs ≡ t ∷ []
+  pub no-inputs : (rowAt rowOf m) .ins ≡ []
+  pub rest : testOk ((rowAt rowOf m) .test) (restBy (rowAt rowOf m) m) ≡ true
 
 abbrev moviRow : ℕ → Row
 moviRow t = rowWith (t ∷ []) [] 8 (cond (eqb t 0) 8 0) constant
 
 movi-row : (t : ℕ) → t < 2 → rowOf (moviKind t) ≡ moviRow t
-unfolding rowOf kindTable roleNo typesOf
+unfolding tableOf kindTable roleNo typesOf
 movi-row zero h = refl
 movi-row (suc zero) h = refl
 movi-row (suc (suc t)) h = absurd (omega arith)
 
-movi-states : (t : ℕ) (bytes vs : List ℕ) → t < 2 → evalOf (moviKind t) bytes vs ≡ some (lowFirst bytes 0 8 ∷ [])
+movi-states : (t : ℕ) (bytes vs : List ℕ) → t < 2 → evalOf document01 (moviKind t) bytes vs ≡ some (lowFirst bytes 0 8 ∷ [])
 unfolding evalOf statesOf
 movi-states zero bytes vs h = refl
 movi-states (suc zero) bytes vs h = refl
@@ -67,7 +69,7 @@ movi-facts t d x small h =
     let e : lowFirst (bytesOf 8 x) 0 8 ≡ x = low-bytes 8 x (within-64 t x small h) in
     record {
       view =
-          ap (λ (y : Row). viewFor (y .role) y (moviOf t d x)) row
+          ap (λ (y : Row). viewFor document01 (y .role) y (moviOf t d x)) row
           ∙ ap (calc (d ∷ []) []) (fun-ext (λ ys. movi-states t (bytesOf 8 x) ys small ∙ ap (λ (n : ℕ). some (n ∷ [])) e));
       is-known = ap (λ (y : Row). isKnown (y .role)) row;
       long = ap (λ (n : ℕ). suc (suc n)) (length-bytes 8 x) ∙ ap (λ (y : Row). suc (bodyOf y)) (sym row);
@@ -100,9 +102,9 @@ computing-role stores h = clash false h refl
 computing-role constant h = clash false h refl
 computing-role computing h = refl
 
-folds-view : (o : List ℕ) → foldableRow (rowAt o) ≡ true → viewOf o ≡ calc (outsBy (rowAt o) o) (insBy (rowAt o) o) (evalOf (kindOf o) (restBy (rowAt o) o))
+folds-view : (o : List ℕ) → foldableRow (rowAt rowOf o) ≡ true → viewOf document01 o ≡ calc (outsBy (rowAt rowOf o) o) (insBy (rowAt rowOf o) o) (evalOf document01 (kindOf o) (restBy (rowAt rowOf o) o))
 unfolding viewOf
-folds-view o h = ap (λ (r : Role). viewFor r (rowAt o) o) (computing-role ((rowAt o) .role) (and-l (isComputing ((rowAt o) .role)) _ h))
+folds-view o h = ap (λ (r : Role). viewFor document01 r (rowAt rowOf o) o) (computing-role ((rowAt rowOf o) .role) (and-l (isComputing ((rowAt rowOf o) .role)) _ h))
 
 -- what an op that may fold states
 pub record States (row : Row) (vs : List ℕ) : Type 0 where
@@ -113,38 +115,38 @@ pub record States (row : Row) (vs : List ℕ) : Type 0 where
   pub one-value : vs ≡ value ∷ []
   pub fits : value < 2 ^ bitsOf type
 
-pub states : (o xs vs : List ℕ) → foldableRow (rowAt o) ≡ true → stated (viewOf o) xs ≡ some vs → States (rowAt o) vs
+pub states : (o xs vs : List ℕ) → foldableRow (rowAt rowOf o) ≡ true → stated (viewOf document01 o) xs ≡ some vs → States (rowAt rowOf o) vs
 states o xs vs t g =
     let k = kindOf o in
-    let bytes = restBy (rowAt o) o in
-    let e : one (computedOf k bytes (atTypes ((rowAt o) .ins) xs)) ≡ some vs = sym (evaluated k t bytes xs) ∙ sym (ap (λ w. stated w xs) (folds-view o t)) ∙ g in
-    go (computedOf k bytes (atTypes ((rowAt o) .ins) xs)) refl e
+    let bytes = restBy (rowAt rowOf o) o in
+    let e : one (computedOf k bytes (atTypes ((rowAt rowOf o) .ins) xs)) ≡ some vs = sym (evaluated k t bytes xs) ∙ sym (ap (λ w. stated w xs) (folds-view o t)) ∙ g in
+    go (computedOf k bytes (atTypes ((rowAt rowOf o) .ins) xs)) refl e
   where
-    go : (y : Option ℕ) → computedOf (kindOf o) (restBy (rowAt o) o) (atTypes ((rowAt o) .ins) xs) ≡ y → one y ≡ some vs → States (rowAt o) vs
+    go : (y : Option ℕ) → computedOf (kindOf o) (restBy (rowAt rowOf o) o) (atTypes ((rowAt rowOf o) .ins) xs) ≡ y → one y ≡ some vs → States (rowAt rowOf o) vs
     go none q e = no-some e
     go (some x) q e =
         record {
-          type = at ((rowAt o) .outs) 0;
+          type = at ((rowAt rowOf o) .outs) 0;
           value = x;
-          one-out = single (rowAt o) t;
+          one-out = single (rowAt rowOf o) t;
           small = out-small (kindOf o) t;
           one-value = cc;
-          fits = folded-fits (kindOf o) t (restBy (rowAt o) o) xs x q;
+          fits = folded-fits (kindOf o) t (restBy (rowAt rowOf o) o) xs x q;
         }
 
 -- what is put in the op's place
-pub movi-for : (o vs : List ℕ) (s : States (rowAt o) vs) → folding .const o (headOr 0 vs) ≡ moviOf (s .type) (at o 1) (s .value)
+pub movi-for : (o vs : List ℕ) (s : States (rowAt rowOf o) vs) → folding document01 .const o (headOr 0 vs) ≡ moviOf (s .type) (at o 1) (s .value)
 movi-for o vs s = rw (s .one-out, s .one-value)
 
-one-out : (o xs vs : List ℕ) → foldableRow (rowAt o) ≡ true → stated (viewOf o) xs ≡ some vs → outputs (viewOf o) ≡ at o 1 ∷ []
-one-out o xs vs t g = ap outputs (folds-view o t) ∙ ap (λ (ts : List ℕ). bytesAt o 1 (length ts)) (single (rowAt o) t)
+one-out : (o xs vs : List ℕ) → foldableRow (rowAt rowOf o) ≡ true → stated (viewOf document01 o) xs ≡ some vs → outputs (viewOf document01 o) ≡ at o 1 ∷ []
+one-out o xs vs t g = ap outputs (folds-view o t) ∙ ap (λ (ts : List ℕ). bytesAt o 1 (length ts)) (single (rowAt rowOf o) t)
 
-pub const-view : (o xs vs : List ℕ) → foldableRow (rowAt o) ≡ true → stated (viewOf o) xs ≡ some vs
-    → viewOf (folding .const o (headOr 0 vs)) ≡ calc (at o 1 ∷ []) [] (λ ys. some (headOr 0 vs ∷ []))
+pub const-view : (o xs vs : List ℕ) → foldableRow (rowAt rowOf o) ≡ true → stated (viewOf document01 o) xs ≡ some vs
+    → viewOf document01 (folding document01 .const o (headOr 0 vs)) ≡ calc (at o 1 ∷ []) [] (λ ys. some (headOr 0 vs ∷ []))
 const-view o xs vs t g =
     let s = states o xs vs t g in
-    ap viewOf (movi-for o vs s) ∙ (movi-facts (s .type) (at o 1) (s .value) (s .small) (s .fits)) .view
+    ap (viewOf document01) (movi-for o vs s) ∙ (movi-facts (s .type) (at o 1) (s .value) (s .small) (s .fits)) .view
     ∙ ap (λ (n : ℕ). calc (at o 1 ∷ []) [] (λ ys. some (n ∷ []))) (sym (ap (headOr 0) (s .one-value)))
 
-pub constants : Constants tcg folding
-constants = record { out = λ o. at o 1; one-out = one-out; const-view = const-view; const-fixed = λ o v t. no-movi (headOr 0 ((rowAt o) .outs)) }
+pub constants : Constants (tcg document01) (folding document01)
+constants = record { out = λ o. at o 1; one-out = one-out; const-view = const-view; const-fixed = λ o v t. no-movi (headOr 0 ((rowAt rowOf o) .outs)) }

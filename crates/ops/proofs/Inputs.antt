@@ -15,10 +15,12 @@ use Rattle.theory.proofs.Sets.{and-l, and-r, tell, clash}
 use Rattle.memory.specs.Bytes.{lowFirst}
 use Rattle.word.proofs.Tests.{cond-all}
 use Rattle.ops.specs.Eval.{unaryOf, logicOf, divideOf, shiftOf, convertOf}
-use Rattle.ops.specs.Rows.{Role, constant, numberOf, roleNo, bitsOf, typesOf, isComputing, at}
+use Rattle.ops.specs.Rows.{Role, constant, numberOf, roleNo, bitsOf, typesOf, isComputing, at, tableOf}
 use Rattle.ops.specs.Evaluate.{foldedOf}
-use Rattle.ops.specs.Kinds.{kindTable, rowOf, roleOf, between, one, wideOf, computedOf, statesOf}
-use Rattle.ops.specs.Ops.{bytesAt, atTypes, evalOf, foldableRow, moviKind}
+use Rattle.ops.specs.Kinds.{kindTable, rowOf, between, one, wideOf, computedOf, statesOf, document01}
+use Rattle.ops.specs.Rows.{roleOf}
+use Rattle.ops.specs.Ops.{bytesAt, atTypes, evalOf, foldableRow}
+use Rattle.ops.specs.Kinds.{moviKind}
 use Rattle.ops.proofs.Ranges.{everyFrom, ranged, agreed}
 use Rattle.ops.proofs.Table.{unknown-beyond}
 
@@ -90,12 +92,12 @@ abbrev counted : ℕ → Bool
 counted k = let row = rowOf k in not (foldableRow row) || (eqb (length (row .ins)) (arityOf k) && eqb (row .rest) (condsOf k))
 
 all-counted : everyFrom counted 0 256 ≡ true
-unfolding rowOf kindTable roleNo typesOf
+unfolding tableOf kindTable roleNo typesOf
 all-counted = refl
 
 -- the kinds that may fold: "kinds 05 to 07 or 11 to 29 (either width)"
 pub foldable-kinds : (k : ℕ) → k < 256 → foldableRow (rowOf k) ≡ (between 0x05 0x07 k || (between 0x11 0x29 k || between 0x91 0xA9 k))
-unfolding rowOf kindTable roleNo typesOf
+unfolding tableOf kindTable roleNo typesOf
 foldable-kinds = agreed (λ k. foldableRow (rowOf k)) (λ k. between 0x05 0x07 k || (between 0x11 0x29 k || between 0x91 0xA9 k)) 256 refl
 
 -- no kind past the table may fold, and no movi
@@ -107,7 +109,7 @@ folds-small k h = go (tell (ltb k 256))
     go (inr t) = clash (foldableRow (rowOf k)) h (ap (λ (r : Role). isComputing r && eqb (length ((rowOf k) .outs)) 1) (unknown-beyond k (ltb-false k 256 t)))
 
 pub no-movi : (t : ℕ) → foldableRow (rowOf (moviKind t)) ≡ false
-unfolding rowOf kindTable roleNo
+unfolding tableOf kindTable roleNo
 no-movi t = go (eqb t 0)
   where
     go : (b : Bool) → foldableRow (rowOf (cond b 0x10 0x90)) ≡ false
@@ -115,7 +117,7 @@ no-movi t = go (eqb t 0)
     go false = refl
 
 -- what a kind that may fold states is one value
-pub evaluated : (k : ℕ) → foldableRow (rowOf k) ≡ true → (bytes vs : List ℕ) → evalOf k bytes vs ≡ one (computedOf k bytes (atTypes ((rowOf k) .ins) vs))
+pub evaluated : (k : ℕ) → foldableRow (rowOf k) ≡ true → (bytes vs : List ℕ) → evalOf document01 k bytes vs ≡ one (computedOf k bytes (atTypes ((rowOf k) .ins) vs))
 unfolding evalOf statesOf
 evaluated k h bytes vs = rw (differ 0x10 (no-movi 0), differ 0x90 (no-movi 1))
   where
@@ -179,7 +181,7 @@ first-byte n (x ∷ bytes) e = rw e
 
 -- what is read of them, and of the bytes after the operands
 pub folded-inputs : (k : ℕ) → foldableRow (rowOf k) ≡ true → (env : ℕ → ℕ) (b bytes : List ℕ) (i : ℕ)
-    → evalOf k (take ((rowOf k) .rest) bytes) (reads env (bytesAt b i (length ((rowOf k) .ins))))
+    → evalOf document01 k (take ((rowOf k) .rest) bytes) (reads env (bytesAt b i (length ((rowOf k) .ins))))
     ≡ one (foldedOf k bytes (env (at b i)) (env (at b (suc i))) (env (at b (suc (suc i)))) (env (at b (suc (suc (suc i))))))
 unfolding foldedOf
 folded-inputs k h env b bytes i =
@@ -193,20 +195,20 @@ folded-inputs k h env b bytes i =
     (folds-alike k h (record { values = λ j l. ap (λ (xs : List ℕ). at xs j) same; byte = first-byte (row .rest) bytes })))
 
 -- a constant states its bytes
-constant-kinds : everyFrom (λ k. not (eqb (numberOf (roleOf k)) 8) || (eqb k 0x10 || eqb k 0x90)) 0 256 ≡ true
-unfolding rowOf kindTable roleNo
+constant-kinds : everyFrom (λ k. not (eqb (numberOf (roleOf rowOf k)) 8) || (eqb k 0x10 || eqb k 0x90)) 0 256 ≡ true
+unfolding tableOf kindTable roleNo
 constant-kinds = refl
 
-pub constant-states : (k : ℕ) → roleOf k ≡ constant → (bytes vs : List ℕ) → evalOf k bytes vs ≡ some (lowFirst bytes 0 8 ∷ [])
+pub constant-states : (k : ℕ) → roleOf rowOf k ≡ constant → (bytes vs : List ℕ) → evalOf document01 k bytes vs ≡ some (lowFirst bytes 0 8 ∷ [])
 unfolding evalOf statesOf
 constant-states k e bytes vs = ap (λ (b : Bool). one (cond b (some (lowFirst bytes 0 8)) (computedOf k bytes (atTypes ((rowOf k) .ins) vs)))) (go (tell (ltb k 256)))
   where
-    number : numberOf (roleOf k) ≡ 8
+    number : numberOf (roleOf rowOf k) ≡ 8
     number = ap numberOf e
 
     go : (ltb k 256 ≡ true) ⊎ (ltb k 256 ≡ false) → (eqb k 0x10 || eqb k 0x90) ≡ true
     go (inl t) =
-        let q : (not (eqb (numberOf (roleOf k)) 8) || (eqb k 0x10 || eqb k 0x90)) ≡ true =
-        ranged (λ j. not (eqb (numberOf (roleOf j)) 8) || (eqb j 0x10 || eqb j 0x90)) 256 0 constant-kinds k (omega arith) (omega (arith, ltb-true k 256 t)) in
+        let q : (not (eqb (numberOf (roleOf rowOf k)) 8) || (eqb k 0x10 || eqb k 0x90)) ≡ true =
+        ranged (λ j. not (eqb (numberOf (roleOf rowOf j)) 8) || (eqb j 0x10 || eqb j 0x90)) 256 0 constant-kinds k (omega arith) (omega (arith, ltb-true k 256 t)) in
         rw number at q
     go (inr t) = let z : _≡_ {A = ℕ} 0 8 = sym (ap numberOf (unknown-beyond k (ltb-false k 256 t))) ∙ number in absurd (omega arith)

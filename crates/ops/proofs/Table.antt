@@ -11,8 +11,9 @@ use borrow.Author.Tests.{eqb-true, eqb-false, ltb-true, ltb-false, leb-true}
 use Rattle.word.proofs.Tests.{cond-all}
 use Rattle.theory.proofs.Sets.{and-l, and-r, tell, clash}
 use Rattle.ops.specs.Rows.{Role, unknown, declares, setsLabel, jumpsTo, exits, branches, loads, stores, constant, computing, roleNo, Row, entry}
-use Rattle.ops.specs.Rows.{outsIn, insIn, restIn, testIn, roleIn, typesIn, typesOf, rowIn, bodyOf, numberOf, asksFor}
-use Rattle.ops.specs.Kinds.{movi, brcond, load, store, kindTable, rowOf, roleOf, bodyLength}
+use Rattle.ops.specs.Rows.{outsIn, insIn, restIn, testIn, roleIn, typesIn, typesOf, rowIn, bodyOf, numberOf, asksFor, tableOf}
+use Rattle.ops.specs.Kinds.{movi, brcond, load, store, kindTable, rowOf}
+use Rattle.ops.specs.Rows.{roleOf, bodyLength}
 use Rattle.ops.proofs.Ranges.{everyFrom, ranged, every, listed, agreed}
 
 -- the type of the op's width: 0, or 1 for the kinds from 80 on
@@ -79,8 +80,8 @@ past (x ∷ xs) (suc k) h = past xs k (omega arith)
 pub beyond : (k : ℕ) → 256 ≤ k → getD kindTable k 0 ≡ 0
 beyond k h = past kindTable k (rw table-long h)
 
-pub unknown-beyond : (k : ℕ) → 256 ≤ k → roleOf k ≡ unknown
-unfolding rowOf roleNo
+pub unknown-beyond : (k : ℕ) → 256 ≤ k → roleOf rowOf k ≡ unknown
+unfolding tableOf roleNo
 unknown-beyond k h = ap (λ (e : ℕ). roleNo (roleIn e)) (beyond k h)
 
 -- from the test of an entry to its row
@@ -123,8 +124,8 @@ by-role (suc (suc (suc (suc (suc (suc (suc (suc zero)))))))) (suc (suc t)) e h q
 by-role (suc (suc (suc (suc (suc (suc (suc (suc (suc zero))))))))) t e h q c = computing-row e c
 by-role (suc (suc (suc (suc (suc (suc (suc (suc (suc (suc n)))))))))) t e h q c = absurd (omega arith)
 
-row-for : (k : ℕ) → RowFor (roleOf k) (typeAt k) (rowOf k)
-unfolding rowOf roleNo typesOf
+row-for : (k : ℕ) → RowFor (roleOf rowOf k) (typeAt k) (rowOf k)
+unfolding tableOf roleNo typesOf
 row-for k = go (tell (ltb k 256))
   where
     go : (ltb k 256 ≡ true) ⊎ (ltb k 256 ≡ false) → RowFor (roleNo (roleIn (getD kindTable k 0))) (typeAt k) (rowIn (getD kindTable k 0))
@@ -137,7 +138,7 @@ row-for k = go (tell (ltb k 256))
     go (inr h) = rw (beyond k (ltb-false k 256 h))
 
 -- a kind of this role has this row
-pub row-of : (r : Role) (k : ℕ) → roleOf k ≡ r → RowFor r (typeAt k) (rowOf k)
+pub row-of : (r : Role) (k : ℕ) → roleOf rowOf k ≡ r → RowFor r (typeAt k) (rowOf k)
 row-of r k e = subst (λ (x : Role). RowFor x (typeAt k) (rowOf k)) e (row-for k)
 
 pub types-length : (n x : ℕ) → length (typesOf n x) ≡ n
@@ -161,8 +162,8 @@ asks-few {e} k q = subst (λ (x : ℕ). asksFor (testIn x) ≤ restIn x) (sym q)
     go (inr h) = rw (beyond k (ltb-false k 256 h)) (omega arith)
 
 -- no body is longer than nine bytes
-pub body-short : (k : ℕ) → bodyLength k ≤ 9
-unfolding rowOf
+pub body-short : (k : ℕ) → bodyLength rowOf k ≤ 9
+unfolding tableOf
 body-short k = rw (body-in (getD kindTable k 0)) (go (tell (ltb k 256)))
   where
     go : (ltb k 256 ≡ true) ⊎ (ltb k 256 ≡ false) → (let e = getD kindTable k 0 in outsIn e + insIn e + restIn e ≤ 9)
@@ -175,22 +176,22 @@ body-short k = rw (body-in (getD kindTable k 0)) (go (tell (ltb k 256)))
 abbrev isDeclaring : Role → Bool
 isDeclaring r = eqb (numberOf r) 1
 
-one-declares : everyFrom (λ k. Bool·beq (isDeclaring (roleOf k)) (eqb k 1)) 0 256 ≡ true
-unfolding rowOf kindTable roleNo
+one-declares : everyFrom (λ k. Bool·beq (isDeclaring (roleOf rowOf k)) (eqb k 1)) 0 256 ≡ true
+unfolding tableOf kindTable roleNo
 one-declares = refl
 
-pub declares-one : (k : ℕ) → roleOf k ≡ declares → k ≡ 1
+pub declares-one : (k : ℕ) → roleOf rowOf k ≡ declares → k ≡ 1
 declares-one k q = go (tell (ltb k 256))
   where
     go : (ltb k 256 ≡ true) ⊎ (ltb k 256 ≡ false) → k ≡ 1
-    go (inl h) = eqb-true k 1 (sym (agreed (λ j. isDeclaring (roleOf j)) (λ j. eqb j 1) 256 one-declares k (ltb-true k 256 h)) ∙ ap isDeclaring q)
-    go (inr h) = clash (isDeclaring (roleOf k)) (ap isDeclaring q) (ap isDeclaring (unknown-beyond k (ltb-false k 256 h)))
+    go (inl h) = eqb-true k 1 (sym (agreed (λ j. isDeclaring (roleOf rowOf j)) (λ j. eqb j 1) 256 one-declares k (ltb-true k 256 h)) ∙ ap isDeclaring q)
+    go (inr h) = clash (isDeclaring (roleOf rowOf k)) (ap isDeclaring q) (ap isDeclaring (unknown-beyond k (ltb-false k 256 h)))
 
 -- the number of a role, as the code reads it
 pub role-read : (n : ℕ) → n < 16 → cond (ltb n 10) n 0 ≡ numberOf (roleNo n)
 unfolding roleNo
 role-read n h = eqb-true (cond (ltb n 10) n 0) (numberOf (roleNo n)) (ranged (λ m. eqb (cond (ltb m 10) m 0) (numberOf (roleNo m))) 16 0 refl n (omega arith) (omega arith))
 
-pub exit-role : roleOf 0x04 ≡ exits
-unfolding rowOf kindTable roleNo
+pub exit-role : roleOf rowOf 0x04 ≡ exits
+unfolding tableOf kindTable roleNo
 exit-role = refl

@@ -10,17 +10,18 @@ use Rattle.theory.proofs.Scoped.{wrote}
 use Rattle.theory.proofs.Sets.{clash}
 use Rattle.ops.specs.Rows.{Role, unknown, declares, setsLabel, jumpsTo, exits, branches, loads, stores, constant, computing, Row, isPure, isClosing, isSetting, isJumping}
 use Rattle.ops.specs.Ops.{kindOf, rowAt, outsBy, insBy, labelBy, viewFor, viewOf}
+use Rattle.ops.specs.Kinds.{rowOf, document01}
 use Rattle.ops.proofs.Table.{row-of}
 
 module _ (row : Row) (r : List ℕ) where
   -- what the theory sees of an op, by the columns of its role
   abbrev Columns : Role → Type 0
   Columns x =
-      (closes (viewFor x row r) ≡ isClosing x)
-      × (pure (viewFor x row r) ≡ isPure x)
-      × (labelOf (viewFor x row r) ≡ cond (isSetting x) (some (labelBy row r)) none)
-      × (target (viewFor x row r) ≡ cond (isJumping x) (some (labelBy row r)) none)
-      × (outputs (viewFor x row r) ≡ cond (isClosing x) [] (outsBy row r))
+      (closes (viewFor document01 x row r) ≡ isClosing x)
+      × (pure (viewFor document01 x row r) ≡ isPure x)
+      × (labelOf (viewFor document01 x row r) ≡ cond (isSetting x) (some (labelBy row r)) none)
+      × (target (viewFor document01 x row r) ≡ cond (isJumping x) (some (labelBy row r)) none)
+      × (outputs (viewFor document01 x row r) ≡ cond (isClosing x) [] (outsBy row r))
 
   columns : (x : Role) → Columns x
   columns unknown = (refl, refl, refl, refl, refl)
@@ -34,7 +35,7 @@ module _ (row : Row) (r : List ℕ) where
   columns constant = (refl, refl, refl, refl, refl)
   columns computing = (refl, refl, refl, refl, refl)
 
-  inputs-by : (x : Role) → (x ≡ setsLabel → insBy row r ≡ []) → inputs (viewFor x row r) ≡ insBy row r
+  inputs-by : (x : Role) → (x ≡ setsLabel → insBy row r ≡ []) → inputs (viewFor document01 x row r) ≡ insBy row r
   inputs-by unknown h = refl
   inputs-by declares h = refl
   inputs-by setsLabel h = sym (h refl)
@@ -47,36 +48,36 @@ module _ (row : Row) (r : List ℕ) where
   inputs-by computing h = refl
 
 module _ (r : List ℕ) where
-  pub closes-at : closes (viewOf r) ≡ isClosing ((rowAt r) .role)
+  pub closes-at : closes (viewOf document01 r) ≡ isClosing ((rowAt rowOf r) .role)
   unfolding viewOf
-  closes-at = (columns (rowAt r) r ((rowAt r) .role)) .0
+  closes-at = (columns (rowAt rowOf r) r ((rowAt rowOf r) .role)) .0
 
-  pub pure-at : pure (viewOf r) ≡ isPure ((rowAt r) .role)
+  pub pure-at : pure (viewOf document01 r) ≡ isPure ((rowAt rowOf r) .role)
   unfolding viewOf
-  pure-at = (columns (rowAt r) r ((rowAt r) .role)) .1
+  pure-at = (columns (rowAt rowOf r) r ((rowAt rowOf r) .role)) .1
 
-  pub label-at : labelOf (viewOf r) ≡ cond (isSetting ((rowAt r) .role)) (some (labelBy (rowAt r) r)) none
+  pub label-at : labelOf (viewOf document01 r) ≡ cond (isSetting ((rowAt rowOf r) .role)) (some (labelBy (rowAt rowOf r) r)) none
   unfolding viewOf
-  label-at = (columns (rowAt r) r ((rowAt r) .role)) .2
+  label-at = (columns (rowAt rowOf r) r ((rowAt rowOf r) .role)) .2
 
-  pub target-at : target (viewOf r) ≡ cond (isJumping ((rowAt r) .role)) (some (labelBy (rowAt r) r)) none
+  pub target-at : target (viewOf document01 r) ≡ cond (isJumping ((rowAt rowOf r) .role)) (some (labelBy (rowAt rowOf r) r)) none
   unfolding viewOf
-  target-at = (columns (rowAt r) r ((rowAt r) .role)) .3
+  target-at = (columns (rowAt rowOf r) r ((rowAt rowOf r) .role)) .3
 
-  pub outputs-at : outputs (viewOf r) ≡ cond (isClosing ((rowAt r) .role)) [] (outsBy (rowAt r) r)
+  pub outputs-at : outputs (viewOf document01 r) ≡ cond (isClosing ((rowAt rowOf r) .role)) [] (outsBy (rowAt rowOf r) r)
   unfolding viewOf
-  outputs-at = (columns (rowAt r) r ((rowAt r) .role)) .4
+  outputs-at = (columns (rowAt rowOf r) r ((rowAt rowOf r) .role)) .4
 
-  pub wrote-at : (w : Vars) → wrote w (viewOf r) ≡ cond (isClosing ((rowAt r) .role)) empty (plus w (outsBy (rowAt r) r))
-  wrote-at w = rw (closes-at, outputs-at) (go (isClosing ((rowAt r) .role)))
+  pub wrote-at : (w : Vars) → wrote w (viewOf document01 r) ≡ cond (isClosing ((rowAt rowOf r) .role)) empty (plus w (outsBy (rowAt rowOf r) r))
+  wrote-at w = rw (closes-at, outputs-at) (go (isClosing ((rowAt rowOf r) .role)))
     where
-      go : (b : Bool) → cond b empty (plus w (cond b [] (outsBy (rowAt r) r))) ≡ cond b empty (plus w (outsBy (rowAt r) r))
+      go : (b : Bool) → cond b empty (plus w (cond b [] (outsBy (rowAt rowOf r) r))) ≡ cond b empty (plus w (outsBy (rowAt rowOf r) r))
       go true = refl
       go false = refl
 
-  pub inputs-at : inputs (viewOf r) ≡ insBy (rowAt r) r
+  pub inputs-at : inputs (viewOf document01 r) ≡ insBy (rowAt rowOf r) r
   unfolding viewOf
-  inputs-at = inputs-by (rowAt r) r ((rowAt r) .role) (λ e. ap (λ (row : Row). insBy row r) (row-of setsLabel (kindOf r) e))
+  inputs-at = inputs-by (rowAt rowOf r) r ((rowAt rowOf r) .role) (λ e. ap (λ (row : Row). insBy row r) (row-of setsLabel (kindOf r) e))
 
 -- a pure op sets no label and jumps to none
 pub pure-quiet : (x : Role) → isPure x ≡ true → (isSetting x ≡ false) × (isJumping x ≡ false)

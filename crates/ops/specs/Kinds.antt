@@ -1,13 +1,18 @@
--- The table of kinds, and what the kinds of pure ops state. Assumes nothing.
+-- Document 01's dialect: its table of kinds, and what the ops of a kind do. Assumes nothing.
 use Prim.Native.Nat.{ℕ, zero, suc, _+_, _*_, _-_}
-use mathlib.Core.Bool.{Bool, cond, _&&_, _||_}
+use mathlib.Core.Bool.{Bool, true, false, cond, _&&_, _||_}
 use mathlib.Core.Option.{Option, none, some}
 use mathlib.Core.List.{List, [], _∷_, _++_}
 use lib.Dec.{eqb, leb}
-use lib.ListN.{length, replicate}
-use Rattle.memory.specs.Bytes.{lowFirst}
+use lib.ListN.{replicate}
+use Rattle.theory.specs.Machine.{Touch, faults, gives}
+use Rattle.word.specs.Condition.{condW}
+use Rattle.memory.specs.Bytes.{lowFirst, bytesOf}
+use Rattle.memory.specs.Access.{loadAt, storeAt}
+use Rattle.memory.specs.Answer.{accessWidth}
 use Rattle.ops.specs.Eval.{convertOf, unaryOf, logicOf, divideOf, shiftOf, setcondOf, movcondOf}
-use Rattle.ops.specs.Rows.{Role, Table, entry, tableOf, bodyOf, isKnown, isPure, at}
+use Rattle.ops.specs.Rows.{Table, entry, tableOf, at}
+use Rattle.ops.specs.Ops.{Fault, faultOf, Dialect}
 
 -- n operands of one type
 abbrev pub alike : ℕ → ℕ → ℕ
@@ -54,29 +59,8 @@ kindTable =
     ∷ convert 1 0 ∷ convert 1 0 ∷ convert 0 1 ∷ replicate 8 0)
     ++ (wideKinds 0 ++ (replicate 99 0 ++ (wideKinds 1 ++ replicate 83 0)))
 
-unfoldable pub rowOf : Table
-rowOf k = tableOf kindTable k
-
-abbrev pub roleOf : ℕ → Role
-roleOf k = (rowOf k) .role
-
-abbrev pub known : ℕ → Bool
-known k = isKnown (roleOf k)
-
-abbrev pub bodyLength : ℕ → ℕ
-bodyLength k = bodyOf (rowOf k)
-
-abbrev pub outputCount : ℕ → ℕ
-outputCount k = length ((rowOf k) .outs)
-
-abbrev pub operandTypes : ℕ → List ℕ
-operandTypes k = (rowOf k) .outs ++ (rowOf k) .ins
-
-abbrev pub operandCount : ℕ → ℕ
-operandCount k = length (operandTypes k)
-
-abbrev pub pureKind : ℕ → Bool
-pureKind k = isPure (roleOf k)
+abbrev pub rowOf : Table
+rowOf = tableOf kindTable
 
 abbrev pub between : ℕ → ℕ → ℕ → Bool
 between lo hi k = leb lo k && leb k hi
@@ -108,3 +92,38 @@ computedOf k bytes vs =
 -- what a pure op of kind k states; none for every other kind
 unfoldable pub statesOf : ℕ → List ℕ → List ℕ → Option (List ℕ)
 statesOf k bytes vs = one (cond (eqb k 0x10 || eqb k 0x90) (some (lowFirst bytes 0 8)) (computedOf k bytes vs))
+
+-- the op's width
+abbrev pub opWidth : ℕ → ℕ
+opWidth k = accessWidth (leb 0x80 k)
+
+-- "qemu_ld: d, address, flags"
+abbrev pub afterLoad : List ℕ → ℕ → ℕ → Option ℕ → Touch ℕ (List ℕ) Fault
+afterLoad m address flags none = faults (faultOf false address flags)
+afterLoad m address flags (some x) = gives (x ∷ []) m
+
+unfoldable pub loadOf : ℕ → List ℕ → List ℕ → List ℕ → Touch ℕ (List ℕ) Fault
+loadOf k bytes m vs = let p = at vs 0 in let f = at bytes 0 in afterLoad m p f (loadAt (opWidth k) f m p)
+
+-- "qemu_st: value, address, flags"
+abbrev pub afterStore : ℕ → ℕ → Option (List ℕ) → Touch ℕ (List ℕ) Fault
+afterStore address flags none = faults (faultOf true address flags)
+afterStore address flags (some m) = gives [] m
+
+unfoldable pub storeOf : ℕ → List ℕ → List ℕ → List ℕ → Touch ℕ (List ℕ) Fault
+storeOf k bytes m vs = let p = at vs 1 in let f = at bytes 0 in afterStore p f (storeAt f m p (at vs 0))
+
+-- "brcond: a, b, cond, label"
+unfoldable pub holdsOf : ℕ → List ℕ → List ℕ → Bool
+holdsOf k bytes vs = condW (opWidth k) (at bytes 0) (at vs 0) (at vs 1)
+
+-- "a movi of the output's width"
+abbrev pub moviKind : ℕ → ℕ
+moviKind type = cond (eqb type 0) 0x10 0x90
+
+abbrev pub moviOf : ℕ → ℕ → ℕ → List ℕ
+moviOf type d x = moviKind type ∷ d ∷ bytesOf 8 x
+
+-- document 01's ops
+abbrev pub document01 : Dialect
+document01 = record { rows = rowOf; states = statesOf; loadOf = loadOf; storeOf = storeOf; holdsOf = holdsOf; constant = moviOf }

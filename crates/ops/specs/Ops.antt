@@ -1,24 +1,19 @@
--- A record is the list of its bytes, the kind first; what it does, and the language of ops. Assumes nothing.
+-- A record is the list of its bytes, the kind first; what it does in a dialect, and the language of ops. Assumes nothing.
 use Prim.Native.Nat.{ℕ, zero, suc, _+_, _%_, _^_}
-use mathlib.Core.Bool.{Bool, true, false, cond, _&&_}
-use mathlib.Core.Option.{Option, none, some}
+use mathlib.Core.Bool.{Bool, _&&_}
+use mathlib.Core.Option.{Option}
 use mathlib.Core.List.{List, [], _∷_}
-use lib.Dec.{eqb, leb}
+use lib.Dec.{eqb}
 use lib.ListN.{length, drop}
-use Rattle.theory.specs.Machine.{always, when, to, out, View, calc, access, label, flow, Touch, faults, gives, Lang, headOr}
+use Rattle.theory.specs.Machine.{always, when, to, out, View, calc, access, label, flow, Touch, Lang, headOr}
 use Rattle.theory.specs.Fold.{Folding}
-use Rattle.word.specs.Condition.{condW}
-use Rattle.memory.specs.Bytes.{bytesOf}
-use Rattle.memory.specs.Access.{loadAt, storeAt}
-use Rattle.memory.specs.Answer.{accessWidth}
-use Rattle.ops.specs.Rows.{Role, unknown, declares, setsLabel, jumpsTo, exits, branches, loads, stores, constant, computing, Row, bitsOf, bodyOf, isComputing, at}
-use Rattle.ops.specs.Kinds.{rowOf, statesOf}
+use Rattle.ops.specs.Rows.{Role, unknown, declares, setsLabel, jumpsTo, exits, branches, loads, stores, constant, computing, Row, Table, bitsOf, bodyOf, isComputing, at}
 
 abbrev pub kindOf : List ℕ → ℕ
 kindOf r = at r 0
 
-abbrev pub rowAt : List ℕ → Row
-rowAt r = rowOf (kindOf r)
+abbrev pub rowAt : Table → List ℕ → Row
+rowAt T r = T (kindOf r)
 
 -- n bytes of a record from i on
 abbrev pub bytesAt : List ℕ → ℕ → ℕ → List ℕ
@@ -44,14 +39,6 @@ atTypes [] vs = []
 atTypes (t ∷ ts) [] = 0 ∷ atTypes ts []
 atTypes (t ∷ ts) (v ∷ vs) = v % 2 ^ bitsOf t ∷ atTypes ts vs
 
--- what a pure op of kind k states, from the bytes after its operands and its inputs' values
-unfoldable pub evalOf : ℕ → List ℕ → List ℕ → Option (List ℕ)
-evalOf k bytes vs = statesOf k bytes (atTypes ((rowOf k) .ins) vs)
-
--- the op's width
-abbrev pub opWidth : ℕ → ℕ
-opWidth k = accessWidth (leb 0x80 k)
-
 -- "fault with load or store, address and flags"
 pub record Fault : Type 0 where
   pub store : Bool
@@ -61,60 +48,48 @@ pub record Fault : Type 0 where
 abbrev pub faultOf : Bool → ℕ → ℕ → Fault
 faultOf store address flags = record { store = store; address = address; flags = flags }
 
--- "qemu_ld: d, address, flags"
-abbrev pub afterLoad : List ℕ → ℕ → ℕ → Option ℕ → Touch ℕ (List ℕ) Fault
-afterLoad m address flags none = faults (faultOf false address flags)
-afterLoad m address flags (some x) = gives (x ∷ []) m
+-- a dialect: its rows; what a pure op of a kind states, from the bytes after its operands and its inputs' values; what its loads and stores
+-- do to the memory; when a condition holds; and the constant of a type, with its output and its value
+pub record Dialect : Type 0 where
+  pub rows : Table
+  pub states : ℕ → List ℕ → List ℕ → Option (List ℕ)
+  pub loadOf : ℕ → List ℕ → List ℕ → List ℕ → Touch ℕ (List ℕ) Fault
+  pub storeOf : ℕ → List ℕ → List ℕ → List ℕ → Touch ℕ (List ℕ) Fault
+  pub holdsOf : ℕ → List ℕ → List ℕ → Bool
+  pub constant : ℕ → ℕ → ℕ → List ℕ
 
-unfoldable pub loadOf : ℕ → List ℕ → List ℕ → List ℕ → Touch ℕ (List ℕ) Fault
-loadOf k bytes m vs = let p = at vs 0 in let f = at bytes 0 in afterLoad m p f (loadAt (opWidth k) f m p)
-
--- "qemu_st: value, address, flags"
-abbrev pub afterStore : ℕ → ℕ → Option (List ℕ) → Touch ℕ (List ℕ) Fault
-afterStore address flags none = faults (faultOf true address flags)
-afterStore address flags (some m) = gives [] m
-
-unfoldable pub storeOf : ℕ → List ℕ → List ℕ → List ℕ → Touch ℕ (List ℕ) Fault
-storeOf k bytes m vs = let p = at vs 1 in let f = at bytes 0 in afterStore p f (storeAt f m p (at vs 0))
-
--- "brcond: a, b, cond, label"
-unfoldable pub holdsOf : ℕ → List ℕ → List ℕ → Bool
-holdsOf k bytes vs = condW (opWidth k) (at bytes 0) (at vs 0) (at vs 1)
+unfoldable pub evalOf : Dialect → ℕ → List ℕ → List ℕ → Option (List ℕ)
+evalOf D k bytes vs = D .states k bytes (atTypes ((D .rows k) .ins) vs)
 
 -- exit_tb
 abbrev pub leave : List ℕ → View ℕ (List ℕ) ℕ Fault
 leave ins = flow ins always (out (λ vs. headOr 0 vs))
 
 -- what an op does. A record that is no op has no view of its own; an accepted block runs none
-abbrev pub viewFor : Role → Row → List ℕ → View ℕ (List ℕ) ℕ Fault
-viewFor unknown row r = leave (insBy row r)
-viewFor declares row r = leave (insBy row r)
-viewFor setsLabel row r = label (labelBy row r)
-viewFor jumpsTo row r = flow (insBy row r) always (to (labelBy row r))
-viewFor exits row r = leave (insBy row r)
-viewFor branches row r = flow (insBy row r) (when (λ m vs. holdsOf (kindOf r) (restBy row r) (atTypes (row .ins) vs))) (to (labelBy row r))
-viewFor loads row r = access (outsBy row r) (insBy row r) (loadOf (kindOf r) (restBy row r))
-viewFor stores row r = access (outsBy row r) (insBy row r) (storeOf (kindOf r) (restBy row r))
-viewFor constant row r = calc (outsBy row r) (insBy row r) (evalOf (kindOf r) (restBy row r))
-viewFor computing row r = calc (outsBy row r) (insBy row r) (evalOf (kindOf r) (restBy row r))
+abbrev pub viewFor : Dialect → Role → Row → List ℕ → View ℕ (List ℕ) ℕ Fault
+viewFor D unknown row r = leave (insBy row r)
+viewFor D declares row r = leave (insBy row r)
+viewFor D setsLabel row r = label (labelBy row r)
+viewFor D jumpsTo row r = flow (insBy row r) always (to (labelBy row r))
+viewFor D exits row r = leave (insBy row r)
+viewFor D branches row r = flow (insBy row r) (when (λ m vs. D .holdsOf (kindOf r) (restBy row r) (atTypes (row .ins) vs))) (to (labelBy row r))
+viewFor D loads row r = access (outsBy row r) (insBy row r) (D .loadOf (kindOf r) (restBy row r))
+viewFor D stores row r = access (outsBy row r) (insBy row r) (D .storeOf (kindOf r) (restBy row r))
+viewFor D constant row r = calc (outsBy row r) (insBy row r) (evalOf D (kindOf r) (restBy row r))
+viewFor D computing row r = calc (outsBy row r) (insBy row r) (evalOf D (kindOf r) (restBy row r))
 
-unfoldable pub viewOf : List ℕ → View ℕ (List ℕ) ℕ Fault
-viewOf r = viewFor ((rowAt r) .role) (rowAt r) r
+unfoldable pub viewOf : Dialect → List ℕ → View ℕ (List ℕ) ℕ Fault
+viewOf D r = let row = rowAt (D .rows) r in viewFor D (row .role) row r
 
 -- the language of ops: an op is its record, values are numbers, the memory a list of bytes
-abbrev pub tcg : Lang
-tcg = record { Op = List ℕ; Val = ℕ; Mem = List ℕ; Out = ℕ; Flt = Fault; zeroV = 0; view = viewOf }
+abbrev pub tcg : Dialect → Lang
+tcg D = record { Op = List ℕ; Val = ℕ; Mem = List ℕ; Out = ℕ; Flt = Fault; zeroV = 0; view = viewOf D }
 
 -- an op that may fold: a pure op that reads something; one output
 abbrev pub foldableRow : Row → Bool
 foldableRow row = isComputing (row .role) && eqb (length (row .outs)) 1
 
 -- "a movi of the output's width"
-abbrev pub moviKind : ℕ → ℕ
-moviKind type = cond (eqb type 0) 0x10 0x90
-
-abbrev pub moviOf : ℕ → ℕ → ℕ → List ℕ
-moviOf type d x = moviKind type ∷ d ∷ bytesOf 8 x
-
-abbrev pub folding : Folding tcg
-folding = record { foldable = λ r. foldableRow (rowAt r); const = λ r x. moviOf (headOr 0 ((rowAt r) .outs)) (at r 1) x }
+abbrev pub folding : (D : Dialect) → Folding (tcg D)
+folding D =
+    record { foldable = λ r. foldableRow (rowAt (D .rows) r); const = λ r x. D .constant (headOr 0 ((rowAt (D .rows) r) .outs)) (at r 1) x }

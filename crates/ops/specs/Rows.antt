@@ -1,7 +1,7 @@
 -- Rows of a table of kinds, as data. Assumes nothing.
 use Prim.Native.Nat.{ℕ, zero, suc, _+_, _*_, _/_, _%_, _^_}
 use mathlib.Core.Bool.{Bool, true, false, cond, not, _&&_, _||_}
-use mathlib.Core.List.{List, [], _∷_}
+use mathlib.Core.List.{List, [], _∷_, _++_}
 use lib.Dec.{eqb, leb, ltb}
 use lib.ListN.{length, getD}
 use Rattle.memory.specs.Bytes.{lowFirst}
@@ -71,7 +71,7 @@ rowIn e =
       role = roleNo (roleIn e);
     }
 
-abbrev pub tableOf : List ℕ → Table
+unfoldable pub tableOf : List ℕ → Table
 tableOf kinds k = rowIn (getD kinds k 0)
 
 -- "a body whose length the kind fixes"
@@ -109,6 +109,28 @@ isSetting r = eqb (numberOf r) 2
 
 abbrev pub isJumping : Role → Bool
 isJumping r = eqb (numberOf r) 3 || eqb (numberOf r) 5
+
+-- what a table says of a kind
+abbrev pub roleOf : Table → ℕ → Role
+roleOf T k = (T k) .role
+
+abbrev pub known : Table → ℕ → Bool
+known T k = isKnown (roleOf T k)
+
+abbrev pub bodyLength : Table → ℕ → ℕ
+bodyLength T k = bodyOf (T k)
+
+abbrev pub outputCount : Table → ℕ → ℕ
+outputCount T k = length ((T k) .outs)
+
+abbrev pub operandTypes : Table → ℕ → List ℕ
+operandTypes T k = (T k) .outs ++ (T k) .ins
+
+abbrev pub operandCount : Table → ℕ → ℕ
+operandCount T k = length (operandTypes T k)
+
+abbrev pub pureKind : Table → ℕ → Bool
+pureKind T k = isPure (roleOf T k)
 
 abbrev pub at : List ℕ → ℕ → ℕ
 at xs i = getD xs i 0

@@ -14,7 +14,7 @@ use Rattle.theory.specs.Sets.{Vars, without, plus, both, noneIn}
 use Rattle.theory.proofs.Sets.{tell}
 use Rattle.ops.specs.Rows.{Role, unknown, declares, setsLabel, jumpsTo, exits, branches, loads, stores, constant, computing, roleNo, Row, outsIn, insIn, roleIn}
 use Rattle.ops.specs.Rows.{numberOf, isPure, isClosing, isSetting, isJumping}
-use Rattle.ops.specs.Kinds.{kindTable}
+use Rattle.ops.specs.Kinds.{kindTable, rowOf, document01}
 use Rattle.ops.specs.Ops.{kindOf, rowAt, bytesAt, outsBy, insBy, viewFor, viewOf}
 use Rattle.ops.proofs.Entry.{Digits, digits}
 use Rattle.ops.proofs.Table.{row-of}
@@ -28,7 +28,7 @@ use Rattle.passes.proofs.Liveness.{below-one}
 
 module _ (classes : List ℕ) (l : Vars) (row : Row) (r : List ℕ) where
   before-by : (x : Role) → (x ≡ setsLabel → insBy row r ≡ [])
-      → before (globalsIn classes) (keptIn classes) (viewFor x row r) l ≡ plus (beforeBy x classes (outsBy row r) l) (insBy row r)
+      → before (globalsIn classes) (keptIn classes) (viewFor document01 x row r) l ≡ plus (beforeBy x classes (outsBy row r) l) (insBy row r)
   before-by unknown h = refl
   before-by declares h = refl
   before-by setsLabel h = ap (plus (keptIn classes)) (sym (h refl))
@@ -73,18 +73,18 @@ module _ (x : Role) (classes outs : List ℕ) (l : Vars) {m : Vars} {n : ℕ} (q
 pub limit-small : (t : Bool) {limit : ℕ} → limit ≡ cond t 2 1 → limit ≤ 2
 limit-small t e = rw e (cond-all (λ (n : ℕ). n ≤ 2) t (omega arith) (omega arith))
 
--- the op that stands at a place, by the digits of its kind's entry
-module _ {b : List ℕ} {p k e : ℕ} (s : Stands b p k) (q : e ≡ getD kindTable k 0) where
-  abbrev d : Digits e k
-  d = digits q
+-- the op that stands at a place, by the (digits kindTable) of its kind's entry
+module _ {b : List ℕ} {p k e : ℕ} (s : Stands rowOf b p k) (q : e ≡ getD kindTable k 0) where
+  abbrev d : Digits rowOf e k
+  d = digits kindTable q
 
-  pub its-role : (rowAt (recordAt b p)) .role ≡ roleNo (roleIn e)
+  pub its-role : (rowAt rowOf (recordAt rowOf b p)) .role ≡ roleNo (roleIn e)
   its-role = ap (λ (row : Row). row .role) (row-at s ∙ d .row)
 
-  pub its-outputs : outsBy (rowAt (recordAt b p)) (recordAt b p) ≡ bytesAt b (p + 1) (outsIn e)
+  pub its-outputs : outsBy (rowAt rowOf (recordAt rowOf b p)) (recordAt rowOf b p) ≡ bytesAt b (p + 1) (outsIn e)
   its-outputs = output-bytes s ∙ ap (bytesAt b (p + 1)) (d .outs)
 
-  its-inputs : insBy (rowAt (recordAt b p)) (recordAt b p) ≡ bytesAt b (p + 1 + outsIn e) (insIn e)
+  its-inputs : insBy (rowAt rowOf (recordAt rowOf b p)) (recordAt rowOf b p) ≡ bytesAt b (p + 1 + outsIn e) (insIn e)
   its-inputs =
       input-bytes s ∙ ap₂ (λ (n m : ℕ). bytesAt b (p + (1 + n)) m) (d .outs) (d .ins) ∙ ap (λ (n : ℕ). bytesAt b n (insIn e)) (sym (add-assoc p 1 (outsIn e)))
 
@@ -92,28 +92,28 @@ module _ {b : List ℕ} {p k e : ℕ} (s : Stands b p k) (q : e ≡ getD kindTab
   operands-inside = omega (arith, d .body, s .whole)
 
   module _ (classes : List ℕ) (l : Vars) where
-    live-is : liveBefore classes (recordAt b p) l
+    live-is : liveBefore classes (recordAt rowOf b p) l
         ≡ plus (beforeBy (roleNo (roleIn e)) classes (bytesAt b (p + 1) (outsIn e)) l) (bytesAt b (p + 1 + outsIn e) (insIn e))
     unfolding viewOf
     live-is =
-        let r = recordAt b p in
-        before-by classes l (rowAt r) r ((rowAt r) .role) (λ z. ap (λ (row : Row). insBy row r) (row-of setsLabel (kindOf r) z))
+        let r = recordAt rowOf b p in
+        before-by classes l (rowAt rowOf r) r ((rowAt rowOf r) .role) (λ z. ap (λ (row : Row). insBy row r) (row-of setsLabel (kindOf r) z))
         ∙ rw (its-role, its-outputs, its-inputs)
 
     -- then the inputs
     pub live-before-is : {m m′ : Vars} → m ≡ beforeBy (roleNo (roleIn e)) classes (bytesAt b (p + 1) (outsIn e)) l → m′ ≡ plus m (bytesAt b (p + 1 + outsIn e) (insIn e))
-        → m′ ≡ liveBefore classes (recordAt b p) l
+        → m′ ≡ liveBefore classes (recordAt rowOf b p) l
     live-before-is w w′ = w′ ∙ ap (λ (m : Vars). plus m (bytesAt b (p + 1 + outsIn e) (insIn e))) w ∙ sym live-is
 
-  dead-is : (l : Vars) → dead (viewOf (recordAt b p)) l ≡ (isPure (roleNo (roleIn e)) && noneIn (bytesAt b (p + 1) (outsIn e)) l)
-  dead-is l = rw (pure-at (recordAt b p), outputs-at (recordAt b p), its-role, its-outputs) (dead-by (roleNo (roleIn e)) (bytesAt b (p + 1) (outsIn e)) l)
+  dead-is : (l : Vars) → dead (viewOf document01 (recordAt rowOf b p)) l ≡ (isPure (roleNo (roleIn e)) && noneIn (bytesAt b (p + 1) (outsIn e)) l)
+  dead-is l = rw (pure-at (recordAt rowOf b p), outputs-at (recordAt rowOf b p), its-role, its-outputs) (dead-by (roleNo (roleIn e)) (bytesAt b (p + 1) (outsIn e)) l)
 
   module _ (l : Vars) {n : ℕ} (m : n ≡ numberOf (roleNo (roleIn e))) where
-    pub never-dead : n < 8 → false ≡ dead (viewOf (recordAt b p)) l
+    pub never-dead : n < 8 → false ≡ dead (viewOf document01 (recordAt rowOf b p)) l
     never-dead h =
         sym (dead-is l ∙ ap (λ (t : Bool). t && noneIn (bytesAt b (p + 1) (outsIn e)) l) (le-ltb 7 (numberOf (roleNo (roleIn e))) (omega arith)))
 
-    pub dead-if : {t : Bool} → 8 ≤ n → t ≡ noneIn (bytesAt b (p + 1) (outsIn e)) l → t ≡ dead (viewOf (recordAt b p)) l
+    pub dead-if : {t : Bool} → 8 ≤ n → t ≡ noneIn (bytesAt b (p + 1) (outsIn e)) l → t ≡ dead (viewOf document01 (recordAt rowOf b p)) l
     dead-if h q =
         q ∙ sym (dead-is l ∙ ap (λ (t : Bool). t && noneIn (bytesAt b (p + 1) (outsIn e)) l) (lt-ltb 7 (numberOf (roleNo (roleIn e))) (omega arith)))
 

@@ -9,6 +9,7 @@ use Rattle.theory.specs.Prune.{AllUsed, liveAll}
 use Rattle.memory.proofs.Digits.{room}
 use Rattle.memory.proofs.Faults.{sized}
 use Rattle.ops.specs.Ops.{tcg}
+use Rattle.ops.specs.Kinds.{rowOf, document01}
 use Rattle.block.specs.Checks.{checkOf}
 use Rattle.block.specs.Records.{recordsOf, concat, declarations, opsFrom, classesOf}
 use Rattle.block.proofs.Parts.{Parts, parts}
@@ -22,12 +23,12 @@ use Rattle.block.specs.declared.Verdict.the-variants.{Accepted}
 -- the pass of a block from its parts: folded, used, and again
 module _ (block : List ℕ) (ds os : List (List ℕ)) (h : checkOf block ≡ Accepted) (p : Parts block ds os) where
   kept : List (List ℕ)
-  kept = passOps (classesOf ds) os
+  kept = passOps document01 (classesOf ds) os
 
   bytes : List ℕ
   bytes = concat (ds ++ kept)
 
-  same : resultOf block ≡ bytes
+  same : resultOf document01 block ≡ bytes
   unfolding bytes kept
   same = result-of block ds os p
 
@@ -35,21 +36,21 @@ module _ (block : List ℕ) (ds os : List (List ℕ)) (h : checkOf block ≡ Acc
   unfolding bytes kept
   q = kept-parts block ds os p
 
-  folded : Still tcg rule (opsFrom (recordsOf bytes)) nothing
+  folded : Still (tcg document01) rule (opsFrom (recordsOf rowOf bytes)) nothing
   unfolding bytes kept passOps
-  folded = subst (λ (t : Prog tcg). Still tcg rule t nothing) (sym (q .1 .ops)) ((ops-preserved (classesOf ds) os (p .in-scope)) .folded)
+  folded = subst (λ (t : Prog (tcg document01)). Still (tcg document01) rule t nothing) (sym (q .1 .ops)) ((ops-preserved (classesOf ds) os (p .in-scope)) .folded)
 
-  used : AllUsed tcg (liveAll tcg (globalsIn (classesOf (declarations (recordsOf bytes)))) (keptIn (classesOf (declarations (recordsOf bytes))))) (opsFrom (recordsOf bytes))
+  used : AllUsed (tcg document01) (liveAll (tcg document01) (globalsIn (classesOf (declarations (recordsOf rowOf bytes)))) (keptIn (classesOf (declarations (recordsOf rowOf bytes))))) (opsFrom (recordsOf rowOf bytes))
   unfolding bytes kept passOps
   used =
-      subst₂ (λ (t : List (List ℕ)) (u : Prog tcg). AllUsed tcg (liveAll tcg (globalsIn (classesOf t)) (keptIn (classesOf t))) u) (sym (q .1 .declared)) (sym (q .1 .ops))
+      subst₂ (λ (t : List (List ℕ)) (u : Prog (tcg document01)). AllUsed (tcg document01) (liveAll (tcg document01) (globalsIn (classesOf t)) (keptIn (classesOf t))) u) (sym (q .1 .declared)) (sym (q .1 .ops))
       ((ops-preserved (classesOf ds) os (p .in-scope)) .used)
 
-  settled : resultOf bytes ≡ bytes
+  settled : resultOf document01 bytes ≡ bytes
   unfolding bytes kept passOps
-  settled = result-of bytes ds kept (q .1) ∙ ap (λ (t : Prog tcg). concat (ds ++ t)) ((ops-preserved (classesOf ds) os (p .in-scope)) .again)
+  settled = result-of bytes ds kept (q .1) ∙ ap (λ (t : Prog (tcg document01)). concat (ds ++ t)) ((ops-preserved (classesOf ds) os (p .in-scope)) .again)
 
-  demand3 : (out : List ℕ) → Room (resultOf block) out → Demand3 block out
+  demand3 : (out : List ℕ) → Room (resultOf document01 block) out → Demand3 document01 block out
   unfolding bytes kept
   demand3 out room =
       record {
@@ -67,4 +68,4 @@ module _ (block : List ℕ) (ds os : List (List ℕ)) (h : checkOf block ≡ Acc
 
 -- every accepted block, every buffer with room
 pub demand-3 : Demand
-demand-3 block out h room = demand3 block (declarations (recordsOf block)) (opsFrom (recordsOf block)) h (parts block h) out room
+demand-3 block out h room = demand3 block (declarations (recordsOf rowOf block)) (opsFrom (recordsOf rowOf block)) h (parts block h) out room

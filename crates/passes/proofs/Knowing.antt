@@ -17,7 +17,8 @@ use Rattle.theory.proofs.Sets.{and-l, and-r, tell, clash}
 use Rattle.theory.proofs.Views.{no-some}
 use Rattle.memory.specs.Bytes.{lowFirst}
 use Rattle.ops.specs.Rows.{constant, computing, roleNo, Row, outsIn, insIn, roleIn, numberOf, isPure, isComputing, isClosing, at}
-use Rattle.ops.specs.Kinds.{kindTable, roleOf}
+use Rattle.ops.specs.Kinds.{kindTable, rowOf, document01}
+use Rattle.ops.specs.Rows.{roleOf}
 use Rattle.ops.specs.Ops.{rowAt, bytesAt, Fault, viewOf, tcg, foldableRow, folding}
 use Rattle.ops.proofs.Entry.{digits}
 use Rattle.ops.proofs.Folding.{const-view, computing-role}
@@ -87,8 +88,8 @@ inputs-unknown known values (x ∷ xs) h = go (marked known x) h (inputs-unknown
     go false e ih = refl
 
 -- an op is a pure one that reads something, by its kind's entry
-pub computed-at : {b : List ℕ} {p k e : ℕ} → Stands b p k → e ≡ getD kindTable k 0 → isComputing (roleNo (roleIn e)) ≡ true → Computed b p k
-computed-at {e = e} s q h = record { stands = s; role-is = ap (λ (row : Row). row .role) ((digits q) .row) ∙ computing-role (roleNo (roleIn e)) h }
+pub computed-at : {b : List ℕ} {p k e : ℕ} → Stands rowOf b p k → e ≡ getD kindTable k 0 → isComputing (roleNo (roleIn e)) ≡ true → Computed b p k
+computed-at {e = e} s q h = record { stands = s; role-is = ap (λ (row : Row). row .role) ((digits kindTable q) .row) ∙ computing-role (roleNo (roleIn e)) h }
 
 -- what it is known to state
 module _ {b : List ℕ} {p k : ℕ} (c : Computed b p k) {e : ℕ} (q : e ≡ getD kindTable k 0) (known values : List ℕ) {n m : ℕ} {t : Bool}
@@ -96,9 +97,9 @@ module _ {b : List ℕ} {p k : ℕ} (c : Computed b p k) {e : ℕ} (q : e ≡ ge
   these : t ≡ allMarked (marked known) (inputsAt b p k)
   these =
       let z : p + 1 + n ≡ p + 2 = omega (arith, one-output k q (c .role-is)) in
-      w ∙ ap₂ (λ (i j : ℕ). allMarked (marked known) (bytesAt b i j)) z (em ∙ sym ((digits q) .ins))
+      w ∙ ap₂ (λ (i j : ℕ). allMarked (marked known) (bytesAt b i j)) z (em ∙ sym ((digits kindTable q) .ins))
 
-  stated-is : statedBy (knownOf known values) (recordAt b p) ≡ bindO (statesAt b p k) (allKnown (reads (knownOf known values) (inputsAt b p k)))
+  stated-is : statedBy (knownOf known values) (recordAt rowOf b p) ≡ bindO (statesAt b p k) (allKnown (reads (knownOf known values) (inputsAt b p k)))
   stated-is = rw (ap foldableRow (row-at (c .stands)) ∙ computing-folds k (c .role-is), pure-view (c .stands) (c .role-is))
 
   pub states-known : {r : Stated} → t ≡ true → statesAt b p k (reads (envOf values) (inputsAt b p k)) ≡ valuesOf r → StatesKnown b p known values r
@@ -108,46 +109,46 @@ module _ {b : List ℕ} {p k : ℕ} (c : Computed b p k) {e : ℕ} (q : e ≡ ge
   unknown-states h = record { states-so = stated-is ∙ ap (bindO (statesAt b p k)) (inputs-unknown known values (inputsAt b p k) (sym these ∙ h)) }
 
 -- no other op is known to state anything
-pub others-state : {b : List ℕ} {p k e : ℕ} → Stands b p k → e ≡ getD kindTable k 0 → (known values : List ℕ) → isComputing (roleNo (roleIn e)) ≡ false
+pub others-state : {b : List ℕ} {p k e : ℕ} → Stands rowOf b p k → e ≡ getD kindTable k 0 → (known values : List ℕ) → isComputing (roleNo (roleIn e)) ≡ false
     → StatesKnown b p known values NoResult
 others-state {b} {p} s q known values h = record { states-so = rw (its-role s q, h) }
 
 -- fold's rule, by what is known to be stated
-rule-is : (k : Known ℕ) (o : List ℕ) → baseRule tcg folding k o ≡ tried tcg folding o (statedBy k o)
-rule-is k o = go (foldableRow (rowAt o)) (bindO (stated (viewOf o)) (allKnown (reads k (inputs (viewOf o)))))
+rule-is : (k : Known ℕ) (o : List ℕ) → baseRule (tcg document01) (folding document01) k o ≡ tried (tcg document01) (folding document01) o (statedBy k o)
+rule-is k o = go (foldableRow (rowAt rowOf o)) (bindO (stated (viewOf document01 o)) (allKnown (reads k (inputs (viewOf document01 o)))))
   where
-    go : (t : Bool) (x : Option (List ℕ)) → cond t (tried tcg folding o x) (put o) ≡ tried tcg folding o (cond t x none)
+    go : (t : Bool) (x : Option (List ℕ)) → cond t (tried (tcg document01) (folding document01) o x) (put o) ≡ tried (tcg document01) (folding document01) o (cond t x none)
     go true x = refl
     go false x = refl
 
 -- an op that is known to state a value
-module _ {b : List ℕ} {p : ℕ} (s : Stands b p (getD b p 0)) {known values : List ℕ} {r : Stated} {x : ℕ} (w : StatesKnown b p known values r) (e : r ≡ Value x) where
-  value-so : statedBy (knownOf known values) (recordAt b p) ≡ some (x ∷ [])
+module _ {b : List ℕ} {p : ℕ} (s : Stands rowOf b p (getD b p 0)) {known values : List ℕ} {r : Stated} {x : ℕ} (w : StatesKnown b p known values r) (e : r ≡ Value x) where
+  value-so : statedBy (knownOf known values) (recordAt rowOf b p) ≡ some (x ∷ [])
   value-so = w .states-so ∙ ap valuesOf e
 
-  may-fold : foldableRow (rowAt (recordAt b p)) ≡ true
-  may-fold = go (foldableRow (rowAt (recordAt b p))) (bindO (stated (viewOf (recordAt b p))) (allKnown (reads (knownOf known values) (inputs (viewOf (recordAt b p)))))) value-so
+  may-fold : foldableRow (rowAt rowOf (recordAt rowOf b p)) ≡ true
+  may-fold = go (foldableRow (rowAt rowOf (recordAt rowOf b p))) (bindO (stated (viewOf document01 (recordAt rowOf b p))) (allKnown (reads (knownOf known values) (inputs (viewOf document01 (recordAt rowOf b p)))))) value-so
     where
       go : (t : Bool) (y : Option (List ℕ)) → cond t y none ≡ some (x ∷ []) → t ≡ true
       go true y h = refl
       go false y h = no-some h
 
-  pub computes-so : roleOf (getD b p 0) ≡ computing
+  pub computes-so : roleOf rowOf (getD b p 0) ≡ computing
   computes-so =
-      sym (ap (λ (row : Row). row .role) (row-at s)) ∙ computing-role ((rowAt (recordAt b p)) .role) (and-l (isComputing ((rowAt (recordAt b p)) .role)) _ may-fold)
+      sym (ap (λ (row : Row). row .role) (row-at s)) ∙ computing-role ((rowAt rowOf (recordAt rowOf b p)) .role) (and-l (isComputing ((rowAt rowOf (recordAt rowOf b p)) .role)) _ may-fold)
 
-  const-shape : viewOf (folding .const (recordAt b p) x) ≡ calc (at b (p + 1) ∷ []) [] (λ ys. some (x ∷ []))
-  const-shape = go (allKnown (reads (knownOf known values) (inputs (viewOf (recordAt b p))))) (rw may-fold at value-so)
+  const-shape : viewOf document01 (folding document01 .const (recordAt rowOf b p) x) ≡ calc (at b (p + 1) ∷ []) [] (λ ys. some (x ∷ []))
+  const-shape = go (allKnown (reads (knownOf known values) (inputs (viewOf document01 (recordAt rowOf b p))))) (rw may-fold at value-so)
     where
-      go : (ks : Option (List ℕ)) → bindO (stated (viewOf (recordAt b p))) ks ≡ some (x ∷ []) → viewOf (folding .const (recordAt b p) x) ≡ calc (at b (p + 1) ∷ []) [] (λ ys. some (x ∷ []))
+      go : (ks : Option (List ℕ)) → bindO (stated (viewOf document01 (recordAt rowOf b p))) ks ≡ some (x ∷ []) → viewOf document01 (folding document01 .const (recordAt rowOf b p) x) ≡ calc (at b (p + 1) ∷ []) [] (λ ys. some (x ∷ []))
       go none h = no-some h
       go (some xs) h =
-          const-view (recordAt b p) xs (x ∷ []) may-fold h ∙ ap (λ (n : ℕ). calc (n ∷ []) [] (λ ys. some (x ∷ []))) (byte s 1 (body-from computing (getD b p 0) computes-so))
+          const-view (recordAt rowOf b p) xs (x ∷ []) may-fold h ∙ ap (λ (n : ℕ). calc (n ∷ []) [] (λ ys. some (x ∷ []))) (byte s 1 (body-from computing (getD b p 0) computes-so))
 
   pub folds-value : {known′ values′ : List ℕ} → knownOf known′ values′ ≡ upd (knownOf known values) (at b (p + 1)) (some x) → Folds b p known values known′ values′ (Value x)
   folds-value u =
       record {
-        rule-so = rule-is (knownOf known values) (recordAt b p) ∙ ap (tried tcg folding (recordAt b p)) value-so;
+        rule-so = rule-is (knownOf known values) (recordAt rowOf b p) ∙ ap (tried (tcg document01) (folding document01) (recordAt rowOf b p)) value-so;
         known-so = u ∙ sym (ap (learned (knownOf known values)) const-shape);
         only-so = λ y z. computes-so;
       }
@@ -160,7 +161,7 @@ pub folds-none : {b : List ℕ} {p : ℕ} {known values known′ values′ : Lis
     → Stays b p known values known′ values′ → Folds b p known values known′ values′ NoResult
 folds-none {b} {p} {known} {values} w u =
     record {
-      rule-so = rule-is (knownOf known values) (recordAt b p) ∙ ap (tried tcg folding (recordAt b p)) (w .states-so);
+      rule-so = rule-is (knownOf known values) (recordAt rowOf b p) ∙ ap (tried (tcg document01) (folding document01) (recordAt rowOf b p)) (w .states-so);
       known-so = u .known-after;
       only-so = λ x z. absurd (no-value x z);
     }
@@ -181,8 +182,8 @@ impure (flow ins c y) h none = refl
 impure (flow ins c y) h (some xs) = refl
 
 -- what is known after an op that stays, by the number of its role
-module _ {b : List ℕ} {p k : ℕ} (s : Stands b p k) {e n : ℕ} (q : e ≡ getD kindTable k 0) (m : n ≡ numberOf (roleNo (roleIn e))) (known values : List ℕ) where
-  pub is-constant : n ≡ 8 → roleOf k ≡ constant
+module _ {b : List ℕ} {p k : ℕ} (s : Stands rowOf b p k) {e n : ℕ} (q : e ≡ getD kindTable k 0) (m : n ≡ numberOf (roleNo (roleIn e))) (known values : List ℕ) where
+  pub is-constant : n ≡ 8 → roleOf rowOf k ≡ constant
   is-constant h = role-by constant k q m h
 
   pub over-constant : {known′ values′ : List ℕ} {x : ℕ} → n ≡ 8 → x ≡ lowFirst b (p + 2) 8 → knownOf known′ values′ ≡ upd (knownOf known values) (at b (p + 1)) (some x)
@@ -190,33 +191,33 @@ module _ {b : List ℕ} {p k : ℕ} (s : Stands b p k) {e n : ℕ} (q : e ≡ ge
   over-constant h y u =
       record { known-after = u ∙ ap (λ (z : ℕ). upd (knownOf known values) (at b (p + 1)) (some z)) y ∙ sym (ap (learned (knownOf known values)) (constant-view s (is-constant h))) }
 
-  closing : closes (viewOf (recordAt b p)) ≡ isClosing (roleNo (roleIn e))
-  closing = closes-at (recordAt b p) ∙ ap isClosing (its-role s q)
+  closing : closes (viewOf document01 (recordAt rowOf b p)) ≡ isClosing (roleNo (roleIn e))
+  closing = closes-at (recordAt rowOf b p) ∙ ap isClosing (its-role s q)
 
   pub over-end : {known′ : List ℕ} → n < 6 → known′ ≡ replicate 256 0 → Stays b p known values known′ values
   over-end h z = record { known-after = none-known values z ∙ rw (closing ∙ lt-ltb (numberOf (roleNo (roleIn e))) 6 (omega arith)) }
 
   module _ (h : 6 ≤ n) (i : n ≡ 8 → ⊥) (w : StatesKnown b p known values NoResult) where
     abbrev o : List ℕ
-    o = recordAt b p
+    o = recordAt rowOf b p
 
-    nothing-stated : bindO (stated (viewOf o)) (allKnown (reads (knownOf known values) (inputs (viewOf o)))) ≡ none
+    nothing-stated : bindO (stated (viewOf document01 o)) (allKnown (reads (knownOf known values) (inputs (viewOf document01 o)))) ≡ none
     nothing-stated = go (tell (ltb 7 (numberOf (roleNo (roleIn e)))))
       where
-        go : (isPure (roleNo (roleIn e)) ≡ true) ⊎ (isPure (roleNo (roleIn e)) ≡ false) → bindO (stated (viewOf o)) (allKnown (reads (knownOf known values) (inputs (viewOf o)))) ≡ none
+        go : (isPure (roleNo (roleIn e)) ≡ true) ⊎ (isPure (roleNo (roleIn e)) ≡ false) → bindO (stated (viewOf document01 o)) (allKnown (reads (knownOf known values) (inputs (viewOf document01 o)))) ≡ none
         go (inl t) =
             let j : 7 < n = omega (arith, ltb-true 7 (numberOf (roleNo (roleIn e))) t) in
             let nine : n ≡ 9 = omega (arith, number-of (roleNo (roleIn e)) .1, lt-of-le-ne {i = 8} {k = n} (omega arith) (λ z. i (sym z))) in
             rw (ap foldableRow (row-at s) ∙ computing-folds k (role-by computing k q m nine)) at (w .states-so)
-        go (inr t) = impure (viewOf o) (pure-at o ∙ ap isPure (its-role s q) ∙ t) (allKnown (reads (knownOf known values) (inputs (viewOf o))))
+        go (inr t) = impure (viewOf document01 o) (pure-at o ∙ ap isPure (its-role s q) ∙ t) (allKnown (reads (knownOf known values) (inputs (viewOf document01 o))))
 
     pub over-others : {known′ : List ℕ} → marked known′ ≡ without (marked known) (bytesAt b (p + 1) (outsIn e)) → Stays b p known values known′ values
     over-others {known′} u =
         let stays : isClosing (roleNo (roleIn e)) ≡ false = le-ltb (numberOf (roleNo (roleIn e))) 6 (omega arith) in
-        let outs : outputs (viewOf o) ≡ bytesAt b (p + 1) (outsIn e) =
+        let outs : outputs (viewOf document01 o) ≡ bytesAt b (p + 1) (outsIn e) =
         outputs-at o ∙ ap₂ (λ (t : Bool) (xs : List ℕ). cond t [] xs) (ap isClosing (its-role s q) ∙ stays) (its-outputs s q) in
         record {
           known-after =
               forgets known known′ values (bytesAt b (p + 1) (outsIn e)) u
-              ∙ sym (rw (closing ∙ stays) (ap₂ (λ (xs : List ℕ) (ys : List (Option ℕ)). writes none (knownOf known values) xs ys) outs (no-gain (knownOf known values) (inputs (viewOf o)) (stated (viewOf o)) nothing-stated)));
+              ∙ sym (rw (closing ∙ stays) (ap₂ (λ (xs : List ℕ) (ys : List (Option ℕ)). writes none (knownOf known values) xs ys) outs (no-gain (knownOf known values) (inputs (viewOf document01 o)) (stated (viewOf document01 o)) nothing-stated)));
         }

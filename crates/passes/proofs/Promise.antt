@@ -11,6 +11,7 @@ use Rattle.passes.specs.Promise.{Optimised, Wrote, Promised}
 use Rattle.passes.proofs.Demand.{demand-3}
 use Rattle.passes.specs.declared.Written.{Written}
 use Rattle.passes.specs.declared.Written.the-variants.{Length}
+use Rattle.ops.specs.Kinds.{document01}
 
 -- a pass that answered, where the definition gives a length and that many bytes
 wrote : (block out : List ℕ) (answer : Written) (out′ : List ℕ) (size : ℕ) (result : List ℕ) → length result ≡ size
@@ -26,7 +27,7 @@ wrote block out answer out′ size result l e o =
 
 pub promise : Promised
 promise block out answer out′ c room o =
-    let d : Demand3 block out = demand-3 block out (sym (c .answered)) room in
+    let d : Demand3 document01 block out = demand-3 block out (sym (c .answered)) room in
     record {
       size = d .size;
       result = d .result;

@@ -14,9 +14,10 @@ use Rattle.theory.specs.Machine.{View, calc, headOr}
 use Rattle.theory.specs.Sets.{Vars, without, both}
 use Rattle.theory.proofs.Sets.{tell}
 use Rattle.memory.specs.Bytes.{bytesOf}
-use Rattle.ops.specs.Rows.{computing, roleNo, Row, outsIn, typesOf, at}
-use Rattle.ops.specs.Kinds.{kindTable, rowOf}
-use Rattle.ops.specs.Ops.{bytesAt, evalOf, Fault, viewOf, tcg, moviKind, moviOf, folding}
+use Rattle.ops.specs.Rows.{computing, roleNo, Row, outsIn, typesOf, at, tableOf}
+use Rattle.ops.specs.Kinds.{kindTable, rowOf, document01}
+use Rattle.ops.specs.Ops.{bytesAt, evalOf, Fault, viewOf, tcg, folding}
+use Rattle.ops.specs.Kinds.{moviKind, moviOf}
 use Rattle.ops.proofs.Fits.{out-small}
 use Rattle.ops.proofs.Table.{Computing, row-of}
 use Rattle.block.specs.Records.{recordsOf, opsFrom}
@@ -31,8 +32,8 @@ use Rattle.passes.proofs.Liveness.{below-one, ends-set}
 use Rattle.theory.specs.Prune.{dead, before, live as liveOps, prune}
 
 -- the view of the constant in an op's place: its output, and no input
-constant-shape : (t d x : ℕ) → t < 2 → viewOf (moviOf t d x) ≡ calc (d ∷ []) [] (evalOf (moviKind t) (bytesOf 8 x))
-unfolding viewOf rowOf kindTable roleNo typesOf
+constant-shape : (t d x : ℕ) → t < 2 → viewOf document01 (moviOf t d x) ≡ calc (d ∷ []) [] (evalOf document01 (moviKind t) (bytesOf 8 x))
+unfolding viewOf tableOf kindTable roleNo typesOf
 constant-shape zero d x h = refl
 constant-shape (suc zero) d x h = refl
 constant-shape (suc (suc t)) d x h = absurd (omega arith)
@@ -43,38 +44,38 @@ module _ {b : List ℕ} {p folded : ℕ} (f : Foldable b p folded) (e : folded �
 
   pub record Shape (value : ℕ) : Type 0 where
     pub states : List ℕ → Option (List ℕ)
-    pub shape-is : viewOf (pickOp folded value (recordAt b p)) ≡ calc (at b (p + 1) ∷ []) [] states
+    pub shape-is : viewOf document01 (pickOp folded value (recordAt rowOf b p)) ≡ calc (at b (p + 1) ∷ []) [] states
 
   constant-here : (value : ℕ) → Shape value
   constant-here value =
       record {
-        states = evalOf (moviKind (c .type)) (bytesOf 8 value);
+        states = evalOf document01 (moviKind (c .type)) (bytesOf 8 value);
         shape-is =
-            ap (λ (t : Bool). viewOf (cond t (folding .const (recordAt b p) value) (recordAt b p))) (eq-eqb folded 1 e)
-            ∙ ap₂ (λ (t d : ℕ). viewOf (moviOf t d value)) (ap (λ (row : Row). headOr 0 (row .outs)) (row-at (f .stands)) ∙ ap (headOr 0) (c .one-out)) (byte (f .stands) 1 (body-from computing (getD b p 0) (f .folds-only e)))
+            ap (λ (t : Bool). viewOf document01 (cond t (folding document01 .const (recordAt rowOf b p) value) (recordAt rowOf b p))) (eq-eqb folded 1 e)
+            ∙ ap₂ (λ (t d : ℕ). viewOf document01 (moviOf t d value)) (ap (λ (row : Row). headOr 0 (row .outs)) (row-at (f .stands)) ∙ ap (headOr 0) (c .one-out)) (byte (f .stands) 1 (body-from computing (getD b p 0) (f .folds-only e)))
             ∙ constant-shape (c .type) (at b (p + 1)) value (subst (λ (ts : List ℕ). at ts 0 < 2) (c .one-out) (out-small (getD b p 0) (computing-folds (getD b p 0) (f .folds-only e))));
       }
 
-  dead-same : (value : ℕ) (l : Vars) → dead (viewOf (recordAt b p)) l ≡ dead (viewOf (pickOp folded value (recordAt b p))) l
+  dead-same : (value : ℕ) (l : Vars) → dead (viewOf document01 (recordAt rowOf b p)) l ≡ dead (viewOf document01 (pickOp folded value (recordAt rowOf b p))) l
   dead-same value l =
       ap (λ (w : View ℕ (List ℕ) ℕ Fault). dead w l) (pure-view (f .stands) (f .folds-only e)) ∙ sym (ap (λ (w : View ℕ (List ℕ) ℕ Fault). dead w l) ((constant-here value) .shape-is))
 
-plain-op : (b : List ℕ) (p : ℕ) {folded : ℕ} → (folded ≡ 1 → ⊥) → (value : ℕ) → recordAt b p ≡ pickOp folded value (recordAt b p)
-plain-op b p {folded} n value = sym (ap (λ (t : Bool). cond t (folding .const (recordAt b p) value) (recordAt b p)) (ne-eqb folded 1 n))
+plain-op : (b : List ℕ) (p : ℕ) {folded : ℕ} → (folded ≡ 1 → ⊥) → (value : ℕ) → recordAt rowOf b p ≡ pickOp folded value (recordAt rowOf b p)
+plain-op b p {folded} n value = sym (ap (λ (t : Bool). cond t (folding document01 .const (recordAt rowOf b p) value) (recordAt rowOf b p)) (ne-eqb folded 1 n))
 
-module _ {b : List ℕ} {p folded : ℕ} (f : Foldable b p folded) (live : List ℕ) {t : Bool} (d : t ≡ dead (viewOf (recordAt b p)) (marked live)) where
-  dead-is : (value : ℕ) → dead (viewOf (pickOp folded value (recordAt b p))) (marked live) ≡ t
+module _ {b : List ℕ} {p folded : ℕ} (f : Foldable b p folded) (live : List ℕ) {t : Bool} (d : t ≡ dead (viewOf document01 (recordAt rowOf b p)) (marked live)) where
+  dead-is : (value : ℕ) → dead (viewOf document01 (pickOp folded value (recordAt rowOf b p))) (marked live) ≡ t
   dead-is value = go (tell (eqb folded 1))
     where
-      go : (eqb folded 1 ≡ true) ⊎ (eqb folded 1 ≡ false) → dead (viewOf (pickOp folded value (recordAt b p))) (marked live) ≡ t
+      go : (eqb folded 1 ≡ true) ⊎ (eqb folded 1 ≡ false) → dead (viewOf document01 (pickOp folded value (recordAt rowOf b p))) (marked live) ≡ t
       go (inl e) = sym (dead-same f (eqb-true folded 1 e) value (marked live)) ∙ sym d
-      go (inr e) = ap (λ (o : List ℕ). dead (viewOf o) (marked live)) (sym (plain-op b p (eqb-false folded 1 e) value)) ∙ sym d
+      go (inr e) = ap (λ (o : List ℕ). dead (viewOf document01 o) (marked live)) (sym (plain-op b p (eqb-false folded 1 e) value)) ∙ sym d
 
-  pub prunes-dead : {classes : List ℕ} → t ≡ true → (value : ℕ) → Prunes classes (pickOp folded value (recordAt b p)) live live 0
+  pub prunes-dead : {classes : List ℕ} → t ≡ true → (value : ℕ) → Prunes classes (pickOp folded value (recordAt rowOf b p)) live live 0
   prunes-dead h value = let q = dead-is value ∙ h in record { keeps-so = rw q; live-so = rw q }
 
   pub prunes-constant : {classes live′ : List ℕ} {entry : ℕ} → entry ≡ getD kindTable (getD b p 0) 0 → t ≡ false → folded ≡ 1
-      → marked live′ ≡ without (marked live) (bytesAt b (p + 1) (outsIn entry)) → (value : ℕ) → Prunes classes (pickOp folded value (recordAt b p)) live live′ 1
+      → marked live′ ≡ without (marked live) (bytesAt b (p + 1) (outsIn entry)) → (value : ℕ) → Prunes classes (pickOp folded value (recordAt rowOf b p)) live live′ 1
   prunes-constant {classes} g h e s value =
       let q = dead-is value ∙ h in
       record {
@@ -82,8 +83,8 @@ module _ {b : List ℕ} {p folded : ℕ} (f : Foldable b p folded) (live : List 
         live-so = rw q (s ∙ ap (λ (n : ℕ). without (marked live) (bytesAt b (p + 1) n)) (one-output (getD b p 0) g (f .folds-only e)) ∙ sym (ap (λ (w : View ℕ (List ℕ) ℕ Fault). before (globalsIn classes) (keptIn classes) w (marked live)) ((constant-here f e value) .shape-is)));
       }
 
-  pub prunes-kept : {classes live′ : List ℕ} → t ≡ false → (folded ≡ 1 → ⊥) → marked live′ ≡ liveBefore classes (recordAt b p) (marked live)
-      → (value : ℕ) → Prunes classes (pickOp folded value (recordAt b p)) live live′ 1
+  pub prunes-kept : {classes live′ : List ℕ} → t ≡ false → (folded ≡ 1 → ⊥) → marked live′ ≡ liveBefore classes (recordAt rowOf b p) (marked live)
+      → (value : ℕ) → Prunes classes (pickOp folded value (recordAt rowOf b p)) live live′ 1
   prunes-kept {classes} h n s value =
       let q = dead-is value ∙ h in
       record { keeps-so = rw q; live-so = rw q (s ∙ ap (λ (o : List ℕ). liveBefore classes o (marked live)) (plain-op b p n value)) }
@@ -91,8 +92,8 @@ module _ {b : List ℕ} {p folded : ℕ} (f : Foldable b p folded) (live : List 
 -- the ops from the i-th on have been pruned
 pub record Pruning (b folded classes keep live : List ℕ) (os : List (List ℕ)) (i : ℕ) : Type 0 where
   pub kept-so : (values : List ℕ)
-      → keptFrom i keep (chosenFrom i folded values (drop i os)) ≡ prune tcg (globalsIn classes) (keptIn classes) (chosenFrom i folded values (drop i os))
-  pub live-so : (values : List ℕ) → marked live ≡ liveOps tcg (globalsIn classes) (keptIn classes) (chosenFrom i folded values (drop i os))
+      → keptFrom i keep (chosenFrom i folded values (drop i os)) ≡ prune (tcg document01) (globalsIn classes) (keptIn classes) (chosenFrom i folded values (drop i os))
+  pub live-so : (values : List ℕ) → marked live ≡ liveOps (tcg document01) (globalsIn classes) (keptIn classes) (chosenFrom i folded values (drop i os))
   pub long : length keep ≡ 256
 
 pub pruning-start : {b folded classes keep live live₀ : List ℕ} {os : List (List ℕ)} {ops : ℕ} → ops ≡ length os → length keep ≡ 256
@@ -114,10 +115,10 @@ kept-later i j x keep (o ∷ os) h =
     ap₂ (λ (k : ℕ) (more : List (List ℕ)). cond (eqb k 1) (o ∷ more) more) (getD-set-other keep j i x 0 (λ e. omega arith)) (kept-later (suc i) j x keep os (omega arith))
 
 module _ {b places folded classes keep keep′ live live′ : List ℕ} {ops i x : ℕ} (c : Chosen b places folded ops)
-    (s : Pruning b folded classes keep live (opsFrom (recordsOf b)) (suc i)) (h : i < ops)
-    (q : (value : ℕ) → Prunes classes (pickOp (getD folded i 0) value (recordAt b (getD places i 0))) live live′ x) (w : keep′ ≡ set keep i x) where
+    (s : Pruning b folded classes keep live (opsFrom (recordsOf rowOf b)) (suc i)) (h : i < ops)
+    (q : (value : ℕ) → Prunes classes (pickOp (getD folded i 0) value (recordAt rowOf b (getD places i 0))) live live′ x) (w : keep′ ≡ set keep i x) where
   abbrev os : List (List ℕ)
-  os = opsFrom (recordsOf b)
+  os = opsFrom (recordsOf rowOf b)
 
   abbrev glob : Vars
   glob = globalsIn classes
@@ -139,8 +140,8 @@ module _ {b places folded classes keep keep′ live live′ : List ℕ} {ops i x
   prunes values =
       subst (λ (o : List ℕ). Prunes classes (pickOp (getD folded i 0) (getD values i 0) o) live live′ x) ((this-op (c .here) h) .here) (q (getD values i 0))
 
-  dead-so : (values : List ℕ) → dead (viewOf (op values)) (marked live) ≡ dead (viewOf (op values)) (liveOps tcg glob kept (more values))
-  dead-so values = ap (dead (viewOf (op values))) (s .live-so values)
+  dead-so : (values : List ℕ) → dead (viewOf document01 (op values)) (marked live) ≡ dead (viewOf document01 (op values)) (liveOps (tcg document01) glob kept (more values))
+  dead-so values = ap (dead (viewOf document01 (op values))) (s .live-so values)
 
   kept-op : (t : Bool) → x ≡ cond t 0 1 → (o : List ℕ) (rest rest′ : List (List ℕ)) → rest ≡ rest′
       → cond (eqb (getD keep′ i 0) 1) (o ∷ rest) rest ≡ cond t rest′ (o ∷ rest′)
@@ -152,19 +153,19 @@ module _ {b places folded classes keep keep′ live live′ : List ℕ} {ops i x
       go true = refl
       go false = refl
 
-  kept-step : (values : List ℕ) → keptFrom i keep′ (op values ∷ more values) ≡ prune tcg glob kept (op values ∷ more values)
+  kept-step : (values : List ℕ) → keptFrom i keep′ (op values ∷ more values) ≡ prune (tcg document01) glob kept (op values ∷ more values)
   unfolding keptFrom
   kept-step values =
-      kept-op (dead (viewOf (op values)) (liveOps tcg glob kept (more values)))
-      ((prunes values) .keeps-so ∙ ap (λ (t : Bool). cond t 0 1) (dead-so values)) (op values) (keptFrom (suc i) keep′ (more values)) (prune tcg glob kept (more values))
+      kept-op (dead (viewOf document01 (op values)) (liveOps (tcg document01) glob kept (more values)))
+      ((prunes values) .keeps-so ∙ ap (λ (t : Bool). cond t 0 1) (dead-so values)) (op values) (keptFrom (suc i) keep′ (more values)) (prune (tcg document01) glob kept (more values))
       (ap (λ (k : List ℕ). keptFrom (suc i) k (more values)) w ∙ kept-later (suc i) i x keep (more values) (omega arith) ∙ s .kept-so values)
 
-  live-step : (values : List ℕ) → marked live′ ≡ liveOps tcg glob kept (op values ∷ more values)
+  live-step : (values : List ℕ) → marked live′ ≡ liveOps (tcg document01) glob kept (op values ∷ more values)
   live-step values =
       (prunes values) .live-so
-      ∙ ap (λ (l : Vars). cond (dead (viewOf (op values)) l) l (before glob kept (viewOf (op values)) l)) (s .live-so values)
+      ∙ ap (λ (l : Vars). cond (dead (viewOf document01 (op values)) l) l (before glob kept (viewOf document01 (op values)) l)) (s .live-so values)
 
-  pub pruning-step : Pruning b folded classes keep′ live′ (opsFrom (recordsOf b)) i
+  pub pruning-step : Pruning b folded classes keep′ live′ (opsFrom (recordsOf rowOf b)) i
   pruning-step =
       record {
         kept-so = λ values. rw (cut-op values) (kept-step values);
@@ -172,14 +173,14 @@ module _ {b places folded classes keep keep′ live live′ : List ℕ} {ops i x
         long = ap length w ∙ length-set keep i x ∙ s .long;
       }
 
-pub pruning-back : {b places folded classes keep live live′ : List ℕ} {ops i x : ℕ} → Chosen b places folded ops → Pruning b folded classes keep live (opsFrom (recordsOf b)) i → 0 < i → i ≤ ops
-    → ((value : ℕ) → Prunes classes (pickOp (getD folded (i - 1) 0) value (recordAt b (getD places (i - 1) 0))) live live′ x)
-    → Pruning b folded classes (set keep (i - 1) x) live′ (opsFrom (recordsOf b)) (i - 1)
+pub pruning-back : {b places folded classes keep live live′ : List ℕ} {ops i x : ℕ} → Chosen b places folded ops → Pruning b folded classes keep live (opsFrom (recordsOf rowOf b)) i → 0 < i → i ≤ ops
+    → ((value : ℕ) → Prunes classes (pickOp (getD folded (i - 1) 0) value (recordAt rowOf b (getD places (i - 1) 0))) live live′ x)
+    → Pruning b folded classes (set keep (i - 1) x) live′ (opsFrom (recordsOf rowOf b)) (i - 1)
 pruning-back {b} {places} {folded} {classes} {keep} {live} {live′} {ops} {i} {x} c s h l q =
     let e : i ≡ suc (i - 1) = omega arith in
-    pruning-step c (subst (λ (n : ℕ). Pruning b folded classes keep live (opsFrom (recordsOf b)) n) e s) (omega arith) q refl
+    pruning-step c (subst (λ (n : ℕ). Pruning b folded classes keep live (opsFrom (recordsOf rowOf b)) n) e s) (omega arith) q refl
 
-pub pruning-ends : {b folded classes keep live : List ℕ} {i : ℕ} → Pruning b folded classes keep live (opsFrom (recordsOf b)) i → i ≤ 0 → Keeps b folded classes keep
+pub pruning-ends : {b folded classes keep live : List ℕ} {i : ℕ} → Pruning b folded classes keep live (opsFrom (recordsOf rowOf b)) i → i ≤ 0 → Keeps b folded classes keep
 pruning-ends {b} {folded} {classes} {keep} {live} {i} s h =
     let z : i ≡ 0 = omega arith in
-    record { kept-are = (subst (λ (n : ℕ). Pruning b folded classes keep live (opsFrom (recordsOf b)) n) z s) .kept-so }
+    record { kept-are = (subst (λ (n : ℕ). Pruning b folded classes keep live (opsFrom (recordsOf rowOf b)) n) z s) .kept-so }

@@ -6,24 +6,25 @@ use mathlib.Core.List.{List, _++_}
 use lib.ListN.{length, drop}
 use Rattle.theory.specs.Prune.{AllUsed, liveAll}
 use Rattle.theory.specs.Fold.{nothing, baseRule, Still}
-use Rattle.ops.specs.Ops.{tcg, folding}
+use Rattle.ops.specs.Ops.{tcg, folding, Dialect}
+use Rattle.ops.specs.Kinds.{document01}
 use Rattle.block.specs.declared.Verdict.the-variants.{Accepted as NoRefusal}
 use Rattle.block.specs.Records.{recordsOf, declarations, opsFrom, classesOf}
 use Rattle.block.specs.Rules.{globalsIn, keptIn}
-use Rattle.block.specs.Checks.{checkOf}
+use Rattle.block.specs.Checks.{checkBy}
 use Rattle.runs.specs.declared.Ending.{Ending}
 use Rattle.runs.specs.declared.Ending.the-variants.{Refused, Exit, Fault, NoResult}
-use Rattle.runs.specs.Runs.{Ran, runOf, fits}
+use Rattle.runs.specs.Runs.{Ran, fits, runBy}
 use Rattle.passes.specs.declared.Written.the-variants.{Length}
-use Rattle.passes.specs.Passes.{passOf, resultOf}
+use Rattle.passes.specs.Passes.{resultOf, passBy}
 
 -- "A block is accepted if the check gives it no refusal."
-abbrev pub Accepted : List ℕ → Type 0
-Accepted block = checkOf block ≡ NoRefusal
+abbrev pub Accepted : Dialect → List ℕ → Type 0
+Accepted D block = checkBy (D .rows) block ≡ NoRefusal
 
 -- "Globals and memory fit it if nothing in row 11 applies to them."
-abbrev pub Fit : List ℕ → List ℕ → List ℕ → Type 0
-Fit block globals memory = fits (declarations (recordsOf block)) globals memory ≡ true
+abbrev pub Fit : Dialect → List ℕ → List ℕ → List ℕ → Type 0
+Fit D block globals memory = fits (declarations (recordsOf (D .rows) block)) globals memory ≡ true
 
 -- "A buffer has room if it is at least as long as the result, whatever it holds."
 abbrev pub Room : List ℕ → List ℕ → Type 0
@@ -49,24 +50,28 @@ pub record Alike (source target : Ran) : Type 0 where
   pub memory : target .memory ≡ source .memory
 
 -- Demand 3 of a block and an output buffer: what is promised of the pass's answer
-pub record Demand3 (block out : List ℕ) : Type 0 where
+pub record Demand3 (D : Dialect) (block out : List ℕ) : Type 0 where
   -- "The pass never refuses an accepted block with room for the result": it answers a length, and the result is that many bytes
   pub size : ℕ
   pub result : List ℕ
-  pub answers : passOf block out ≡ record { answer = Length size; out = result ++ drop size out }
+  pub answers : passBy D block out ≡ record { answer = Length size; out = result ++ drop size out }
   pub sized : length result ≡ size
   pub small : size ≤ 2752
   -- "its result is accepted"
-  pub accepted : Accepted result
+  pub accepted : Accepted D result
   -- "runs to the same exit or fault with the same globals and memory in no more ops (unless the source run meets an op without a stated result)"
-  pub alike : (globals memory : List ℕ) → Fit block globals memory → unstatedEnd ((runOf block globals memory) .answer) ≡ false
-      → Alike (runOf block globals memory) (runOf result globals memory)
+  pub alike : (globals memory : List ℕ) → Fit D block globals memory → unstatedEnd ((runBy D block globals memory) .answer) ≡ false
+      → Alike (runBy D block globals memory) (runBy D result globals memory)
   -- "nothing foldable and no dead pure op remains"
-  pub folded : Still tcg (baseRule tcg folding) (opsFrom (recordsOf result)) nothing
-  pub used : AllUsed tcg (liveAll tcg (globalsIn (classesOf (declarations (recordsOf result)))) (keptIn (classesOf (declarations (recordsOf result))))) (opsFrom (recordsOf result))
+  pub folded : Still (tcg D) (baseRule (tcg D) (folding D)) (opsFrom (recordsOf (D .rows) result)) nothing
+  pub used : AllUsed (tcg D) (liveAll (tcg D) (globalsIn (classesOf (declarations (recordsOf (D .rows) result)))) (keptIn (classesOf (declarations (recordsOf (D .rows) result))))) (opsFrom (recordsOf (D .rows) result))
   -- "doing the pass again gives the same bytes": "The pass done again is lent the result's bytes alone as its block."
-  pub again : (out′ : List ℕ) → Room result out′ → passOf result out′ ≡ record { answer = Length size; out = result ++ drop size out′ }
+  pub again : (out′ : List ℕ) → Room result out′ → passBy D result out′ ≡ record { answer = Length size; out = result ++ drop size out′ }
 
 -- for every block that the check accepts and every output buffer with room
+abbrev pub DemandOf : Dialect → Type 0
+DemandOf D = (block out : List ℕ) → Accepted D block → Room (resultOf D block) out → Demand3 D block out
+
+-- of document 01
 abbrev pub Demand : Type 0
-Demand = (block out : List ℕ) → Accepted block → Room (resultOf block) out → Demand3 block out
+Demand = DemandOf document01

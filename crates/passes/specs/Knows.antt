@@ -9,8 +9,9 @@ use Rattle.theory.specs.Machine.{inputs, computes, reads}
 use Rattle.theory.specs.Sets.{Vars}
 use Rattle.theory.specs.Fold.{Known, nothing, put, on, learned, fold, baseRule, bindO, allKnown}
 use Rattle.ops.specs.Rows.{computing}
-use Rattle.ops.specs.Kinds.{roleOf}
+use Rattle.ops.specs.Rows.{roleOf}
 use Rattle.ops.specs.Ops.{rowAt, viewOf, tcg, foldableRow, folding}
+use Rattle.ops.specs.Kinds.{rowOf, document01}
 use Rattle.block.specs.Records.{recordsOf, opsFrom}
 use Rattle.block.specs.Scan.{recordAt, marked}
 use Rattle.runs.specs.Evaluates.{valuesOf}
@@ -29,36 +30,36 @@ allMarked l (x ∷ xs) = l x && allMarked l xs
 
 -- what an op that may fold states, where all its inputs are known
 abbrev pub statedBy : Known ℕ → List ℕ → Option (List ℕ)
-statedBy known o = cond (foldableRow (rowAt o)) (bindO (computes (viewOf o)) (allKnown (reads known (inputs (viewOf o))))) none
+statedBy known o = cond (foldableRow (rowAt rowOf o)) (bindO (computes (viewOf document01 o)) (allKnown (reads known (inputs (viewOf document01 o))))) none
 
 pub record StatesKnown (block : List ℕ) (place : ℕ) (known values : List ℕ) (r : Stated) : Type 0 where
-  pub states-so : statedBy (knownOf known values) (recordAt block place) ≡ valuesOf r
+  pub states-so : statedBy (knownOf known values) (recordAt rowOf block place) ≡ valuesOf r
 
 -- the op that fold leaves: the constant where a value is stated
 abbrev pub leftBy : Stated → List ℕ → List ℕ
-leftBy (Value x) o = folding .const o x
+leftBy (Value x) o = folding document01 .const o x
 leftBy NoResult o = o
 
 -- what is known after an op that stays as it is
 pub record Stays (block : List ℕ) (place : ℕ) (known values known′ values′ : List ℕ) : Type 0 where
-  pub known-after : knownOf known′ values′ ≡ learned (knownOf known values) (viewOf (recordAt block place))
+  pub known-after : knownOf known′ values′ ≡ learned (knownOf known values) (viewOf document01 (recordAt rowOf block place))
 
 -- fold at one op: what it leaves, and what is known after it
 pub record Folds (block : List ℕ) (place : ℕ) (known values known′ values′ : List ℕ) (r : Stated) : Type 0 where
-  pub rule-so : baseRule tcg folding (knownOf known values) (recordAt block place) ≡ put (leftBy r (recordAt block place))
-  pub known-so : knownOf known′ values′ ≡ learned (knownOf known values) (viewOf (leftBy r (recordAt block place)))
-  pub only-so : (x : ℕ) → r ≡ Value x → roleOf (getD block place 0) ≡ computing
+  pub rule-so : baseRule (tcg document01) (folding document01) (knownOf known values) (recordAt rowOf block place) ≡ put (leftBy r (recordAt rowOf block place))
+  pub known-so : knownOf known′ values′ ≡ learned (knownOf known values) (viewOf document01 (leftBy r (recordAt rowOf block place)))
+  pub only-so : (x : ℕ) → r ≡ Value x → roleOf rowOf (getD block place 0) ≡ computing
 
 -- the i-th byte and constant are set so that the op is what fold leaves
 pub record FoldsAt (block : List ℕ) (place i : ℕ) (known values known′ values′ folded consts folded′ consts′ : List ℕ) : Type 0 where
-  pub rule-at : baseRule tcg folding (knownOf known values) (recordAt block place) ≡ put (pickOp (getD folded′ i 0) (getD consts′ i 0) (recordAt block place))
-  pub known-at : knownOf known′ values′ ≡ learned (knownOf known values) (viewOf (pickOp (getD folded′ i 0) (getD consts′ i 0) (recordAt block place)))
-  pub only-at : getD folded′ i 0 ≡ 1 → roleOf (getD block place 0) ≡ computing
+  pub rule-at : baseRule (tcg document01) (folding document01) (knownOf known values) (recordAt rowOf block place) ≡ put (pickOp (getD folded′ i 0) (getD consts′ i 0) (recordAt rowOf block place))
+  pub known-at : knownOf known′ values′ ≡ learned (knownOf known values) (viewOf document01 (pickOp (getD folded′ i 0) (getD consts′ i 0) (recordAt rowOf block place)))
+  pub only-at : getD folded′ i 0 ≡ 1 → roleOf rowOf (getD block place 0) ≡ computing
   pub others : (j : ℕ) → j < i → (getD folded′ j 0 ≡ getD folded j 0) × (getD consts′ j 0 ≡ getD consts j 0)
   pub long-folded : length folded′ ≡ length folded
   pub long-consts : length consts′ ≡ length consts
 
 -- the ops that fold leaves are those that the bytes and constants choose
 pub record FoldsAll (block folded consts : List ℕ) : Type 0 where
-  pub chosen-are : chosenFrom 0 folded consts (opsFrom (recordsOf block)) ≡ fold tcg (baseRule tcg folding) (opsFrom (recordsOf block)) (on nothing)
-  pub only-computes : FoldsOnly folded (opsFrom (recordsOf block))
+  pub chosen-are : chosenFrom 0 folded consts (opsFrom (recordsOf rowOf block)) ≡ fold (tcg document01) (baseRule (tcg document01) (folding document01)) (opsFrom (recordsOf rowOf block)) (on nothing)
+  pub only-computes : FoldsOnly folded (opsFrom (recordsOf rowOf block))

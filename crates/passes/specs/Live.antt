@@ -9,6 +9,7 @@ use Rattle.theory.specs.Sets.{Vars, without, both}
 use Rattle.theory.specs.Prune.{dead, before, prune}
 use Rattle.ops.specs.Rows.{Role, isPure, isClosing, isSetting, isJumping}
 use Rattle.ops.specs.Ops.{viewOf, tcg}
+use Rattle.ops.specs.Kinds.{rowOf, document01}
 use Rattle.block.specs.Records.{recordsOf, opsFrom}
 use Rattle.block.specs.Rules.{globalsIn, keptIn}
 use Rattle.block.specs.Scan.{marked}
@@ -25,7 +26,7 @@ pub record Declared (classes : List ℕ) (n : ℕ) : Type 0 where
 
 -- what is live before an op of these variables, from what is live after it
 abbrev pub liveBefore : List ℕ → List ℕ → Vars → Vars
-liveBefore classes op l = before (globalsIn classes) (keptIn classes) (viewOf op) l
+liveBefore classes op l = before (globalsIn classes) (keptIn classes) (viewOf document01 op) l
 
 -- the same by the op's role and outputs, but for its inputs
 abbrev pub beforeBy : Role → List ℕ → List ℕ → Vars → Vars
@@ -35,10 +36,10 @@ beforeBy role classes outs l =
 
 -- prune at one op: its byte, and what is live before it
 pub record Prunes (classes op live live′ : List ℕ) (keep : ℕ) : Type 0 where
-  pub keeps-so : keep ≡ cond (dead (viewOf op) (marked live)) 0 1
-  pub live-so : marked live′ ≡ cond (dead (viewOf op) (marked live)) (marked live) (liveBefore classes op (marked live))
+  pub keeps-so : keep ≡ cond (dead (viewOf document01 op) (marked live)) 0 1
+  pub live-so : marked live′ ≡ cond (dead (viewOf document01 op) (marked live)) (marked live) (liveBefore classes op (marked live))
 
 -- the ops that prune keeps of those that fold leaves are those whose byte is 1
 pub record Keeps (block folded classes keep : List ℕ) : Type 0 where
   pub kept-are : (values : List ℕ)
-      → let os = chosenFrom 0 folded values (opsFrom (recordsOf block)) in keptFrom 0 keep os ≡ prune tcg (globalsIn classes) (keptIn classes) os
+      → let os = chosenFrom 0 folded values (opsFrom (recordsOf rowOf block)) in keptFrom 0 keep os ≡ prune (tcg document01) (globalsIn classes) (keptIn classes) os

@@ -6,25 +6,26 @@ use lib.Dec.{leb}
 use lib.ListN.{length, drop}
 use Rattle.theory.specs.Machine.{Prog}
 use Rattle.theory.specs.Fold.{baseRule, pass}
-use Rattle.ops.specs.Ops.{tcg, folding}
+use Rattle.ops.specs.Ops.{tcg, folding, Dialect}
+use Rattle.ops.specs.Kinds.{document01}
 use Rattle.block.specs.declared.Verdict.{Verdict}
 use Rattle.block.specs.declared.Verdict.the-variants.{Accepted, Refused as CheckRefused}
 use Rattle.block.specs.Records.{recordsOf, concat, declarations, opsFrom, classesOf}
 use Rattle.block.specs.Rules.{globalsIn, keptIn}
-use Rattle.block.specs.Checks.{checkOf}
+use Rattle.block.specs.Checks.{checkBy}
 use Rattle.passes.specs.declared.Written.{Written}
 use Rattle.passes.specs.declared.Written.the-variants.{Refused, Length}
 
 -- the ops that fold and prune leave, of variables of these classes
-unfoldable pub passOps : List ℕ → Prog tcg → Prog tcg
-passOps classes ops = pass tcg (baseRule tcg folding) (globalsIn classes) (keptIn classes) ops
+unfoldable pub passOps : (D : Dialect) → List ℕ → Prog (tcg D) → Prog (tcg D)
+passOps D classes ops = pass (tcg D) (baseRule (tcg D) (folding D)) (globalsIn classes) (keptIn classes) ops
 
 -- "Declarations are copied. The result is the declarations and kept ops"
-abbrev pub resultRecords : List (List ℕ) → List (List ℕ)
-resultRecords records = declarations records ++ passOps (classesOf (declarations records)) (opsFrom records)
+abbrev pub resultRecords : Dialect → List (List ℕ) → List (List ℕ)
+resultRecords D records = declarations records ++ passOps D (classesOf (declarations records)) (opsFrom records)
 
-unfoldable pub resultOf : List ℕ → List ℕ
-resultOf block = concat (resultRecords (recordsOf block))
+unfoldable pub resultOf : Dialect → List ℕ → List ℕ
+resultOf D block = concat (resultRecords D (recordsOf (D .rows) block))
 
 -- what the pass answers, and what it leaves in the lent buffer
 pub record Passed : Type 0 where
@@ -43,5 +44,9 @@ unfoldable pub passChecked : List ℕ → List ℕ → Verdict → Passed
 passChecked result out (CheckRefused number place) = passRefused number place out
 passChecked result out Accepted = cond (leb (length result) (length out)) (written result out) (passRefused 12 0 out)
 
-unfoldable pub passOf : List ℕ → List ℕ → Passed
-passOf block out = passChecked (resultOf block) out (checkOf block)
+unfoldable pub passBy : Dialect → List ℕ → List ℕ → Passed
+passBy D block out = passChecked (resultOf D block) out (checkBy (D .rows) block)
+
+-- document 01's
+abbrev pub passOf : List ℕ → List ℕ → Passed
+passOf = passBy document01

@@ -7,6 +7,7 @@ use lib.ListN.{length, take, drop}
 use Rattle.theory.specs.Fold.{nothing, baseRule, Still}
 use Rattle.theory.specs.Prune.{AllUsed, liveAll}
 use Rattle.ops.specs.Ops.{tcg, folding}
+use Rattle.ops.specs.Kinds.{rowOf, document01}
 use Rattle.block.specs.Checks.{checkOf}
 use Rattle.block.specs.Records.{recordsOf, declarations, opsFrom, classesOf}
 use Rattle.block.specs.Rules.{globalsIn, keptIn}
@@ -49,17 +50,17 @@ pub record Promise (block out : List ℕ) (answer : Written) (out′ : List ℕ)
   -- "its result is accepted"
   pub accepted : (verdict : Verdict) → Checked result verdict → verdict ≡ NoRefusal
   -- "runs to the same exit or fault with the same globals and memory in no more ops (unless the source run meets an op without a stated result)"
-  pub alike : (globals memory : List ℕ) (ending ending′ : Ending) (globals₁ memory₁ globals₂ memory₂ : List ℕ) → Fit block globals memory
+  pub alike : (globals memory : List ℕ) (ending ending′ : Ending) (globals₁ memory₁ globals₂ memory₂ : List ℕ) → Fit document01 block globals memory
       → Run block globals memory ending globals₁ memory₁ → Run result globals memory ending′ globals₂ memory₂
       → unstatedEnd ending ≡ false → SameEnd ending ending′ × (globals₂ ≡ globals₁) × (memory₂ ≡ memory₁)
   -- "nothing foldable and no dead pure op remains"
-  pub folded : Still tcg (baseRule tcg folding) (opsFrom (recordsOf result)) nothing
-  pub used : AllUsed tcg (liveAll tcg (globalsIn (classesOf (declarations (recordsOf result)))) (keptIn (classesOf (declarations (recordsOf result))))) (opsFrom (recordsOf result))
+  pub folded : Still (tcg document01) (baseRule (tcg document01) (folding document01)) (opsFrom (recordsOf rowOf result)) nothing
+  pub used : AllUsed (tcg document01) (liveAll (tcg document01) (globalsIn (classesOf (declarations (recordsOf rowOf result)))) (keptIn (classesOf (declarations (recordsOf rowOf result))))) (opsFrom (recordsOf rowOf result))
   -- "doing the pass again gives the same bytes"
   pub again : (buffer : List ℕ) (answer′ : Written) (buffer′ : List ℕ) → Room result buffer → Optimised result buffer answer′ buffer′
       → Wrote size result buffer answer′ buffer′
 
 -- for every block that a call of the check accepted and every buffer with room, of every call of the pass
 abbrev pub Promised : Type 0
-Promised = (block out : List ℕ) (answer : Written) (out′ : List ℕ) → Checked block NoRefusal → Room (resultOf block) out
+Promised = (block out : List ℕ) (answer : Written) (out′ : List ℕ) → Checked block NoRefusal → Room (resultOf document01 block) out
     → Optimised block out answer out′ → Promise block out answer out′

@@ -8,7 +8,7 @@ ghost use lib.ListN.{length, getD, take};
 ghost use Rattle.theory.specs.Sets.{plus, both, noneIn};
 ghost use Rattle.theory.specs.Prune.{dead};
 ghost use Rattle.ops.specs.Rows.{outsIn, roleIn, roleNo, isSetting, isJumping};
-ghost use Rattle.ops.specs.Kinds.{kindTable};
+ghost use Rattle.ops.specs.Kinds.{kindTable, rowOf, document01};
 ghost use Rattle.ops.specs.Ops.{bytesAt, viewOf};
 ghost use Rattle.block.specs.Scan.{recordAt, Stands, marked};
 ghost use Rattle.passes.specs.Choose.{pickOp, Foldable, Chosen};
@@ -92,8 +92,8 @@ fn live_but_inputs(
 
 // The same with its inputs.
 fn live_before(e: u32, block: &[u8], at: usize, classes: &[u8; 256], n: usize, live: &mut [u8; 256])
-    requires { ⌜ Declared (now classes) n × Stands (now block) at (getD (now block) at 0) × (e ≡ getD kindTable (getD (now block) at 0) 0) ⌝ }
-    ensures { λ _. ⌜ marked (now (live .exit)) ≡ liveBefore (take n (now (classes .entry))) (recordAt (now (block .entry)) at) (marked (now (live .entry))) ⌝ }
+    requires { ⌜ Declared (now classes) n × Stands rowOf (now block) at (getD (now block) at 0) × (e ≡ getD kindTable (getD (now block) at 0) 0) ⌝ }
+    ensures { λ _. ⌜ marked (now (live .exit)) ≡ liveBefore (take n (now (classes .entry))) (recordAt rowOf (now (block .entry)) at) (marked (now (live .entry))) ⌝ }
 {
     live_but_inputs(e, block, at, classes, n, live);
     mark_all(block, at + 1 + outs(e), ins(e), live);
@@ -123,8 +123,8 @@ fn none_live(block: &[u8], from: usize, count: usize, live: &[u8; 256]) -> bool
 
 // Whether an op is pure and none of its outputs is live after it.
 fn dead_op(e: u32, block: &[u8], at: usize, live: &[u8; 256]) -> bool
-    requires { ⌜ Stands (now block) at (getD (now block) at 0) × (e ≡ getD kindTable (getD (now block) at 0) 0) ⌝ }
-    ensures { λ r. ⌜ r ≡ dead (viewOf (recordAt (now (block .entry)) at)) (marked (now (live .entry))) ⌝ }
+    requires { ⌜ Stands rowOf (now block) at (getD (now block) at 0) × (e ≡ getD kindTable (getD (now block) at 0) 0) ⌝ }
+    ensures { λ r. ⌜ r ≡ dead (viewOf document01 (recordAt rowOf (now (block .entry)) at)) (marked (now (live .entry))) ⌝ }
 {
     if role(e) < CONSTANT {
         return false;
@@ -143,7 +143,7 @@ fn prune_op(
     live: &mut [u8; 256],
 ) -> u8
     requires { ⌜ Declared (now classes) n × Foldable (now block) at folded × (e ≡ getD kindTable (getD (now block) at 0) 0) ⌝ }
-    ensures { λ r. ⌜ ((value : ℕ) → Prunes (take n (now (classes .entry))) (pickOp folded value (recordAt (now (block .entry)) at)) (now (live .entry)) (now (live .exit)) r) ⌝ }
+    ensures { λ r. ⌜ ((value : ℕ) → Prunes (take n (now (classes .entry))) (pickOp folded value (recordAt rowOf (now (block .entry)) at)) (now (live .entry)) (now (live .exit)) r) ⌝ }
 {
     if dead_op(e, block, at, live) {
         return 0;

@@ -2,7 +2,7 @@
 ghost use mathlib.Core.Path.{_≡_};
 ghost use Prim.Native.Nat.{_≤_};
 ghost use lib.ListN.{length};
-ghost use Rattle.ops.specs.Kinds.{kindTable};
+ghost use Rattle.ops.specs.Kinds.{kindTable, rowOf, document01};
 ghost use Rattle.block.specs.Records.{recordsOf, opsFrom};
 ghost use Rattle.runs.specs.Runs.{ranAs, runOf, runOps};
 ghost use Rattle.runs.specs.Steps.{Ready};
@@ -28,7 +28,7 @@ fn run_ops(
     memory: &mut [u8],
 ) -> Ending
     requires { ⌜ Ready (now block) (now places) (now labels) start ops × (length (now globals) ≤ 256) × (now kinds ≡ kindTable) ⌝ }
-    ensures { λ r. ⌜ ranAs r (now (globals .exit)) (now (memory .exit)) ≡ runOps (opsFrom (recordsOf (now (block .entry)))) (now (globals .entry)) (now (memory .entry)) ⌝ }
+    ensures { λ r. ⌜ ranAs r (now (globals .exit)) (now (memory .exit)) ≡ runOps document01 (opsFrom (recordsOf rowOf (now (block .entry)))) (now (globals .entry)) (now (memory .entry)) ⌝ }
 {
     let mut values = [0u64; 256];
     copy_in(globals, &mut values);

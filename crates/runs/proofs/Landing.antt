@@ -17,6 +17,7 @@ use Rattle.theory.proofs.Sets.{and-l, and-r, clash}
 use Rattle.ops.specs.Limits.{labelCount}
 use Rattle.ops.specs.Rows.{isSetting, isJumping}
 use Rattle.ops.specs.Ops.{rowAt, labelBy, viewOf, tcg}
+use Rattle.ops.specs.Kinds.{rowOf, document01}
 use Rattle.block.specs.Rules.{Seen, rule7, markedBy, passed}
 use Rattle.block.specs.Scan.{numbered, labelledBy, labelsFrom}
 use Rattle.block.proofs.Checker.{opOk, checker}
@@ -52,59 +53,59 @@ label-number true m l i L e h = at-place (set-here L m (i + 1) (omega (arith, eq
 label-number false m l i L e h = absurd (false≢true e)
 
 module _ (L : List ℕ) (s : Seen) (o : List ℕ) (i : ℕ) (h : Says L s) (k : opOk s o ≡ true) where
-  says-next : Says (labelledBy (rowAt o) (labelBy (rowAt o) o) i L) (passed s o)
-  says-next = says-by (isSetting ((rowAt o) .role)) L (s .labels) (labelBy (rowAt o) o) i (h .0) (h .1) (λ x. omega (arith, label-low o s x ((op-parts s o k) .0)))
+  says-next : Says (labelledBy (rowAt rowOf o) (labelBy (rowAt rowOf o) o) i L) (passed rowOf s o)
+  says-next = says-by (isSetting ((rowAt rowOf o) .role)) L (s .labels) (labelBy (rowAt rowOf o) o) i (h .0) (h .1) (λ x. omega (arith, label-low o s x ((op-parts s o k) .0)))
 
-  keeps : (l : ℕ) → s .labels l ≡ true → getD (labelledBy (rowAt o) (labelBy (rowAt o) o) i L) l 0 ≡ getD L l 0
+  keeps : (l : ℕ) → s .labels l ≡ true → getD (labelledBy (rowAt rowOf o) (labelBy (rowAt rowOf o) o) i L) l 0 ≡ getD L l 0
   unfolding rule7
   keeps l t =
-      keeps-number (isSetting ((rowAt o) .role)) (isJumping ((rowAt o) .role)) L (s .labels) (labelBy (rowAt o) o) i l
+      keeps-number (isSetting ((rowAt rowOf o) .role)) (isJumping ((rowAt rowOf o) .role)) L (s .labels) (labelBy (rowAt rowOf o) o) i l
       (λ x. omega (arith, label-low o s x ((op-parts s o k) .0), h .0)) ((op-parts s o k) .1) t
 
-stays : (os : List (List ℕ)) (s : Seen) (L : List ℕ) (i l : ℕ) → checks tcg checker s os ≡ true → Says L s → s .labels l ≡ true → getD (labelsFrom i L os) l 0 ≡ getD L l 0
+stays : (os : List (List ℕ)) (s : Seen) (L : List ℕ) (i l : ℕ) → checks (tcg document01) checker s os ≡ true → Says L s → s .labels l ≡ true → getD (labelsFrom rowOf i L os) l 0 ≡ getD L l 0
 unfolding labelsFrom
 stays [] s L i l c h t = refl
 stays (o ∷ os) s L i l c h t =
-    let k : opOk s o ≡ true = and-l (opOk s o) (checks tcg checker (passed s o) os) c in
-    stays os (passed s o) (labelledBy (rowAt o) (labelBy (rowAt o) o) i L) (suc i) l (and-r (opOk s o) (checks tcg checker (passed s o) os) c) (says-next L s o i h k)
-    (stays-marked (isSetting ((rowAt o) .role)) (s .labels) (labelBy (rowAt o) o) l t)
+    let k : opOk s o ≡ true = and-l (opOk s o) (checks (tcg document01) checker (passed rowOf s o) os) c in
+    stays os (passed rowOf s o) (labelledBy (rowAt rowOf o) (labelBy (rowAt rowOf o) o) i L) (suc i) l (and-r (opOk s o) (checks (tcg document01) checker (passed rowOf s o) os) c) (says-next L s o i h k)
+    (stays-marked (isSetting ((rowAt rowOf o) .role)) (s .labels) (labelBy (rowAt rowOf o) o) l t)
     ∙ keeps L s o i h k l t
 
 -- the op that sets a label that is jumped to: so many ops on
 record Found (os : List (List ℕ)) (l number i : ℕ) : Type 0 where
   on : ℕ
-  here : seek tcg l os ≡ drop on os
+  here : seek (tcg document01) l os ≡ drop on os
   inside : on < length os
   numbered-so : number ≡ suc (i + on)
 
-found : (os : List (List ℕ)) (s : Seen) (L : List ℕ) (i l : ℕ) → checks tcg checker s os ≡ true → Says L s → l < labelCount → s .labels l ≡ false → s .targets l ≡ true
-    → Found os l (getD (labelsFrom i L os) l 0) i
+found : (os : List (List ℕ)) (s : Seen) (L : List ℕ) (i l : ℕ) → checks (tcg document01) checker s os ≡ true → Says L s → l < labelCount → s .labels l ≡ false → s .targets l ≡ true
+    → Found os l (getD (labelsFrom rowOf i L os) l 0) i
 unfolding labelsFrom
 found [] s L i l c h b f t = clash (s .labels l) (end-set s l c b t) f
 found (o ∷ os) s L i l c h b f t =
-    go (isLabel l (viewOf o)) refl
-    (λ e. let p = other-labels s o l e f t in found os (passed s o) (labelledBy (rowAt o) (labelBy (rowAt o) o) i L) (suc i) l c′ h′ b (p .0) (p .1))
+    go (isLabel l (viewOf document01 o)) refl
+    (λ e. let p = other-labels s o l e f t in found os (passed rowOf s o) (labelledBy (rowAt rowOf o) (labelBy (rowAt rowOf o) o) i L) (suc i) l c′ h′ b (p .0) (p .1))
   where
     k : opOk s o ≡ true
-    k = and-l (opOk s o) (checks tcg checker (passed s o) os) c
+    k = and-l (opOk s o) (checks (tcg document01) checker (passed rowOf s o) os) c
 
-    c′ : checks tcg checker (passed s o) os ≡ true
-    c′ = and-r (opOk s o) (checks tcg checker (passed s o) os) c
+    c′ : checks (tcg document01) checker (passed rowOf s o) os ≡ true
+    c′ = and-r (opOk s o) (checks (tcg document01) checker (passed rowOf s o) os) c
 
-    h′ : Says (labelledBy (rowAt o) (labelBy (rowAt o) o) i L) (passed s o)
+    h′ : Says (labelledBy (rowAt rowOf o) (labelBy (rowAt rowOf o) o) i L) (passed rowOf s o)
     h′ = says-next L s o i h k
 
-    go : (x : Bool) → isLabel l (viewOf o) ≡ x
-        → (isLabel l (viewOf o) ≡ false → Found os l (getD (labelsFrom (suc i) (labelledBy (rowAt o) (labelBy (rowAt o) o) i L) os) l 0) (suc i))
-        → Found (o ∷ os) l (getD (labelsFrom (suc i) (labelledBy (rowAt o) (labelBy (rowAt o) o) i L) os) l 0) i
+    go : (x : Bool) → isLabel l (viewOf document01 o) ≡ x
+        → (isLabel l (viewOf document01 o) ≡ false → Found os l (getD (labelsFrom rowOf (suc i) (labelledBy (rowAt rowOf o) (labelBy (rowAt rowOf o) o) i L) os) l 0) (suc i))
+        → Found (o ∷ os) l (getD (labelsFrom rowOf (suc i) (labelledBy (rowAt rowOf o) (labelBy (rowAt rowOf o) o) i L) os) l 0) i
     go true e ih =
-        let n : getD (labelledBy (rowAt o) (labelBy (rowAt o) o) i L) l 0 ≡ i + 1 = label-number (isSetting ((rowAt o) .role)) (labelBy (rowAt o) o) l i L (sym (is-label o l) ∙ e) (omega (arith, h .0)) in
-        let set : (passed s o) .labels l ≡ true = sym (h′ .1 l) ∙ ap (λ (x : ℕ). not (eqb x 0)) n ∙ rw (ne-eqb (i + 1) 0 (λ q. omega arith)) in
+        let n : getD (labelledBy (rowAt rowOf o) (labelBy (rowAt rowOf o) o) i L) l 0 ≡ i + 1 = label-number (isSetting ((rowAt rowOf o) .role)) (labelBy (rowAt rowOf o) o) l i L (sym (is-label o l) ∙ e) (omega (arith, h .0)) in
+        let set : (passed rowOf s o) .labels l ≡ true = sym (h′ .1 l) ∙ ap (λ (x : ℕ). not (eqb x 0)) n ∙ rw (ne-eqb (i + 1) 0 (λ q. omega arith)) in
         record {
           on = 0;
           here = rw e;
           inside = omega arith;
-          numbered-so = stays os (passed s o) (labelledBy (rowAt o) (labelBy (rowAt o) o) i L) (suc i) l c′ h′ set ∙ n ∙ last i;
+          numbered-so = stays os (passed rowOf s o) (labelledBy (rowAt rowOf o) (labelBy (rowAt rowOf o) o) i L) (suc i) l c′ h′ set ∙ n ∙ last i;
         }
       where
         last : (i : ℕ) → i + 1 ≡ suc (i + 0)
@@ -120,20 +121,20 @@ found (o ∷ os) s L i l c h b f t =
 record Reached (b os : List (List ℕ)) (i : ℕ) : Type 0 where
   seen-so : Seen
   numbers : List ℕ
-  checked : checks tcg checker seen-so os ≡ true
+  checked : checks (tcg document01) checker seen-so os ≡ true
   says : Says numbers seen-so
-  same : labelsFrom 0 (replicate 256 0) b ≡ labelsFrom i numbers os
+  same : labelsFrom rowOf 0 (replicate 256 0) b ≡ labelsFrom rowOf i numbers os
   ahead : Ahead b seen-so os
 
 reach-next : (b : List (List ℕ)) (o : List ℕ) (os : List (List ℕ)) (i : ℕ) → Reached b (o ∷ os) i → Reached b os (suc i)
 unfolding labelsFrom
 reach-next b o os i r =
     let s = r .seen-so in
-    let k : opOk s o ≡ true = and-l (opOk s o) (checks tcg checker (passed s o) os) (r .checked) in
+    let k : opOk s o ≡ true = and-l (opOk s o) (checks (tcg document01) checker (passed rowOf s o) os) (r .checked) in
     record {
-      seen-so = passed s o;
-      numbers = labelledBy (rowAt o) (labelBy (rowAt o) o) i (r .numbers);
-      checked = and-r (opOk s o) (checks tcg checker (passed s o) os) (r .checked);
+      seen-so = passed rowOf s o;
+      numbers = labelledBy (rowAt rowOf o) (labelBy (rowAt rowOf o) o) i (r .numbers);
+      checked = and-r (opOk s o) (checks (tcg document01) checker (passed rowOf s o) os) (r .checked);
       says = says-next (r .numbers) s o i (r .says) k;
       same = r .same;
       ahead = ahead-next b s o os (r .ahead);
@@ -150,9 +151,9 @@ pub record Lands (os : List (List ℕ)) (l number i : ℕ) : Type 0 where
   pub has-number : 1 ≤ number
   pub further : i < number - 1
   pub inside : number - 1 < length os
-  pub here : seek tcg l os ≡ drop (number - 1) os
+  pub here : seek (tcg document01) l os ≡ drop (number - 1) os
 
-lands : (os : List (List ℕ)) (i l number : ℕ) → seek tcg l os ≡ seek tcg l (drop (suc i) os) → Found (drop (suc i) os) l number (suc i) → Lands os l number i
+lands : (os : List (List ℕ)) (i l number : ℕ) → seek (tcg document01) l os ≡ seek (tcg document01) l (drop (suc i) os) → Found (drop (suc i) os) l number (suc i) → Lands os l number i
 lands os i l number e f =
     let n : suc i + f .on ≡ number - 1 = omega (arith, f .numbered-so) in
     record {
@@ -162,8 +163,8 @@ lands os i l number e f =
       here = e ∙ f .here ∙ drop-drop (f .on) (suc i) os ∙ ap (λ (x : ℕ). drop x os) n;
     }
 
-pub jump-lands : (s : Seen) (os : List (List ℕ)) (i l : ℕ) → checks tcg checker s os ≡ true → s .labels ≡ empty → i < length os → isJump l (viewOf (getD os i [])) ≡ true
-    → Lands os l (getD (labelsFrom 0 (replicate 256 0) os) l 0) i
+pub jump-lands : (s : Seen) (os : List (List ℕ)) (i l : ℕ) → checks (tcg document01) checker s os ≡ true → s .labels ≡ empty → i < length os → isJump l (viewOf document01 (getD os i [])) ≡ true
+    → Lands os l (getD (labelsFrom rowOf 0 (replicate 256 0) os) l 0) i
 unfolding labelsFrom reach-next
 jump-lands s os i l c e h j =
     let o = getD os i [] in
@@ -179,10 +180,10 @@ jump-lands s os i l c e h j =
     } in
     let r₁ : Reached os (o ∷ rest) i = subst₂ (Reached os) (drop-cons os i [] h) (zero-add i) (reach os i 0 os r₀) in
     let t = r₁ .seen-so in
-    let k : opOk t o ≡ true = and-l (opOk t o) (checks tcg checker (passed t o) rest) (r₁ .checked) in
+    let k : opOk t o ≡ true = and-l (opOk t o) (checks (tcg document01) checker (passed rowOf t o) rest) (r₁ .checked) in
     let p = op-parts t o k in
     let q = landed-labels t o l j (p .1) in
     let r₂ = reach-next os o rest i r₁ in
-    lands os i l (getD (labelsFrom 0 (replicate 256 0) os) l 0) (r₂ .ahead l (q .0))
+    lands os i l (getD (labelsFrom rowOf 0 (replicate 256 0) os) l 0) (r₂ .ahead l (q .0))
     (subst (λ (n : List ℕ). Found rest l (getD n l 0) (suc i)) (sym (r₂ .same))
-    (found rest (passed t o) (r₂ .numbers) (suc i) l (r₂ .checked) (r₂ .says) (jump-low o t l j (p .0)) (q .0) (q .1)))
+    (found rest (passed rowOf t o) (r₂ .numbers) (suc i) l (r₂ .checked) (r₂ .says) (jump-low o t l j (p .0)) (q .0) (q .1)))

@@ -13,8 +13,10 @@ use Rattle.memory.specs.Access.{loadAt, storeAt}
 use Rattle.memory.specs.Answer.{accessWidth, loadedOf, servedOf, leftOf}
 use Rattle.memory.specs.Bytes.{lowFirst}
 use Rattle.ops.specs.Rows.{unknown, declares, setsLabel, jumpsTo, exits, roleNo, roleIn, numberOf, bitsOf, at}
-use Rattle.ops.specs.Kinds.{kindTable, roleOf}
-use Rattle.ops.specs.Ops.{leave, Fault, faultOf, afterLoad, afterStore, viewOf}
+use Rattle.ops.specs.Kinds.{kindTable, rowOf, document01}
+use Rattle.ops.specs.Rows.{roleOf}
+use Rattle.ops.specs.Ops.{leave, Fault, faultOf, viewOf}
+use Rattle.ops.specs.Kinds.{afterLoad, afterStore}
 use Rattle.block.specs.Scan.{recordAt, Stands, SetAt}
 use Rattle.block.proofs.MarkSets.{at-place}
 use Rattle.block.proofs.Views.{unknown-view, declare-view, label-view, jump-view, leave-view, pure-view}
@@ -141,48 +143,48 @@ constant-falls b values values′ p {x} e s =
 
 -- pure ops that read something
 module _ {b : List ℕ} {p k : ℕ} (c : Computed b p k) (values : List ℕ) (r : Stated) (e : statesAt b p k (reads (envOf values) (inputsAt b p k)) ≡ valuesOf r) where
-  acts : (m : List ℕ) → effect 0 (viewOf (recordAt b p)) (stateOf values m) ≡ afterCalc 0 (at b (p + 1) ∷ []) (stateOf values m) (valuesOf r)
+  acts : (m : List ℕ) → effect 0 (viewOf document01 (recordAt rowOf b p)) (stateOf values m) ≡ afterCalc 0 (at b (p + 1) ∷ []) (stateOf values m) (valuesOf r)
   acts m =
       ap (λ (w : View ℕ (List ℕ) ℕ Fault). effect 0 w (stateOf values m)) (pure-view (c .stands) (c .role-is))
       ∙ ap (afterCalc 0 (at b (p + 1) ∷ []) (stateOf values m)) e
 
-  pub compute-falls : {x : ℕ} {values′ : List ℕ} → r ≡ StatedValue x → SetAt values (at b (p + 1)) x values′ → PerformsAlone (viewOf (recordAt b p)) values values′ Falls
+  pub compute-falls : {x : ℕ} {values′ : List ℕ} → r ≡ StatedValue x → SetAt values (at b (p + 1)) x values′ → PerformsAlone (viewOf document01 (recordAt rowOf b p)) values values′ Falls
   compute-falls {x} {values′} t s =
       record {
         under = λ m.
-            falls-to (viewOf (recordAt b p)) values m values′ m
+            falls-to (viewOf document01 (recordAt rowOf b p)) values m values′ m
             (acts m ∙ ap (λ (o : Stated). afterCalc 0 (at b (p + 1) ∷ []) (stateOf values m) (valuesOf o)) t
             ∙ ap (λ (v : ℕ → ℕ). falls (record { env = v; mem = m })) (put-env s));
       }
 
-  pub compute-unstated : r ≡ StatedNone → PerformsAlone (viewOf (recordAt b p)) values values (Stops Unstated)
+  pub compute-unstated : r ≡ StatedNone → PerformsAlone (viewOf document01 (recordAt rowOf b p)) values values (Stops Unstated)
   compute-unstated t =
       record {
         under = λ m.
-            stays (viewOf (recordAt b p)) values m (Stops Unstated)
+            stays (viewOf document01 (recordAt rowOf b p)) values m (Stops Unstated)
             (acts m ∙ ap (λ (o : Stated). afterCalc 0 (at b (p + 1) ∷ []) (stateOf values m) (valuesOf o)) t);
       }
 
 -- the ops that change nothing
-module _ {b : List ℕ} {p k : ℕ} (s : Stands b p k) (values memory : List ℕ) where
-  alone : (v : View ℕ (List ℕ) ℕ Fault) (o : Outcome) → viewOf (recordAt b p) ≡ v → effect 0 v (stateOf values memory) ≡ effectOf o (stateOf values memory)
-      → Performs (viewOf (recordAt b p)) values memory values memory o
-  alone v o e q = stays (viewOf (recordAt b p)) values memory o (ap (λ (w : View ℕ (List ℕ) ℕ Fault). effect 0 w (stateOf values memory)) e ∙ q)
+module _ {b : List ℕ} {p k : ℕ} (s : Stands rowOf b p k) (values memory : List ℕ) where
+  alone : (v : View ℕ (List ℕ) ℕ Fault) (o : Outcome) → viewOf document01 (recordAt rowOf b p) ≡ v → effect 0 v (stateOf values memory) ≡ effectOf o (stateOf values memory)
+      → Performs (viewOf document01 (recordAt rowOf b p)) values memory values memory o
+  alone v o e q = stays (viewOf document01 (recordAt rowOf b p)) values memory o (ap (λ (w : View ℕ (List ℕ) ℕ Fault). effect 0 w (stateOf values memory)) e ∙ q)
 
-  pub step-label : roleOf k ≡ setsLabel → Performs (viewOf (recordAt b p)) values memory values memory Falls
+  pub step-label : roleOf rowOf k ≡ setsLabel → Performs (viewOf document01 (recordAt rowOf b p)) values memory values memory Falls
   step-label e = alone (label (at b (p + 1))) Falls (label-view s e) refl
 
-  pub step-jumps : roleOf k ≡ jumpsTo → Performs (viewOf (recordAt b p)) values memory values memory (JumpsTo (at b (p + 1)))
+  pub step-jumps : roleOf rowOf k ≡ jumpsTo → Performs (viewOf document01 (recordAt rowOf b p)) values memory values memory (JumpsTo (at b (p + 1)))
   step-jumps e = alone (flow [] always (to (at b (p + 1)))) (JumpsTo (at b (p + 1))) (jump-view s e) refl
 
-  pub step-exits : roleOf k ≡ exits → {x : ℕ} → x ≡ getD values (at b (p + 1)) 0 → Performs (viewOf (recordAt b p)) values memory values memory (Stops (Leaves x))
+  pub step-exits : roleOf rowOf k ≡ exits → {x : ℕ} → x ≡ getD values (at b (p + 1)) 0 → Performs (viewOf document01 (recordAt rowOf b p)) values memory values memory (Stops (Leaves x))
   step-exits e {x} q = alone (leave (at b (p + 1) ∷ [])) (Stops (Leaves x)) (leave-view s e) (ap (λ (v : ℕ). stops (exit v)) (sym q))
 
   -- a record that is no op: its role has the number 0 or 1
-  pub step-none : {e n : ℕ} → e ≡ getD kindTable k 0 → n ≡ numberOf (roleNo (roleIn e)) → n < 2 → Performs (viewOf (recordAt b p)) values memory values memory (Stops (Leaves 0))
+  pub step-none : {e n : ℕ} → e ≡ getD kindTable k 0 → n ≡ numberOf (roleNo (roleIn e)) → n < 2 → Performs (viewOf document01 (recordAt rowOf b p)) values memory values memory (Stops (Leaves 0))
   step-none {e} {n} q m h = go n m h
     where
-      go : (n : ℕ) → n ≡ numberOf (roleNo (roleIn e)) → n < 2 → Performs (viewOf (recordAt b p)) values memory values memory (Stops (Leaves 0))
+      go : (n : ℕ) → n ≡ numberOf (roleNo (roleIn e)) → n < 2 → Performs (viewOf document01 (recordAt rowOf b p)) values memory values memory (Stops (Leaves 0))
       go zero m h = alone (leave []) (Stops (Leaves 0)) (unknown-view s (role-by unknown k q m refl)) refl
       go (suc zero) m h = alone (leave []) (Stops (Leaves 0)) (declare-view s (role-by declares k q m refl)) refl
       go (suc (suc n)) m h = absurd (omega arith)

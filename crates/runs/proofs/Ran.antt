@@ -12,10 +12,11 @@ use Rattle.theory.specs.Machine.{St, Result}
 use Rattle.theory.proofs.Sets.{and-l}
 use Rattle.ops.specs.Limits.{maxMemory}
 use Rattle.ops.specs.Ops.{tcg}
+use Rattle.ops.specs.Kinds.{rowOf, document01}
 use Rattle.block.specs.Records.{recordsOf, declarations, opsFrom, classesOf, globalCount}
 use Rattle.block.specs.Scan.{Approved, Scanned, rejected, approved}
 use Rattle.block.proofs.Scanned.{refuse-by}
-use Rattle.runs.specs.Runs.{globalsFit, fits, valuesFrom, ranAs, answerOf, ranOf, opsRun, runOps, runRefused, runChecked, runOf}
+use Rattle.runs.specs.Runs.{globalsFit, fits, valuesFrom, ranAs, answerOf, ranOf, opsRun, runOps, runRefused, runChecked, runOf, runBy}
 use Rattle.runs.specs.Evaluates.{envOf}
 use Rattle.runs.specs.Steps.{stateOf, Ready, Executed, lentOk}
 use Rattle.runs.specs.declared.Ending.{Ending}
@@ -23,16 +24,16 @@ use Rattle.runs.specs.declared.Ending.the-variants.{Refused}
 
 -- the ops' run, from copies of the globals
 pub ops-ran : {b values memory values′ memory′ : List ℕ} {ending : Ending} (globals globals′ : List ℕ) → envOf values ≡ envOf globals → Executed b values memory values′ memory′ ending
-    → globals′ ≡ valuesFrom (envOf values′) 0 (length globals) → ranAs ending globals′ memory′ ≡ runOps (opsFrom (recordsOf b)) globals memory
+    → globals′ ≡ valuesFrom (envOf values′) 0 (length globals) → ranAs ending globals′ memory′ ≡ runOps document01 (opsFrom (recordsOf rowOf b)) globals memory
 unfolding runOps
 ops-ran {b} {values} {memory} {values′} {memory′} {ending} globals globals′ e x g =
-    let os = opsFrom (recordsOf b) in
-    let r : Result tcg = opsRun os (stateOf values memory) in
+    let os = opsFrom (recordsOf rowOf b) in
+    let r : Result (tcg document01) = opsRun document01 os (stateOf values memory) in
     let a : ending ≡ answerOf (r .end) (length os - length (r .left)) (r .count) = x .answers in
-    let c : globals′ ≡ valuesFrom (r .state .env) 0 (length globals) = g ∙ ap (λ (s : St tcg). valuesFrom (s .env) 0 (length globals)) (x .state-is) in
-    let m : memory′ ≡ r .state .mem = ap (λ (s : St tcg). s .mem) (x .state-is) in
+    let c : globals′ ≡ valuesFrom (r .state .env) 0 (length globals) = g ∙ ap (λ (s : St (tcg document01)). valuesFrom (s .env) 0 (length globals)) (x .state-is) in
+    let m : memory′ ≡ r .state .mem = ap (λ (s : St (tcg document01)). s .mem) (x .state-is) in
     (λ i. ranAs (a i) (c i) (m i))
-    ∙ ap (λ (f : ℕ → ℕ). ranOf (length os) (length globals) (opsRun os (record { env = f; mem = memory }))) e
+    ∙ ap (λ (f : ℕ → ℕ). ranOf document01 (length os) (length globals) (opsRun document01 os (record { env = f; mem = memory }))) e
 
 -- the globals are some of the variables
 global-few : (cs : List ℕ) → globalCount cs ≤ length cs
@@ -43,39 +44,39 @@ global-few (c ∷ cs) = go (eqb c 0) (global-few cs)
     go true h = omega arith
     go false h = omega arith
 
-module _ {b places₀ classes types places labels : List ℕ} {rule place start n globals ops : ℕ} (s : Scanned b places₀ classes types places labels rule place start n globals ops) where
+module _ {b places₀ classes types places labels : List ℕ} {rule place start n globals ops : ℕ} (s : Scanned rowOf b places₀ classes types places labels rule place start n globals ops) where
   -- a refusal
   pub refused-ran : (rule ≡ 0 → ⊥) → (lent memory : List ℕ) → ranAs (Refused rule place) lent memory ≡ runOf b lent memory
-  unfolding runOf runChecked
-  refused-ran z lent memory = ap (runChecked (recordsOf b) lent memory) (refuse-by s z)
+  unfolding runBy runChecked
+  refused-ran z lent memory = ap (runChecked document01 (recordsOf rowOf b) lent memory) (refuse-by s z)
 
   module _ (z : rule ≡ 0) where
-    approved-by : Approved b places₀ classes types places labels start n globals ops
+    approved-by : Approved rowOf b places₀ classes types places labels start n globals ops
     approved-by = go s z
       where
-        go : {rule : ℕ} → Scanned b places₀ classes types places labels rule place start n globals ops → rule ≡ 0 → Approved b places₀ classes types places labels start n globals ops
+        go : {rule : ℕ} → Scanned rowOf b places₀ classes types places labels rule place start n globals ops → rule ≡ 0 → Approved rowOf b places₀ classes types places labels start n globals ops
         go (rejected k q) e = absurd (k e)
         go (approved a) e = a
 
     pub few-lent : (globals ≤ n) × (n ≤ 256) × (length types ≡ 256)
     few-lent =
         let a = approved-by in
-        (omega (arith, a .globals-are, global-few (classesOf (declarations (recordsOf b))), ap length (a .classes-are), length-take-le n classes (omega (arith, a .few, a .long-classes))), omega (arith, a .few), a .long-types)
+        (omega (arith, a .globals-are, global-few (classesOf (declarations (recordsOf rowOf b))), ap length (a .classes-are), length-take-le n classes (omega (arith, a .few, a .long-classes))), omega (arith, a .few), a .long-types)
 
     pub ready-by : length places₀ ≡ 256 → Ready b places labels start ops
     ready-by l = record { places₀ = places₀; classes = classes; types = types; n = n; globals = globals; approved = approved-by; long-places = l }
 
     module _ (lent memory : List ℕ) {t : Bool} (e : t ≡ lentOk types n globals lent memory) where
-      fits-so : fits (declarations (recordsOf b)) lent memory ≡ lentOk types n globals lent memory
+      fits-so : fits (declarations (recordsOf rowOf b)) lent memory ≡ lentOk types n globals lent memory
       unfolding fits
       fits-so =
           ap₂ (λ (m : ℕ) (ts : List ℕ). eqb (length lent) m && globalsFit ts lent && leb (length memory) maxMemory) (sym (approved-by .globals-are)) (approved-by .types-are)
 
-      choice : runOf b lent memory ≡ cond t (runOps (opsFrom (recordsOf b)) lent memory) (runRefused 11 0 lent memory)
-      unfolding runOf runChecked
+      choice : runOf b lent memory ≡ cond t (runOps document01 (opsFrom (recordsOf rowOf b)) lent memory) (runRefused 11 0 lent memory)
+      unfolding runBy runChecked
       choice =
-          ap (runChecked (recordsOf b) lent memory) (approved-by .accepted)
-          ∙ ap (λ (x : Bool). cond x (runOps (opsFrom (recordsOf b)) lent memory) (runRefused 11 0 lent memory)) (fits-so ∙ sym e)
+          ap (runChecked document01 (recordsOf rowOf b) lent memory) (approved-by .accepted)
+          ∙ ap (λ (x : Bool). cond x (runOps document01 (opsFrom (recordsOf rowOf b)) lent memory) (runRefused 11 0 lent memory)) (fits-so ∙ sym e)
 
       -- rule 11
       pub unlent-ran : t ≡ false → ranAs (Refused 11 0) lent memory ≡ runOf b lent memory
@@ -86,5 +87,5 @@ module _ {b places₀ classes types places labels : List ℕ} {rule place start 
           let q : eqb (length lent) globals ≡ true = and-l (eqb (length lent) globals) _ (and-l (eqb (length lent) globals && globalsFit (take n types) lent) (leb (length memory) maxMemory) (sym e ∙ f)) in
           omega (arith, eqb-true (length lent) globals q, few-lent)
 
-      pub accepted-ran : t ≡ true → runOps (opsFrom (recordsOf b)) lent memory ≡ runOf b lent memory
+      pub accepted-ran : t ≡ true → runOps document01 (opsFrom (recordsOf rowOf b)) lent memory ≡ runOf b lent memory
       accepted-ran f = sym (choice ∙ rw f)

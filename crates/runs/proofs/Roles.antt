@@ -17,7 +17,8 @@ use Rattle.theory.proofs.Simulation.{isJump}
 use Rattle.ops.specs.Limits.{labelCount}
 use Rattle.ops.specs.Rows.{Role, unknown, declares, setsLabel, jumpsTo, exits, branches, loads, stores, constant, computing, roleNo, Row, roleIn, numberOf}
 use Rattle.ops.specs.Rows.{isSetting, isJumping, at, condOk, labelOk, testOk}
-use Rattle.ops.specs.Kinds.{kindTable, roleOf}
+use Rattle.ops.specs.Kinds.{kindTable, rowOf, document01}
+use Rattle.ops.specs.Rows.{roleOf}
 use Rattle.ops.specs.Ops.{kindOf, rowAt, restBy, labelBy, viewOf}
 use Rattle.ops.proofs.Entry.{Digits, digits}
 use Rattle.ops.proofs.Table.{typeAt, rowWith, row-of}
@@ -41,8 +42,8 @@ same-number : (r s : Role) → numberOf r ≡ numberOf s → r ≡ s
 same-number r s e = sym ((number-of r) .0) ∙ ap roleNo e ∙ (number-of s) .0
 
 -- the role of a kind, from the number that its entry has
-pub role-by : (r : Role) {e n : ℕ} (k : ℕ) → e ≡ getD kindTable k 0 → n ≡ numberOf (roleNo (roleIn e)) → n ≡ numberOf r → roleOf k ≡ r
-role-by r {e} k q m n = let d : Digits e k = digits q in ap (λ (row : Row). row .role) (d .row) ∙ same-number (roleNo (roleIn e)) r (sym m ∙ n)
+pub role-by : (r : Role) {e n : ℕ} (k : ℕ) → e ≡ getD kindTable k 0 → n ≡ numberOf (roleNo (roleIn e)) → n ≡ numberOf r → roleOf rowOf k ≡ r
+role-by r {e} k q m n = let d : Digits rowOf e k = digits kindTable q in ap (λ (row : Row). row .role) (d .row) ∙ same-number (roleNo (roleIn e)) r (sym m ∙ n)
 
 -- the label m, where there is one, is k
 abbrev pub named : Bool → ℕ → ℕ → Bool
@@ -53,10 +54,10 @@ named-is true m k h = (refl, eqb-true m k h)
 named-is false m k h = absurd (false≢true h)
 
 module _ (o : List ℕ) where
-  pub is-label : (k : ℕ) → isLabel k (viewOf o) ≡ named (isSetting ((rowAt o) .role)) (labelBy (rowAt o) o) k
+  pub is-label : (k : ℕ) → isLabel k (viewOf document01 o) ≡ named (isSetting ((rowAt rowOf o) .role)) (labelBy (rowAt rowOf o) o) k
   is-label k = ap (oneOf k) (label-at o)
 
-  pub is-jump : (k : ℕ) → isJump k (viewOf o) ≡ named (isJumping ((rowAt o) .role)) (labelBy (rowAt o) o) k
+  pub is-jump : (k : ℕ) → isJump k (viewOf document01 o) ≡ named (isJumping ((rowAt rowOf o) .role)) (labelBy (rowAt rowOf o) o) k
   is-jump k = ap (oneOf k) (target-at o)
 
   -- rule 6 asks that a label be below 32
@@ -71,27 +72,27 @@ module _ (o : List ℕ) where
   unfolding testOk
   second-byte t h = ltb-true (at o 4) labelCount (rw (getD-drop 3 o 1 0) at (and-r (condOk (getD (drop 3 o) 0 0)) (labelOk (getD (drop 3 o) 1 0)) h))
 
-  its-role : (r : Role) → eqb (numberOf ((rowAt o) .role)) (numberOf r) ≡ true → (rowAt o) .role ≡ r
-  its-role r h = same-number ((rowAt o) .role) r (eqb-true (numberOf ((rowAt o) .role)) (numberOf r) h)
+  its-role : (r : Role) → eqb (numberOf ((rowAt rowOf o) .role)) (numberOf r) ≡ true → (rowAt rowOf o) .role ≡ r
+  its-role r h = same-number ((rowAt rowOf o) .role) r (eqb-true (numberOf ((rowAt rowOf o) .role)) (numberOf r) h)
 
-  setting-low : isSetting ((rowAt o) .role) ≡ true → Asked (rowAt o)
+  setting-low : isSetting ((rowAt rowOf o) .role) ≡ true → Asked (rowAt rowOf o)
   setting-low h = rw (row-of setsLabel (kindOf o) (its-role setsLabel h)) (first-byte setsLabel)
 
-  jumping-low : isJumping ((rowAt o) .role) ≡ true → Asked (rowAt o)
-  jumping-low h = go (or-cases (eqb (numberOf ((rowAt o) .role)) 3) (eqb (numberOf ((rowAt o) .role)) 5) h)
+  jumping-low : isJumping ((rowAt rowOf o) .role) ≡ true → Asked (rowAt rowOf o)
+  jumping-low h = go (or-cases (eqb (numberOf ((rowAt rowOf o) .role)) 3) (eqb (numberOf ((rowAt rowOf o) .role)) 5) h)
     where
-      go : (eqb (numberOf ((rowAt o) .role)) 3 ≡ true) ⊎ (eqb (numberOf ((rowAt o) .role)) 5 ≡ true) → Asked (rowAt o)
+      go : (eqb (numberOf ((rowAt rowOf o) .role)) 3 ≡ true) ⊎ (eqb (numberOf ((rowAt rowOf o) .role)) 5 ≡ true) → Asked (rowAt rowOf o)
       go (inl e) = rw (row-of jumpsTo (kindOf o) (its-role jumpsTo e)) (first-byte jumpsTo)
       go (inr e) = rw (row-of branches (kindOf o) (its-role branches e)) (second-byte (typeAt (kindOf o)))
 
-  pub label-low : (s : Seen) → isSetting ((rowAt o) .role) ≡ true → rule6 s o ≡ true → labelBy (rowAt o) o < labelCount
+  pub label-low : (s : Seen) → isSetting ((rowAt rowOf o) .role) ≡ true → rule6 rowOf s o ≡ true → labelBy (rowAt rowOf o) o < labelCount
   unfolding rule6
   label-low s x h = setting-low x h
 
-  pub jump-low : (s : Seen) (k : ℕ) → isJump k (viewOf o) ≡ true → rule6 s o ≡ true → k < labelCount
+  pub jump-low : (s : Seen) (k : ℕ) → isJump k (viewOf document01 o) ≡ true → rule6 rowOf s o ≡ true → k < labelCount
   unfolding rule6
   jump-low s k j h =
-      let p = named-is (isJumping ((rowAt o) .role)) (labelBy (rowAt o) o) k (sym (is-jump k) ∙ j) in
+      let p = named-is (isJumping ((rowAt rowOf o) .role)) (labelBy (rowAt rowOf o) o) k (sym (is-jump k) ∙ j) in
       subst (λ (n : ℕ). n < labelCount) (p .1) (jumping-low (p .0) h)
 
 -- an op that may jump sets no label

@@ -14,7 +14,8 @@ use Rattle.theory.specs.Machine.{jumps, stops, effect, St, Result, cost, seek, 
 use Rattle.theory.specs.Sets.{empty}
 use Rattle.theory.proofs.Simulation.{isJump, Says, says}
 use Rattle.ops.specs.Rows.{outsIn, insIn, restIn}
-use Rattle.ops.specs.Kinds.{kindTable, bodyLength}
+use Rattle.ops.specs.Kinds.{kindTable, rowOf, document01}
+use Rattle.ops.specs.Rows.{bodyLength}
 use Rattle.ops.specs.Ops.{Fault, viewOf, tcg}
 use Rattle.ops.proofs.Entry.{Digits, digits}
 use Rattle.ops.proofs.Table.{body-short}
@@ -37,37 +38,37 @@ use Rattle.runs.specs.declared.Stop.the-variants.{Unstated}
 
 -- a block's ops
 abbrev pub opsOf : List ℕ → List (List ℕ)
-opsOf b = opsFrom (recordsOf b)
+opsOf b = opsFrom (recordsOf rowOf b)
 
 -- so many ops were run before
-abbrev pub sooner : ℕ → Result tcg → Result tcg
+abbrev pub sooner : ℕ → Result (tcg document01) → Result (tcg document01)
 sooner n r = record { end = r .end; state = r .state; count = n + r .count; left = r .left }
 
 -- an effect that jumps is a jump's
-effect-jumps : (w : View ℕ (List ℕ) ℕ Fault) (s : St tcg) (l : ℕ) → effect 0 w s ≡ jumps l → isJump l w ≡ true
+effect-jumps : (w : View ℕ (List ℕ) ℕ Fault) (s : St (tcg document01)) (l : ℕ) → effect 0 w s ≡ jumps l → isJump l w ≡ true
 effect-jumps w s l e = subst (Says w) e (says 0 w s)
 
 -- a record has at most ten bytes
-span-small : (b : List ℕ) (p j : ℕ) (os : List (List ℕ)) → recordsAt b p ≡ os → j ≤ length os → spanOf j os ≤ 10 * j
+span-small : (b : List ℕ) (p j : ℕ) (os : List (List ℕ)) → recordsAt rowOf b p ≡ os → j ≤ length os → spanOf j os ≤ 10 * j
 span-small b p zero os e l = omega arith
 span-small b p (suc j) [] e l = absurd (omega arith)
 span-small b p (suc j) (o ∷ os) e l =
-    let s = standing b p o os e in
-    let n : length o ≡ suc (bodyLength (getD b p 0)) = sym (ap length (s .record-here)) ∙ record-length b p (s .inside) (s .whole-here) in
-    omega (arith, n, body-short (getD b p 0), span-small b (p + suc (bodyLength (getD b p 0))) j os (s .others) (omega arith))
+    let s = standing rowOf b p o os e in
+    let n : length o ≡ suc (bodyLength rowOf (getD b p 0)) = sym (ap length (s .record-here)) ∙ record-length rowOf b p (s .inside) (s .whole-here) in
+    omega (arith, n, body-short (getD b p 0), span-small b (p + suc (bodyLength rowOf (getD b p 0))) j os (s .others) (omega arith))
 
 module _ {b places labels : List ℕ} {start ops : ℕ} (r : Ready b places labels start ops) where
-  checked : checks tcg checker (declaredIn seenFirst (declarations (recordsOf b))) (opsOf b) ≡ true
+  checked : checks (tcg document01) checker (declaredIn seenFirst (declarations (recordsOf rowOf b))) (opsOf b) ≡ true
   checked = (parts b (r .approved .accepted)) .checked
 
   pub few : length (opsOf b) ≤ 256
-  few = omega (arith, few-ops (declaredIn seenFirst (declarations (recordsOf b))) (opsOf b) checked (omega arith))
+  few = omega (arith, few-ops (declaredIn seenFirst (declarations (recordsOf rowOf b))) (opsOf b) checked (omega arith))
 
   pub count-of : ops ≡ length (opsOf b)
   count-of = r .approved .count-is
 
   -- the j-th op stands at the place that the scan kept
-  pub place-of : (j : ℕ) → j < length (opsOf b) → recordsAt b (getD places j 0) ≡ drop j (opsOf b)
+  pub place-of : (j : ℕ) → j < length (opsOf b) → recordsAt rowOf b (getD places j 0) ≡ drop j (opsOf b)
   place-of j h =
       let a = r .approved in
       let e : getD places j 0 ≡ (start + spanOf j (opsOf b)) % 65536 =
@@ -75,7 +76,7 @@ module _ {b places labels : List ℕ} {start ops : ℕ} (r : Ready b places labe
       ∙ ap (λ (n : ℕ). getD (placesFrom start 0 (r .places₀) (opsOf b)) n 0) (sym (zero-add j))
       ∙ places-at (opsOf b) start 0 (r .places₀) j h (omega (arith, few, r .long-places)) in
       let l : start + spanOf j (opsOf b) < 65536 = omega (arith, a .start-is, a .few, few, span-small b start j (opsOf b) (a .ops-are) (omega arith)) in
-      ap (recordsAt b) (e ∙ mod-eq-of-lt l) ∙ records-from b start j (opsOf b) (a .ops-are) (omega arith)
+      ap (recordsAt rowOf b) (e ∙ mod-eq-of-lt l) ∙ records-from rowOf b start j (opsOf b) (a .ops-are) (omega arith)
 
 -- op ops on, the ops that are left stand at a place; so many have been run, and the run goes on from here
 pub record Running (b values₀ memory₀ values memory : List ℕ) (op place count : ℕ) : Type 0 where
@@ -83,8 +84,8 @@ pub record Running (b values₀ memory₀ values memory : List ℕ) (op place co
   pub fuel-is : count + fuel ≡ suc (length (opsOf b))
   pub early : count ≤ op
   pub within : op ≤ length (opsOf b)
-  pub here : recordsAt b place ≡ drop op (opsOf b)
-  pub goes-on : opsRun (opsOf b) (stateOf values₀ memory₀) ≡ sooner count (run tcg (opsOf b) fuel (drop op (opsOf b)) (stateOf values memory))
+  pub here : recordsAt rowOf b place ≡ drop op (opsOf b)
+  pub goes-on : opsRun document01 (opsOf b) (stateOf values₀ memory₀) ≡ sooner count (run (tcg document01) (opsOf b) fuel (drop op (opsOf b)) (stateOf values memory))
 
 pub running-start : {b places labels : List ℕ} {start ops : ℕ} → Ready b places labels start ops → (values memory : List ℕ) → Running b values memory values memory 0 start 0
 running-start {b} r values memory =
@@ -94,10 +95,10 @@ running-start {b} r values memory =
       early = omega arith;
       within = omega arith;
       here = r .approved .ops-are;
-      goes-on = nothing-sooner (opsRun (opsOf b) (stateOf values memory));
+      goes-on = nothing-sooner (opsRun document01 (opsOf b) (stateOf values memory));
     }
   where
-    nothing-sooner : (q : Result tcg) → q ≡ sooner 0 q
+    nothing-sooner : (q : Result (tcg document01)) → q ≡ sooner 0 q
     nothing-sooner q = ap (λ (n : ℕ). record { end = q .end; state = q .state; count = n; left = q .left }) (sym (zero-add (q .count)))
 
 -- past the last op
@@ -111,11 +112,11 @@ fell-past {b} {values₀} {memory₀} {values} {memory} {op} {place} {count} {op
     go : (f : ℕ) → u .fuel ≡ f → Executed b values₀ memory₀ values memory (NoResult ops count)
     go zero q = absurd (omega (arith, u .fuel-is, u .early, u .within))
     go (suc n) q =
-        let t : opsRun (opsOf b) (stateOf values₀ memory₀) ≡ record { end = fell; state = stateOf values memory; count = count + 0; left = [] } =
-        u .goes-on ∙ ap₂ (λ (f : ℕ) (l : List (List ℕ)). sooner count (run tcg (opsOf b) f l (stateOf values memory))) q none-left in
+        let t : opsRun document01 (opsOf b) (stateOf values₀ memory₀) ≡ record { end = fell; state = stateOf values memory; count = count + 0; left = [] } =
+        u .goes-on ∙ ap₂ (λ (f : ℕ) (l : List (List ℕ)). sooner count (run (tcg document01) (opsOf b) f l (stateOf values memory))) q none-left in
         record {
-          answers = ap₂ NoResult (e ∙ sym (sub-zero (length (opsOf b)))) (sym (add-zero count)) ∙ sym (ap (λ (x : Result tcg). answerOf (x .end) (length (opsOf b) - length (x .left)) (x .count)) t);
-          state-is = sym (ap (λ (x : Result tcg). x .state) t);
+          answers = ap₂ NoResult (e ∙ sym (sub-zero (length (opsOf b)))) (sym (add-zero count)) ∙ sym (ap (λ (x : Result (tcg document01)). answerOf (x .end) (length (opsOf b) - length (x .left)) (x .count)) t);
+          state-is = sym (ap (λ (x : Result (tcg document01)). x .state) t);
         }
 
 module _ {b values₀ memory₀ values memory : List ℕ} {op place count : ℕ} (u : Running b values₀ memory₀ values memory op place count) (h : op < length (opsOf b)) where
@@ -125,18 +126,18 @@ module _ {b values₀ memory₀ values memory : List ℕ} {op place count : ℕ}
   first : drop op (opsOf b) ≡ getD (opsOf b) op [] ∷ onward
   first = drop-cons (opsOf b) op [] h
 
-  pub stood : Standing b place (getD (opsOf b) op []) (drop (suc op) (opsOf b))
-  stood = standing b place (getD (opsOf b) op []) onward (u .here ∙ first)
+  pub stood : Standing rowOf b place (getD (opsOf b) op []) (drop (suc op) (opsOf b))
+  stood = standing rowOf b place (getD (opsOf b) op []) onward (u .here ∙ first)
 
-  pub stands-at : (kind : ℕ) → kind ≡ getD b place 0 → Stands b place kind
+  pub stands-at : (kind : ℕ) → kind ≡ getD b place 0 → Stands rowOf b place kind
   stands-at kind e = record { its-kind = e; whole = rw e (stood .whole-here) }
 
   pub place-inside : place < length b
   place-inside = stood .inside
 
-  module _ {values′ memory′ : List ℕ} {o : Outcome} (p : Performs (viewOf (recordAt b place)) values memory values′ memory′ o) where
-    told : effect 0 (viewOf (getD (opsOf b) op [])) (stateOf values memory) ≡ effectOf o (stateOf values′ memory′)
-    told = ap (λ (q : List ℕ). effect 0 (viewOf q) (stateOf values memory)) (sym (stood .record-here)) ∙ sym (p .tells)
+  module _ {values′ memory′ : List ℕ} {o : Outcome} (p : Performs (viewOf document01 (recordAt rowOf b place)) values memory values′ memory′ o) where
+    told : effect 0 (viewOf document01 (getD (opsOf b) op [])) (stateOf values memory) ≡ effectOf o (stateOf values′ memory′)
+    told = ap (λ (q : List ℕ). effect 0 (viewOf document01 q) (stateOf values memory)) (sym (stood .record-here)) ∙ sym (p .tells)
 
     changed : stateOf values′ memory′ ≡ afterState (stateOf values memory) (effectOf o (stateOf values′ memory′))
     changed = p .leaves-so ∙ ap (afterState (stateOf values memory)) (sym (p .tells))
@@ -145,32 +146,32 @@ module _ {b values₀ memory₀ values memory : List ℕ} {op place count : ℕ}
     more = omega (arith, u .fuel-is, u .early)
 
     -- the run as one step and what follows it
-    turned : opsRun (opsOf b) (stateOf values₀ memory₀)
-        ≡ sooner count (after tcg (run tcg (opsOf b) (u .fuel - 1)) (drop op (opsOf b)) (stateOf values memory) (moved tcg (opsOf b) onward (stateOf values memory) (effectOf o (stateOf values′ memory′))))
+    turned : opsRun document01 (opsOf b) (stateOf values₀ memory₀)
+        ≡ sooner count (after (tcg document01) (run (tcg document01) (opsOf b) (u .fuel - 1)) (drop op (opsOf b)) (stateOf values memory) (moved (tcg document01) (opsOf b) onward (stateOf values memory) (effectOf o (stateOf values′ memory′))))
     turned =
-        u .goes-on ∙ ap (λ (f : ℕ). sooner count (run tcg (opsOf b) f (drop op (opsOf b)) (stateOf values memory))) more
-        ∙ ap (λ (l : List (List ℕ)). sooner count (run tcg (opsOf b) (suc (u .fuel - 1)) l (stateOf values memory))) first
-        ∙ ap (λ (x : Effect ℕ (List ℕ) ℕ Fault). sooner count (after tcg (run tcg (opsOf b) (u .fuel - 1)) (getD (opsOf b) op [] ∷ onward) (stateOf values memory) (moved tcg (opsOf b) onward (stateOf values memory) x))) told
-        ∙ ap (λ (l : List (List ℕ)). sooner count (after tcg (run tcg (opsOf b) (u .fuel - 1)) l (stateOf values memory) (moved tcg (opsOf b) onward (stateOf values memory) (effectOf o (stateOf values′ memory′))))) (sym first)
+        u .goes-on ∙ ap (λ (f : ℕ). sooner count (run (tcg document01) (opsOf b) f (drop op (opsOf b)) (stateOf values memory))) more
+        ∙ ap (λ (l : List (List ℕ)). sooner count (run (tcg document01) (opsOf b) (suc (u .fuel - 1)) l (stateOf values memory))) first
+        ∙ ap (λ (x : Effect ℕ (List ℕ) ℕ Fault). sooner count (after (tcg document01) (run (tcg document01) (opsOf b) (u .fuel - 1)) (getD (opsOf b) op [] ∷ onward) (stateOf values memory) (moved (tcg document01) (opsOf b) onward (stateOf values memory) x))) told
+        ∙ ap (λ (l : List (List ℕ)). sooner count (after (tcg document01) (run (tcg document01) (opsOf b) (u .fuel - 1)) l (stateOf values memory) (moved (tcg document01) (opsOf b) onward (stateOf values memory) (effectOf o (stateOf values′ memory′))))) (sym first)
 
-    counts : (q : Result tcg) → sooner count (counted tcg q) ≡ sooner (count + 1) q
+    counts : (q : Result (tcg document01)) → sooner count (counted (tcg document01) q) ≡ sooner (count + 1) q
     counts q = let e : count + suc (q .count) ≡ count + 1 + q .count = omega arith in ap (λ (n : ℕ). record { end = q .end; state = q .state; count = n; left = q .left }) e
 
     -- the op that ends the run
     pub run-stops : {e : Stop} → o ≡ Stops e → {ending : Ending} → ending ≡ answerOf (endOf e) op (count + cost (endOf e)) → Executed b values₀ memory₀ values′ memory′ ending
     run-stops {e} k a =
         let q : effectOf o (stateOf values′ memory′) ≡ stops (endOf e) = ap (λ (x : Outcome). effectOf x (stateOf values′ memory′)) k in
-        let t : opsRun (opsOf b) (stateOf values₀ memory₀) ≡ record { end = endOf e; state = stateOf values memory; count = count + cost (endOf e); left = drop op (opsOf b) } =
-        turned ∙ ap (λ (x : Effect ℕ (List ℕ) ℕ Fault). sooner count (after tcg (run tcg (opsOf b) (u .fuel - 1)) (drop op (opsOf b)) (stateOf values memory) (moved tcg (opsOf b) onward (stateOf values memory) x))) q in
+        let t : opsRun document01 (opsOf b) (stateOf values₀ memory₀) ≡ record { end = endOf e; state = stateOf values memory; count = count + cost (endOf e); left = drop op (opsOf b) } =
+        turned ∙ ap (λ (x : Effect ℕ (List ℕ) ℕ Fault). sooner count (after (tcg document01) (run (tcg document01) (opsOf b) (u .fuel - 1)) (drop op (opsOf b)) (stateOf values memory) (moved (tcg document01) (opsOf b) onward (stateOf values memory) x))) q in
         let n : op ≡ length (opsOf b) - length (drop op (opsOf b)) = omega (arith, length-drop op (opsOf b)) in
         record {
-          answers = a ∙ ap (λ (i : ℕ). answerOf (endOf e) i (count + cost (endOf e))) n ∙ sym (ap (λ (x : Result tcg). answerOf (x .end) (length (opsOf b) - length (x .left)) (x .count)) t);
-          state-is = changed ∙ ap (afterState (stateOf values memory)) q ∙ sym (ap (λ (x : Result tcg). x .state) t);
+          answers = a ∙ ap (λ (i : ℕ). answerOf (endOf e) i (count + cost (endOf e))) n ∙ sym (ap (λ (x : Result (tcg document01)). answerOf (x .end) (length (opsOf b) - length (x .left)) (x .count)) t);
+          state-is = changed ∙ ap (afterState (stateOf values memory)) q ∙ sym (ap (λ (x : Result (tcg document01)). x .state) t);
         }
 
   module _ {values′ memory′ : List ℕ} where
     -- the next op
-    pub run-falls : Performs (viewOf (recordAt b place)) values memory values′ memory′ Falls → {n : ℕ} → n ≡ bodyLength (getD b place 0)
+    pub run-falls : Performs (viewOf document01 (recordAt rowOf b place)) values memory values′ memory′ Falls → {n : ℕ} → n ≡ bodyLength rowOf (getD b place 0)
         → Running b values₀ memory₀ values′ memory′ (op + 1) (place + (1 + n)) (count + 1)
     run-falls p {n} e =
         record {
@@ -178,24 +179,24 @@ module _ {b values₀ memory₀ values memory : List ℕ} {op place count : ℕ}
           fuel-is = omega (arith, u .fuel-is, u .early);
           early = omega (arith, u .early);
           within = omega arith;
-          here = ap (recordsAt b) next-place ∙ stood .others ∙ ap (λ (i : ℕ). drop i (opsOf b)) (sym (add-one op));
+          here = ap (recordsAt rowOf b) next-place ∙ stood .others ∙ ap (λ (i : ℕ). drop i (opsOf b)) (sym (add-one op));
           goes-on =
-              turned p ∙ counts p (run tcg (opsOf b) (u .fuel - 1) onward (stateOf values′ memory′))
-              ∙ ap (λ (i : ℕ). sooner (count + 1) (run tcg (opsOf b) (u .fuel - 1) (drop i (opsOf b)) (stateOf values′ memory′))) (sym (add-one op));
+              turned p ∙ counts p (run (tcg document01) (opsOf b) (u .fuel - 1) onward (stateOf values′ memory′))
+              ∙ ap (λ (i : ℕ). sooner (count + 1) (run (tcg document01) (opsOf b) (u .fuel - 1) (drop i (opsOf b)) (stateOf values′ memory′))) (sym (add-one op));
         }
       where
-        next-place : place + (1 + n) ≡ place + suc (bodyLength (getD b place 0))
+        next-place : place + (1 + n) ≡ place + suc (bodyLength rowOf (getD b place 0))
         next-place = omega (arith, e)
 
     -- a jump
-    module _ {places labels : List ℕ} {start ops : ℕ} (r : Ready b places labels start ops) {l : ℕ} (p : Performs (viewOf (recordAt b place)) values memory values′ memory′ (JumpsTo l)) where
+    module _ {places labels : List ℕ} {start ops : ℕ} (r : Ready b places labels start ops) {l : ℕ} (p : Performs (viewOf document01 (recordAt rowOf b place)) values memory values′ memory′ (JumpsTo l)) where
       pub landing : Lands (opsOf b) l (getD labels l 0) op
       landing =
           subst (λ (x : List ℕ). Lands (opsOf b) l (getD x l 0) op) (sym (r .approved .labels-are))
-          (jump-lands (declaredIn seenFirst (declarations (recordsOf b))) (opsOf b) op l (checked r) no-labels h
-          (effect-jumps (viewOf (getD (opsOf b) op [])) (stateOf values memory) l (told p)))
+          (jump-lands (declaredIn seenFirst (declarations (recordsOf rowOf b))) (opsOf b) op l (checked r) no-labels h
+          (effect-jumps (viewOf document01 (getD (opsOf b) op [])) (stateOf values memory) l (told p)))
         where
-          no-labels : (declaredIn seenFirst (declarations (recordsOf b))) .labels ≡ empty
+          no-labels : (declaredIn seenFirst (declarations (recordsOf rowOf b))) .labels ≡ empty
           no-labels = refl
 
       pub run-jumps : Running b values₀ memory₀ values′ memory′ (getD labels l 0 - 1) (getD places (getD labels l 0 - 1) 0) (count + 1)
@@ -207,8 +208,8 @@ module _ {b values₀ memory₀ values memory : List ℕ} {op place count : ℕ}
             within = omega (arith, landing .inside);
             here = place-of r (getD labels l 0 - 1) (landing .inside);
             goes-on =
-                turned p ∙ counts p (run tcg (opsOf b) (u .fuel - 1) (seek tcg l (opsOf b)) (stateOf values memory))
-                ∙ ap₂ (λ (q : List (List ℕ)) (s : St tcg). sooner (count + 1) (run tcg (opsOf b) (u .fuel - 1) q s)) (landing .here) (sym (changed p));
+                turned p ∙ counts p (run (tcg document01) (opsOf b) (u .fuel - 1) (seek (tcg document01) l (opsOf b)) (stateOf values memory))
+                ∙ ap₂ (λ (q : List (List ℕ)) (s : St (tcg document01)). sooner (count + 1) (run (tcg document01) (opsOf b) (u .fuel - 1) q s)) (landing .here) (sym (changed p));
           }
 
 -- the same, as the loop finds it
@@ -229,13 +230,13 @@ module _ {b values₀ memory₀ values memory places labels : List ℕ} {op plac
   pub inside-now : place < length b
   inside-now = place-inside (t .running) due
 
-  pub stands-now : Stands b place (getD b place 0)
+  pub stands-now : Stands rowOf b place (getD b place 0)
   stands-now = stands-at (t .running) due (getD b place 0) refl
 
   -- the length of the op's body, from its entry
   module _ {e n : ℕ} (q : e ≡ getD kindTable (getD b place 0) 0) (h : n ≡ outsIn e + insIn e + restIn e) where
-    body : n ≡ bodyLength (getD b place 0)
-    body = let d : Digits e (getD b place 0) = digits q in h ∙ sym (d .body)
+    body : n ≡ bodyLength rowOf (getD b place 0)
+    body = let d : Digits rowOf e (getD b place 0) = digits kindTable q in h ∙ sym (d .body)
 
     pub body-now : place + (1 + n) ≤ length b
     body-now = omega (arith, body, stands-now .whole)
@@ -243,9 +244,9 @@ module _ {b values₀ memory₀ values memory places labels : List ℕ} {op plac
   pub few-now : count < 256
   few-now = omega (arith, t .running .early, due, few (t .ready))
 
-  module _ {values′ memory′ : List ℕ} {o : Outcome} (p : Performs (viewOf (recordAt b place)) values memory values′ memory′ o) where
-    so : {x : Outcome} → o ≡ x → Performs (viewOf (recordAt b place)) values memory values′ memory′ x
-    so e = subst (Performs (viewOf (recordAt b place)) values memory values′ memory′) e p
+  module _ {values′ memory′ : List ℕ} {o : Outcome} (p : Performs (viewOf document01 (recordAt rowOf b place)) values memory values′ memory′ o) where
+    so : {x : Outcome} → o ≡ x → Performs (viewOf document01 (recordAt rowOf b place)) values memory values′ memory′ x
+    so e = subst (Performs (viewOf document01 (recordAt rowOf b place)) values memory values′ memory′) e p
 
     pub stops-now : {e : Stop} → o ≡ Stops e → {ending : Ending} → ending ≡ answerOf (endOf e) op (count + cost (endOf e)) → Executed b values₀ memory₀ values′ memory′ ending
     stops-now e a = run-stops (t .running) due p e a

@@ -12,7 +12,8 @@ use Rattle.theory.specs.Machine.{reads}
 use Rattle.word.specs.Answer.{statedOf}
 use Rattle.ops.specs.Evaluate.{foldedOf}
 use Rattle.ops.specs.Rows.{Role, computing, outsIn, insIn, restIn, isComputing, at}
-use Rattle.ops.specs.Kinds.{kindTable, rowOf, operandCount, one}
+use Rattle.ops.specs.Kinds.{kindTable, rowOf, one, document01}
+use Rattle.ops.specs.Rows.{operandCount}
 use Rattle.ops.specs.Ops.{evalOf, foldableRow}
 use Rattle.ops.proofs.Entry.{Digits, digits}
 use Rattle.ops.proofs.Inputs.{folded-inputs}
@@ -29,8 +30,8 @@ module _ {b : List ℕ} {p k : ℕ} (c : Computed b p k) {e n m : ℕ} (q : e �
   folds : foldableRow (rowOf k) ≡ true
   folds = ap₂ (λ (r : Role) (outs : ℕ). isComputing r && eqb outs 1) (c .role-is) (ap length ((row-of computing k (c .role-is)) .one-out))
 
-  d : Digits e k
-  d = digits q
+  d : Digits rowOf e k
+  d = digits kindTable q
 
   pub bytes-fit : p + 1 + n + m ≤ length b
   bytes-fit = omega (arith, c .stands .whole, d .body)
@@ -40,13 +41,13 @@ module _ {b : List ℕ} {p k : ℕ} (c : Computed b p k) {e n m : ℕ} (q : e �
       → statesAt b p k (reads (envOf values) (inputsAt b p k)) ≡ valuesOf r
   evaluates values {u} {v} {x} {y} eu ev ex ey e =
       let rest = (rowOf k) .rest in
-      let bytes = take rest (drop (p + (1 + operandCount k)) b) in
+      let bytes = take rest (drop (p + (1 + operandCount rowOf k)) b) in
       let size : p + 1 + n + m - (p + 1 + n) ≡ rest = omega (arith, d .rest) in
-      let place : p + 1 + n ≡ p + (1 + operandCount k) = omega (arith, d .operands) in
+      let place : p + 1 + n ≡ p + (1 + operandCount rowOf k) = omega (arith, d .operands) in
       let same : take (p + 1 + n + m - (p + 1 + n)) (drop (p + 1 + n) b) ≡ bytes = ap₂ (λ (i j : ℕ). take i (drop j b)) size place in
       let e₁ : suc (p + 2) ≡ p + 3 = omega arith in
       let e₂ : suc (suc (p + 2)) ≡ p + 4 = omega arith in
       let e₃ : suc (suc (suc (p + 2))) ≡ p + 5 = omega arith in
-      ap (λ (s : List ℕ). evalOf k s (reads (envOf values) (inputsAt b p k))) (sym (take-take rest rest (drop (p + (1 + operandCount k)) b) (omega arith)))
+      ap (λ (s : List ℕ). evalOf document01 k s (reads (envOf values) (inputsAt b p k))) (sym (take-take rest rest (drop (p + (1 + operandCount rowOf k)) b) (omega arith)))
       ∙ folded-inputs k folds (envOf values) b bytes (p + 2)
       ∙ rw (e₃, e₂, e₁, ← eu, ← ev, ← ex, ← ey, ← same) (one-stated (foldedOf k (take (p + 1 + n + m - (p + 1 + n)) (drop (p + 1 + n) b)) u v x y) ∙ ap valuesOf (sym e))

@@ -5,7 +5,8 @@ use mathlib.Core.List.{List, [], _∷_}
 use Prim.Native.Nat.{ℕ, _+_}
 use lib.ListN.{length, getD, take, drop}
 use Rattle.ops.specs.Rows.{computing}
-use Rattle.ops.specs.Kinds.{rowOf, roleOf, operandCount}
+use Rattle.ops.specs.Kinds.{rowOf, document01}
+use Rattle.ops.specs.Rows.{roleOf, operandCount}
 use Rattle.ops.specs.Ops.{bytesAt, evalOf}
 use Rattle.block.specs.Scan.{Stands}
 use Rattle.word.specs.declared.Stated.{Stated}
@@ -13,15 +14,15 @@ use Rattle.word.specs.declared.Stated.the-variants.{Value, NoResult}
 
 -- a pure op that reads something stands at the place
 pub record Computed (block : List ℕ) (place kind : ℕ) : Type 0 where
-  pub stands : Stands block place kind
-  pub role-is : roleOf kind ≡ computing
+  pub stands : Stands rowOf block place kind
+  pub role-is : roleOf rowOf kind ≡ computing
 
 -- its inputs, and what it states of their values
 abbrev pub inputsAt : List ℕ → ℕ → ℕ → List ℕ
 inputsAt block place kind = bytesAt block (place + 2) (length ((rowOf kind) .ins))
 
 abbrev pub statesAt : List ℕ → ℕ → ℕ → List ℕ → Option (List ℕ)
-statesAt block place kind = evalOf kind (take ((rowOf kind) .rest) (drop (place + (1 + operandCount kind)) block))
+statesAt block place kind = evalOf document01 kind (take ((rowOf kind) .rest) (drop (place + (1 + operandCount rowOf kind)) block))
 
 abbrev pub valuesOf : Stated → Option (List ℕ)
 valuesOf (Value x) = some (x ∷ [])

@@ -13,7 +13,8 @@ use Rattle.memory.specs.Answer.{accessWidth}
 use Rattle.memory.specs.Bytes.{lowFirst}
 use Rattle.ops.specs.Limits.{maxOps, maxMemory}
 use Rattle.ops.specs.Rows.{at}
-use Rattle.ops.specs.Ops.{atTypes, Fault, faultOf, afterLoad, afterStore, tcg}
+use Rattle.ops.specs.Ops.{atTypes, Fault, faultOf, tcg}
+use Rattle.ops.specs.Kinds.{afterLoad, afterStore, rowOf, document01}
 use Rattle.block.specs.Records.{recordsOf, opsFrom}
 use Rattle.block.specs.Scan.{Approved}
 use Rattle.runs.specs.Evaluates.{envOf}
@@ -25,7 +26,7 @@ use Rattle.runs.specs.declared.Stop.{Stop}
 use Rattle.runs.specs.declared.Stop.the-variants.{Leaves, Faults, Unstated}
 
 -- the machine's state, from the values of the variables and the memory
-abbrev pub stateOf : List ℕ → List ℕ → St tcg
+abbrev pub stateOf : List ℕ → List ℕ → St (tcg document01)
 stateOf values memory = record { env = envOf values; mem = memory }
 
 -- how a run ends, and the effect that an outcome tells, with the state that an op leaves to the next
@@ -34,13 +35,13 @@ endOf (Leaves v) = exit v
 endOf (Faults store address flags) = fault (faultOf store address flags)
 endOf Unstated = unstated
 
-abbrev pub effectOf : Outcome → St tcg → Effect ℕ (List ℕ) ℕ Fault
+abbrev pub effectOf : Outcome → St (tcg document01) → Effect ℕ (List ℕ) ℕ Fault
 effectOf Falls t = falls t
 effectOf (JumpsTo l) t = jumps l
 effectOf (Stops e) t = stops (endOf e)
 
 -- the state after an effect: only an op that leaves one to the next changes it
-abbrev pub afterState : St tcg → Effect ℕ (List ℕ) ℕ Fault → St tcg
+abbrev pub afterState : St (tcg document01) → Effect ℕ (List ℕ) ℕ Fault → St (tcg document01)
 afterState s (falls t) = t
 afterState s (jumps l) = s
 afterState s (stops e) = s
@@ -61,16 +62,16 @@ pub record Ready (block places labels : List ℕ) (start ops : ℕ) : Type 0 whe
   pub types : List ℕ
   pub n : ℕ
   pub globals : ℕ
-  pub approved : Approved block places₀ classes types places labels start n globals ops
+  pub approved : Approved rowOf block places₀ classes types places labels start n globals ops
   pub long-places : length places₀ ≡ maxOps
 
 -- the run of a block's ops from these values and this memory: the answer, and what is left in both
 pub record Executed (block values memory values′ memory′ : List ℕ) (ending : Ending) : Type 0 where
   pub answers :
-      let ops = opsFrom (recordsOf block) in
-      let r = opsRun ops (stateOf values memory) in
+      let ops = opsFrom (recordsOf rowOf block) in
+      let r = opsRun document01 ops (stateOf values memory) in
       ending ≡ answerOf (r .end) (length ops - length (r .left)) (r .count)
-  pub state-is : stateOf values′ memory′ ≡ (opsRun (opsFrom (recordsOf block)) (stateOf values memory)) .state
+  pub state-is : stateOf values′ memory′ ≡ (opsRun document01 (opsFrom (recordsOf rowOf block)) (stateOf values memory)) .state
 
 -- rule 11, where n variables have these types and so many of them are globals
 abbrev pub lentOk : List ℕ → ℕ → ℕ → List ℕ → List ℕ → Bool

@@ -3,7 +3,7 @@ ghost use mathlib.Core.Path.{_≡_};
 ghost use mathlib.Core.List.{[]};
 ghost use Prim.Native.Nat.{_<_};
 ghost use lib.ListN.{length, getD};
-ghost use Rattle.ops.specs.Kinds.{kindTable};
+ghost use Rattle.ops.specs.Kinds.{kindTable, rowOf};
 ghost use Rattle.block.specs.Checks.{firstBroken, opRules};
 ghost use Rattle.block.specs.Scan.{recordAt, recordRule, seenOf, Stands, OpAt, RecordAt, Marks, Begins, ScannedBy, Scanned};
 use declarations::scan_declarations;
@@ -39,8 +39,8 @@ fn op_rule(
     written: &[u8; 256],
     labels: &[u16; 256],
 ) -> u8
-    requires { ⌜ OpAt (now block) (now classes) (now types) at n × (e ≡ getD kindTable (getD (now block) at 0) 0) ⌝ }
-    ensures { λ r. ⌜ r ≡ firstBroken (opRules (seenOf (now (classes .entry)) (now (types .entry)) (now (written .entry)) (now (labels .entry)) [] n ops 0) (recordAt (now (block .entry)) at)) ⌝ }
+    requires { ⌜ OpAt rowOf (now block) (now classes) (now types) at n × (e ≡ getD kindTable (getD (now block) at 0) 0) ⌝ }
+    ensures { λ r. ⌜ r ≡ firstBroken (opRules rowOf (seenOf (now (classes .entry)) (now (types .entry)) (now (written .entry)) (now (labels .entry)) [] n ops 0) (recordAt rowOf (now (block .entry)) at)) ⌝ }
 {
     if MAX_OPS <= ops {
         return 9;
@@ -77,7 +77,7 @@ fn record_rule(
     labels: &[u16; 256],
 ) -> u8
     requires { ⌜ RecordAt (now block) (now classes) (now types) at n ops × (e ≡ getD kindTable (getD (now block) at 0) 0) ⌝ }
-    ensures { λ r. ⌜ r ≡ recordRule (seenOf (now (classes .entry)) (now (types .entry)) (now (written .entry)) (now (labels .entry)) [] n ops 0) (now (block .entry)) at ⌝ }
+    ensures { λ r. ⌜ r ≡ recordRule rowOf (seenOf (now (classes .entry)) (now (types .entry)) (now (written .entry)) (now (labels .entry)) [] n ops 0) (now (block .entry)) at ⌝ }
 {
     if !is_known(e) {
         return 2;
@@ -101,8 +101,8 @@ fn mark_op(
     labels: &mut [u16; 256],
     targets: &mut [u8; 256],
 )
-    requires { ⌜ Stands (now block) at (getD (now block) at 0) × (op < 1024) × (e ≡ getD kindTable (getD (now block) at 0) 0) ⌝ }
-    ensures { λ r. ⌜ Marks (recordAt (now (block .entry)) at) op (now (written .entry)) (now (written .exit)) (now (labels .entry)) (now (labels .exit)) (now (targets .entry)) (now (targets .exit)) ⌝ }
+    requires { ⌜ Stands rowOf (now block) at (getD (now block) at 0) × (op < 1024) × (e ≡ getD kindTable (getD (now block) at 0) 0) ⌝ }
+    ensures { λ r. ⌜ Marks rowOf (recordAt rowOf (now (block .entry)) at) op (now (written .entry)) (now (written .exit)) (now (labels .entry)) (now (labels .exit)) (now (targets .entry)) (now (targets .exit)) ⌝ }
 {
     mark_written(e, block, at, written);
     mark_label(e, block, at, op, labels);
@@ -127,8 +127,8 @@ pub fn scan_ops(
     places: &mut [u16; 256],
     labels: &mut [u16; 256],
 ) -> Ops
-    requires { ⌜ Begins (now block) (now classes) (now types) start n × (now kinds ≡ kindTable) ⌝ }
-    ensures { λ r. ⌜ ScannedBy (now (block .entry)) start (now (places .entry)) (now (places .exit)) (now (labels .exit)) (r .rule) (r .place) (r .ops) ⌝ }
+    requires { ⌜ Begins rowOf (now block) (now classes) (now types) start n × (now kinds ≡ kindTable) ⌝ }
+    ensures { λ r. ⌜ ScannedBy rowOf (now (block .entry)) start (now (places .entry)) (now (places .exit)) (now (labels .exit)) (r .rule) (r .place) (r .ops) ⌝ }
 {
     let mut written = [0u8; 256];
     let mut targets = [0u8; 256];
@@ -195,7 +195,7 @@ pub fn scan(
     labels: &mut [u16; 256],
 ) -> Found
     requires { ⌜ (length (now classes) ≡ 256) × (length (now types) ≡ 256) × (now kinds ≡ kindTable) ⌝ }
-    ensures { λ r. ⌜ Scanned (now (block .entry)) (now (places .entry)) (now (classes .exit)) (now (types .exit)) (now (places .exit)) (now (labels .exit)) (r .rule) (r .place) (r .start) (r .variables) (r .globals) (r .ops) ⌝ }
+    ensures { λ r. ⌜ Scanned rowOf (now (block .entry)) (now (places .entry)) (now (classes .exit)) (now (types .exit)) (now (places .exit)) (now (labels .exit)) (r .rule) (r .place) (r .start) (r .variables) (r .globals) (r .ops) ⌝ }
 {
     let d = scan_declarations(block, classes, types);
     let start = d.place;

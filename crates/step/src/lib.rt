@@ -5,7 +5,7 @@ ghost use lib.ListN.{length, getD};
 ghost use Rattle.word.specs.Condition.{condW};
 ghost use Rattle.memory.specs.Answer.{accessWidth};
 ghost use Rattle.ops.specs.Ops.{viewOf};
-ghost use Rattle.ops.specs.Kinds.{kindTable};
+ghost use Rattle.ops.specs.Kinds.{kindTable, rowOf, document01};
 ghost use Rattle.block.specs.Scan.{recordAt, Stands};
 ghost use Rattle.runs.specs.Evaluates.{Computed};
 ghost use Rattle.runs.specs.Steps.{Performs, PerformsAlone, branchOp, loadOp, storeOp, constantOp};
@@ -100,7 +100,7 @@ fn constant_step(block: &[u8], at: usize, values: &mut [u64; 256]) -> Outcome
 // A pure op that reads something: d, its inputs, and for some the condition.
 fn compute_step(e: u32, block: &[u8], at: usize, kind: u8, values: &mut [u64; 256]) -> Outcome
     requires { ⌜ Computed (now block) at kind × (e ≡ getD kindTable kind 0) ⌝ }
-    ensures { λ r. ⌜ PerformsAlone (viewOf (recordAt (now (block .entry)) at)) (now (values .entry)) (now (values .exit)) r ⌝ }
+    ensures { λ r. ⌜ PerformsAlone (viewOf document01 (recordAt rowOf (now (block .entry)) at)) (now (values .entry)) (now (values .exit)) r ⌝ }
 {
     let stated = evaluate(e, block, at, kind, values);
     match stated {
@@ -121,8 +121,8 @@ pub fn step(
     values: &mut [u64; 256],
     memory: &mut [u8],
 ) -> Outcome
-    requires { ⌜ Stands (now block) at kind × (e ≡ getD kindTable kind 0) ⌝ }
-    ensures { λ r. ⌜ Performs (viewOf (recordAt (now (block .entry)) at)) (now (values .entry)) (now (memory .entry)) (now (values .exit)) (now (memory .exit)) r ⌝ }
+    requires { ⌜ Stands rowOf (now block) at kind × (e ≡ getD kindTable kind 0) ⌝ }
+    ensures { λ r. ⌜ Performs (viewOf document01 (recordAt rowOf (now (block .entry)) at)) (now (values .entry)) (now (memory .entry)) (now (values .exit)) (now (memory .exit)) r ⌝ }
 {
     match role(e) {
         9 => compute_step(e, block, at, kind, values),

@@ -9,9 +9,10 @@ use Rattle.block.specs.Scan.{Declaring}
 use Rattle.block.proofs.Declaring.{declaring-few, declaring-start, short-by, ended-by, stopped-by, Here, refused-by, again-global, again-other}
 use Rattle.declarations.proofs.scan_declarations.Statement.{statement}
 use Rattle.declarations.proofs.scan_declarations.Tie as tie
+use Rattle.ops.specs.Kinds.{rowOf}
 
 abbrev Inv-loop : tie.InvT-loop
-Inv-loop block classes₀ types₀ n₀ globals₀ at₀ classes types n globals at = (at ≤ length block) × Declaring block classes types at n globals
+Inv-loop block classes₀ types₀ n₀ globals₀ at₀ classes types n globals at = (at ≤ length block) × Declaring rowOf block classes types at n globals
 
 abbrev μ-loop : tie.MeasureT-loop
 μ-loop block classes₀ types₀ n₀ globals₀ at₀ classes types n globals at = length block - at

@@ -7,9 +7,10 @@ use Rattle.passes.proofs.Bytes.{foldable-op, Storing, storing-start, emittable-
 use Rattle.passes.proofs.Emitting.{place-inside}
 use Rattle.emit.proofs.emit_ops.Statement.{statement}
 use Rattle.emit.proofs.emit_ops.Tie as tie
+use Rattle.ops.specs.Kinds.{rowOf}
 
 abbrev Inv-loop : tie.InvT-loop
-Inv-loop kinds block ops places folded values keep out₀ to op₀ p₀ out op p = (op ≤ ops) × Storing block folded values keep out₀ out (opsFrom (recordsOf block)) to op p
+Inv-loop kinds block ops places folded values keep out₀ to op₀ p₀ out op p = (op ≤ ops) × Storing block folded values keep out₀ out (opsFrom (recordsOf rowOf block)) to op p
 
 abbrev μ-loop : tie.MeasureT-loop
 μ-loop kinds block ops places folded values keep out₀ to op₀ p₀ out op p = ops - op

@@ -8,9 +8,10 @@ use Rattle.passes.proofs.Bytes.{foldable-op, Sizing, sizing-start, sizing-step,
 use Rattle.passes.proofs.Emitting.{place-inside, size-is, size-small}
 use Rattle.emit.proofs.kept_size.Statement.{statement}
 use Rattle.emit.proofs.kept_size.Tie as tie
+use Rattle.ops.specs.Kinds.{rowOf}
 
 abbrev Inv-loop : tie.InvT-loop
-Inv-loop kinds block ops places folded keep i₀ size₀ i size = (i ≤ ops) × (size ≤ i * 10) × Sizing block folded keep (opsFrom (recordsOf block)) i size
+Inv-loop kinds block ops places folded keep i₀ size₀ i size = (i ≤ ops) × (size ≤ i * 10) × Sizing block folded keep (opsFrom (recordsOf rowOf block)) i size
 
 abbrev μ-loop : tie.MeasureT-loop
 μ-loop kinds block ops places folded keep i₀ size₀ i size = ops - i

@@ -8,9 +8,10 @@ use Rattle.passes.proofs.Bytes.{this-op}
 use Rattle.passes.proofs.Forward.{FoldingSo, folding-start, folding-step, folding-ends}
 use Rattle.fold.proofs.fold.Statement.{statement}
 use Rattle.fold.proofs.fold.Tie as tie
+use Rattle.ops.specs.Kinds.{rowOf}
 
 abbrev Inv-loop : tie.InvT-loop
-Inv-loop kinds block ops places folded₀ consts₀ known₀ values₀ i₀ folded consts known values i = (i ≤ ops) × FoldingSo block folded consts known values (opsFrom (recordsOf block)) i
+Inv-loop kinds block ops places folded₀ consts₀ known₀ values₀ i₀ folded consts known values i = (i ≤ ops) × FoldingSo block folded consts known values (opsFrom (recordsOf rowOf block)) i
 
 abbrev μ-loop : tie.MeasureT-loop
 μ-loop kinds block ops places folded₀ consts₀ known₀ values₀ i₀ folded consts known values i = ops - i

@@ -3,7 +3,8 @@ use mathlib.Core.Path.{_≡_}
 use native.Mathlib.Omega.{arith}
 use lib.ListN.{getD}
 use Rattle.ops.specs.Rows.{constant}
-use Rattle.ops.specs.Kinds.{roleOf}
+use Rattle.ops.specs.Rows.{roleOf}
+use Rattle.ops.specs.Kinds.{rowOf}
 use Rattle.block.proofs.Views.{inside}
 use Rattle.passes.proofs.Before.{operands-inside}
 use Rattle.passes.proofs.Knowing.{is-constant, over-constant, over-end, over-others}
@@ -12,7 +13,7 @@ use Rattle.fold.proofs.pass_over.Statement.{statement}
 use Rattle.fold.proofs.pass_over.Tie as tie
 
 -- past the first test
-constant-so : (r : tie.After-role) → r .role .result ≡ 8 → (let a = r .before .before .args in roleOf (getD (a .block .now) (a .at) 0) ≡ constant)
+constant-so : (r : tie.After-role) → r .role .result ≡ 8 → (let a = r .before .before .args in roleOf rowOf (getD (a .block .now) (a .at) 0) ≡ constant)
 constant-so r h = let start = r .before .before in is-constant (start .pre .0) (start .pre .1) (r .role .ensures) (start .args .known .now) (start .args .values .now) h
 
 role-requires : tie.Need-role-requires

@@ -10,9 +10,10 @@ use Rattle.passes.proofs.Emitting.{place-inside}
 use Rattle.passes.proofs.Pruning.{Pruning, pruning-start, pruning-back, pruning-ends}
 use Rattle.prune.proofs.prune.Statement.{statement}
 use Rattle.prune.proofs.prune.Tie as tie
+use Rattle.ops.specs.Kinds.{rowOf}
 
 abbrev Inv-loop : tie.InvT-loop
-Inv-loop kinds block ops places folded classes n keep₀ live₀ i₀ keep live i = (i ≤ ops) × Pruning block folded (take n classes) keep live (opsFrom (recordsOf block)) i
+Inv-loop kinds block ops places folded classes n keep₀ live₀ i₀ keep live i = (i ≤ ops) × Pruning block folded (take n classes) keep live (opsFrom (recordsOf rowOf block)) i
 
 abbrev μ-loop : tie.MeasureT-loop
 μ-loop kinds block ops places folded classes n keep₀ live₀ i₀ keep live i = i

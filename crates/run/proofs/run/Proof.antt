@@ -9,6 +9,7 @@ use Rattle.runs.specs.Runs.{runOps, runOf}
 use Rattle.runs.proofs.Ran.{refused-ran, few-lent, ready-by, unlent-ran, lent-few, accepted-ran}
 use Rattle.run.proofs.run.Statement.{statement}
 use Rattle.run.proofs.run.Tie as tie
+use Rattle.ops.specs.Kinds.{rowOf, document01}
 
 table-requires : tie.Need-table-requires
 table-requires c κs = tt
@@ -46,7 +47,7 @@ few-globals c =
 
 runs-ops : (c : tie.Else2) →
     let args = c .before .before .before .before .before .before .before .before .before .before .before .before .before .before .before .before .args in
-    runOps (opsFrom (recordsOf (args .block .now))) (args .globals .now) (args .memory .now) ≡ runOf (args .block .now) (args .globals .now) (args .memory .now)
+    runOps document01 (opsFrom (recordsOf rowOf (args .block .now))) (args .globals .now) (args .memory .now) ≡ runOf (args .block .now) (args .globals .now) (args .memory .now)
 runs-ops c =
     let args = c .before .before .before .before .before .before .before .before .before .before .before .before .before .before .before .before .args in
     let scan = c .before .before .before .before .before .before .scan .ensures in

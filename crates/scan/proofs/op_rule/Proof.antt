@@ -8,6 +8,7 @@ use Rattle.block.proofs.OpRules.{Op, Met9, Met4, Met5, Met6, Met7, is-9, is-4, 
 use Rattle.block.proofs.OpRules.{below-by, match-by, rest-by, free-by, reads-inside, reads-by}
 use Rattle.scan.proofs.op_rule.Statement.{statement}
 use Rattle.scan.proofs.op_rule.Tie as tie
+use Rattle.ops.specs.Kinds.{rowOf, kindTable}
 
 -- the op, and the way back to the call that counts its variables
 abbrev op : tie.Start → Op
@@ -39,35 +40,35 @@ abbrev count-5 : tie.Else5 → tie.After-operand-count
 count-5 c = count-4 (c .before .before)
 
 -- what the tests have shown, once each is passed
-met-9 : (c : tie.Else1) → Met9 (op (c .before .before))
-met-9 c = record { stands = c .before .before .pre .0; few = c .if1 .left; digits = digits (c .before .before .pre .1) }
+met-9 : (c : tie.Else1) → Met9 rowOf (op (c .before .before))
+met-9 c = record { stands = c .before .before .pre .0; few = c .if1 .left; digits = digits kindTable (c .before .before .pre .1) }
 
-counted : (k : tie.After-operand-count) → Counted (op (start k)) (k .operand-count .result)
+counted : (k : tie.After-operand-count) → Counted rowOf (op (start k)) (k .operand-count .result)
 counted k = record { met = met-9 (k .before); counted = k .operand-count .ensures }
 
-met-4 : (c : tie.Else2) → Met4 (op (start (count-2 c)))
+met-4 : (c : tie.Else2) → Met4 rowOf (op (start (count-2 c)))
 met-4 c = record {
   before = counted (count-2 c) .met;
   test = below-by (counted (count-2 c)) (c .before .all-below .ensures) (not-false _ (c .if2 .left));
 }
 
-met-5 : (c : tie.Else3) → Met5 (op (start (count-3 c)))
+met-5 : (c : tie.Else3) → Met5 rowOf (op (start (count-3 c)))
 met-5 c = record {
   before = met-4 (c .before .before .before);
   test = match-by (counted (count-3 c)) (c .before .before .types .ensures) (c .before .types-match .ensures) (not-false _ (c .if3 .left));
 }
 
-met-6 : (c : tie.Else4) → Met6 (op (start (count-4 c)))
+met-6 : (c : tie.Else4) → Met6 rowOf (op (start (count-4 c)))
 met-6 c = record {
   before = met-5 (c .before .before);
   test = rest-by (counted (count-4 c)) (c .before .rest-ok .ensures) (not-false _ (c .if4 .left));
 }
 
-met-7 : (c : tie.Else5) → Met7 (op (start (count-5 c)))
+met-7 : (c : tie.Else5) → Met7 rowOf (op (start (count-5 c)))
 met-7 c = record { before = met-6 (c .before .before); test = free-by (counted (count-5 c)) (c .before .label-free .ensures) (not-false _ (c .if5 .left)) }
 
 returns : tie.Need-returns
-returns c = is-9 (op (c .before .before)) (c .if1 .taken)
+returns c = is-9 rowOf (op (c .before .before)) (c .if1 .taken)
 
 operand-count-requires : tie.Need-operand-count-requires
 operand-count-requires c κs = search needs
@@ -81,7 +82,7 @@ all-below-requires c κs = count-inside (counted c)
 returns-2 : tie.Need-returns-2
 returns-2 c =
     let k = counted (c .before .before) in
-    is-4 (k .met) (below-by k (c .before .all-below .ensures) (not-true _ (c .if2 .taken)))
+    is-4 rowOf (k .met) (below-by k (c .before .all-below .ensures) (not-true _ (c .if2 .taken)))
 
 add-types-match : tie.Need-add-types-match
 add-types-match c = search needs
@@ -95,7 +96,7 @@ types-match-requires c κs = count-inside (counted (count-2 (c .before)))
 returns-3 : tie.Need-returns-3
 returns-3 c =
     let m = c .before .before .before in
-    is-5 (met-4 m) (match-by (counted (count-2 m)) (c .before .before .types .ensures) (c .before .types-match .ensures) (not-true _ (c .if3 .taken)))
+    is-5 rowOf (met-4 m) (match-by (counted (count-2 m)) (c .before .before .types .ensures) (c .before .types-match .ensures) (not-true _ (c .if3 .taken)))
 
 add-rest-ok : tie.Need-add-rest-ok
 add-rest-ok c = search needs
@@ -109,13 +110,13 @@ rest-ok-requires c κs = (rest-inside (counted (count-3 c)), asks-few _ (start (
 returns-4 : tie.Need-returns-4
 returns-4 c =
     let m = c .before .before in
-    is-6 (met-5 m) (rest-by (counted (count-3 m)) (c .before .rest-ok .ensures) (not-true _ (c .if4 .taken)))
+    is-6 rowOf (met-5 m) (rest-by (counted (count-3 m)) (c .before .rest-ok .ensures) (not-true _ (c .if4 .taken)))
 
 label-free-requires : tie.Need-label-free-requires
 label-free-requires c κs = omega (arith, rest-inside (counted (count-4 c)), counted (count-4 c) .counted)
 
 returns-5 : tie.Need-returns-5
-returns-5 c = is-7 (met-6 (c .before .before)) (free-by (counted (count-4 (c .before .before))) (c .before .label-free .ensures) (not-true _ (c .if5 .taken)))
+returns-5 c = is-7 rowOf (met-6 (c .before .before)) (free-by (counted (count-4 (c .before .before))) (c .before .label-free .ensures) (not-true _ (c .if5 .taken)))
 
 add-may-read : tie.Need-add-may-read
 add-may-read c = search needs
@@ -135,12 +136,12 @@ may-read-requires c κs = reads-inside (counted (count-5 (c .before .before))) (
 returns-6 : tie.Need-returns-6
 returns-6 c =
     let m = c .before .before .before .before in
-    is-8 (met-7 m) (reads-by (counted (count-5 m)) (c .before .before .before .outs .ensures) (c .before .before .ins .ensures) (c .before .may-read .ensures) (not-true _ (c .if6 .taken)))
+    is-8 rowOf (met-7 m) (reads-by (counted (count-5 m)) (c .before .before .before .outs .ensures) (c .before .before .ins .ensures) (c .before .may-read .ensures) (not-true _ (c .if6 .taken)))
 
 returns-7 : tie.Need-returns-7
 returns-7 c =
     let m = c .before .before .before .before in
-    is-0 (met-7 m) (reads-by (counted (count-5 m)) (c .before .before .before .outs .ensures) (c .before .before .ins .ensures) (c .before .may-read .ensures) (not-false _ (c .if6 .left)))
+    is-0 rowOf (met-7 m) (reads-by (counted (count-5 m)) (c .before .before .before .outs .ensures) (c .before .before .ins .ensures) (c .before .may-read .ensures) (not-false _ (c .if6 .left)))
 
 pub op-rule-spec : {M : Type 1} → statement M
 op-rule-spec =

@@ -6,7 +6,8 @@ use native.Mathlib.Omega.{arith}
 use lib.ListN.{length, getD}
 use borrow.Author.Tests.{not-true, not-false}
 use borrow.Author.Needs.{needs}
-use Rattle.ops.specs.Kinds.{kindTable, bodyLength}
+use Rattle.ops.specs.Kinds.{kindTable, rowOf}
+use Rattle.ops.specs.Rows.{bodyLength}
 use Rattle.ops.proofs.Entry.{digits}
 use Rattle.block.proofs.Scanning.{Scanning, scanning-10, scanning-7, scanning-0, Sound, refused-at, sound-at, few-ops-here, whole-op, stands-at}
 use Rattle.block.proofs.Scanning.{again-at, record-asked, begins-start, begins-inside}
@@ -15,7 +16,7 @@ use Rattle.scan.proofs.scan_ops.Tie as tie
 
 abbrev Inv-loop : tie.InvT-loop
 Inv-loop kinds block start n classes types places₀ labels₀ written₀ targets₀ at₀ ops₀ last₀ places labels written targets at ops last =
-    (at ≤ length block) × Scanning block start places₀ classes types written labels targets places n at ops last
+    (at ≤ length block) × Scanning rowOf block start places₀ classes types written labels targets places n at ops last
 
 abbrev μ-loop : tie.MeasureT-loop
 μ-loop kinds block start n classes types places₀ labels₀ written₀ targets₀ at₀ ops₀ last₀ places labels written targets at ops last =
@@ -48,8 +49,8 @@ marked : (c : tie.After-mark-op Inv-loop μ-loop) → Sound (turn (called (passe
 marked c = sound (passed c)
 
 sizes : (c : tie.After-body-length Inv-loop μ-loop)
-    → let l = turn (called (passed (c .before) .before)) .before in c .body-length .result ≡ bodyLength (getD (l .before .before .before .args .block .now) (l .loop .at) 0)
-sizes c = c .body-length .ensures ∙ sym (digits (entered (called (passed (c .before) .before))) .body)
+    → let l = turn (called (passed (c .before) .before)) .before in c .body-length .result ≡ bodyLength rowOf (getD (l .before .before .before .args .block .now) (l .loop .at) 0)
+sizes c = c .body-length .ensures ∙ sym (digits kindTable (entered (called (passed (c .before) .before))) .body)
 
 shared-slice-read-kind : tie.Need-shared-slice-read-kind Inv-loop μ-loop
 shared-slice-read-kind c = search needs
