@@ -11,11 +11,10 @@ use borrow.Author.Tests.{ltb-true, eq-eqb, ne-eqb}
 use native.Mathlib.Numerals.{add-one}
 use Rattle.theory.specs.Prune.{before}
 use Rattle.theory.proofs.Sets.{and-l, and-r}
-use Rattle.ops.specs.Rows.{roleNo, typesOf, at, tableOf}
-use Rattle.ops.specs.Kinds.{kindTable, rowOf}
+use Rattle.ops.specs.Rows.{isKnown, at, Table}
 use Rattle.ops.specs.Rows.{known, bodyLength}
 use Rattle.ops.specs.Ops.{kindOf}
-use Rattle.block.specs.Checks.{asks, firstBroken, answer, checkOf}
+use Rattle.block.specs.Checks.{asks, firstBroken, answer, checkBy}
 use Rattle.block.specs.Records.{Cut, cons, cutOf, recordsOf, isDeclaration, classOf, typeOf, classesOf, declaredTypes, globalCount}
 use Rattle.block.specs.Rules.{Seen}
 use Rattle.block.specs.Scan.{Stands, declarationOk, DeclaredBy, refuses, reads-on}
@@ -25,6 +24,7 @@ use Rattle.block.proofs.Steps.{cut-record, at-short, at-record, at-star
 use Rattle.block.specs.Rules.{allGlobal, rule3, declared, next}
 use Rattle.block.specs.Scan.{recordAt, checkAt, declaredSeen, Declaring}
 use Rattle.block.specs.declared.Verdict.the-variants.{Refused}
+use Rattle.ops.proofs.Lawful.{LawfulTable}
 
 -- the globals come first: all are globals exactly when as many are as there are variables
 count-all : (cs : List ℕ) → eqb (globalCount cs) (length cs) ≡ allGlobal cs
@@ -64,14 +64,14 @@ count-small (c ∷ cs) = go (eqb c 0) (count-small cs)
     go false h = omega arith
 
 -- no more globals than variables
-pub declaring-few : {b classes types : List ℕ} {p n globals : ℕ} → Declaring rowOf b classes types p n globals → globals ≤ n
+pub declaring-few : {T : Table} {b classes types : List ℕ} {p n globals : ℕ} → Declaring T b classes types p n globals → globals ≤ n
 declaring-few {b} {classes} {types} {p} {n} d = omega (arith, d .globals-are, count-small (take n classes), length-take-le n classes (omega (arith, d .few, d .long-classes)))
 
-pub declaring-start : (b classes types : List ℕ) → length classes ≡ 256 → length types ≡ 256 → Declaring rowOf b classes types 0 0 0
-declaring-start b classes types lc lt =
+pub declaring-start : (T : Table) (b classes types : List ℕ) → length classes ≡ 256 → length types ≡ 256 → Declaring T b classes types 0 0 0
+declaring-start T b classes types lc lt =
     record {
       before = [];
-      goes-on = sym (at-start rowOf b);
+      goes-on = sym (at-start T b);
       records-are = refl;
       all-declared = tt;
       classes-are = refl;
@@ -84,38 +84,30 @@ declaring-start b classes types lc lt =
       long-types = lt;
     }
 
-declares : bodyLength rowOf 0x01 ≡ 2
-unfolding tableOf kindTable roleNo typesOf
-declares = refl
+module _ {T : Table} (law : LawfulTable T) {b classes types : List ℕ} {p n globals : ℕ} (d : Declaring T b classes types p n globals) (h : p < length b) (k : getD b p 0 ≡ 1) where
+  body : bodyLength T (getD b p 0) ≡ 2
+  body = ap (bodyLength T) k ∙ law .declared-body
 
-declares-known : known rowOf 0x01 ≡ true
-unfolding tableOf kindTable roleNo typesOf
-declares-known = refl
+  is-known : known T (getD b p 0) ≡ true
+  is-known = ap (known T) k ∙ ap isKnown (law .declaring)
 
-module _ {b classes types : List ℕ} {p n globals : ℕ} (d : Declaring rowOf b classes types p n globals) (h : p < length b) (k : getD b p 0 ≡ 1) where
-  body : bodyLength rowOf (getD b p 0) ≡ 2
-  body = ap (bodyLength rowOf) k ∙ declares
-
-  is-known : known rowOf (getD b p 0) ≡ true
-  is-known = ap (known rowOf) k ∙ declares-known
-
-  pub declaring-short : length b - p < 3 → Refused 1 p ≡ checkOf b
-  declaring-short l = sym (at-short rowOf b p h (declaredSeen classes types n) is-known (omega (arith, body))) ∙ d .goes-on
+  pub declaring-short : length b - p < 3 → Refused 1 p ≡ checkBy T b
+  declaring-short l = sym (at-short T b p h (declaredSeen classes types n) is-known (omega (arith, body))) ∙ d .goes-on
 
   module _ (l : 3 ≤ length b - p) where
-    within : p + suc (bodyLength rowOf (getD b p 0)) ≤ length b
+    within : p + suc (bodyLength T (getD b p 0)) ≤ length b
     within = omega (arith, body)
 
-    stands : Stands rowOf b p (getD b p 0)
+    stands : Stands T b p (getD b p 0)
     stands = record { its-kind = refl; whole = within }
 
-    kind : isDeclaration (recordAt rowOf b p) ≡ true
-    kind = eq-eqb (kindOf (recordAt rowOf b p)) 0x01 (kind-byte stands ∙ k)
+    kind : isDeclaration (recordAt T b p) ≡ true
+    kind = eq-eqb (kindOf (recordAt T b p)) 0x01 (kind-byte stands ∙ k)
 
-    class : classOf (recordAt rowOf b p) ≡ getD b (p + 1) 0
+    class : classOf (recordAt T b p) ≡ getD b (p + 1) 0
     class = byte stands 1 (omega (arith, body))
 
-    type : typeOf (recordAt rowOf b p) ≡ getD b (p + 2) 0
+    type : typeOf (recordAt T b p) ≡ getD b (p + 2) 0
     type = byte stands 2 (omega (arith, body))
 
     abbrev met : Bool
@@ -124,21 +116,21 @@ module _ {b classes types : List ℕ} {p n globals : ℕ} (d : Declaring rowOf b
     lc : n ≤ length classes
     lc = omega (arith, d .few, d .long-classes)
 
-    rule-3 : rule3 (declaredSeen classes types n) (recordAt rowOf b p) ≡ met
+    rule-3 : rule3 (declaredSeen classes types n) (recordAt T b p) ≡ met
     unfolding rule3 declarationOk
     rule-3 =
         let len : length (take n classes) ≡ n = length-take-le n classes lc in
         let all : allGlobal (take n classes) ≡ eqb globals n = sym (count-all (take n classes)) ∙ ap₂ eqb (sym (d .globals-are)) len in
         rw (class, type, all, len)
 
-    turn : answer (firstBroken (asks 3 met ∷ [])) p (checkAt rowOf (declared (declaredSeen classes types n) (recordAt rowOf b p)) b (p + 3)) ≡ checkOf b
+    turn : answer (firstBroken (asks 3 met ∷ [])) p (checkAt T (declared (declaredSeen classes types n) (recordAt T b p)) b (p + 3)) ≡ checkBy T b
     unfolding next
     turn =
-        let e = at-record rowOf b p h (declaredSeen classes types n) is-known within in
-        let q : p + suc (bodyLength rowOf (getD b p 0)) ≡ p + 3 = omega (arith, body) in
+        let e = at-record T b p h (declaredSeen classes types n) is-known within in
+        let q : p + suc (bodyLength T (getD b p 0)) ≡ p + 3 = omega (arith, body) in
         rw (← rule-3) (sym (rw (kind, q) at e) ∙ d .goes-on)
 
-    pub declaring-refused : met ≡ false → Refused 3 p ≡ checkOf b
+    pub declaring-refused : met ≡ false → Refused 3 p ≡ checkBy T b
     unfolding firstBroken
     declaring-refused t = rw t at turn
 
@@ -167,31 +159,31 @@ module _ {b classes types : List ℕ} {p n globals : ℕ} (d : Declaring rowOf b
       types-more : take (n + 1) (set types n (getD b (p + 2) 0)) ≡ take n types ++ (getD b (p + 2) 0 ∷ [])
       types-more = ap (λ (m : ℕ). take m (set types n (getD b (p + 2) 0))) (add-one n) ∙ take-suc-set types n (getD b (p + 2) 0) ht
 
-      seen-more : declared (declaredSeen classes types n) (recordAt rowOf b p) ≡ declaredSeen (set classes n (getD b (p + 1) 0)) (set types n (getD b (p + 2) 0)) (n + 1)
+      seen-more : declared (declaredSeen classes types n) (recordAt T b p) ≡ declaredSeen (set classes n (getD b (p + 1) 0)) (set types n (getD b (p + 2) 0)) (n + 1)
       seen-more = rw (classes-more, types-more, class, type)
 
-      goes : checkAt rowOf (declaredSeen (set classes n (getD b (p + 1) 0)) (set types n (getD b (p + 2) 0)) (n + 1)) b (p + 3) ≡ checkOf b
+      goes : checkAt T (declaredSeen (set classes n (getD b (p + 1) 0)) (set types n (getD b (p + 2) 0)) (n + 1)) b (p + 3) ≡ checkBy T b
       unfolding firstBroken
-      goes = ap (λ (s : Seen). checkAt rowOf s b (p + 3)) (sym seen-more) ∙ (rw t at turn)
+      goes = ap (λ (s : Seen). checkAt T s b (p + 3)) (sym seen-more) ∙ (rw t at turn)
 
-      records-more : recordsOf rowOf b ≡ (d .before ++ (recordAt rowOf b p ∷ [])) ++ (cutOf rowOf (drop (p + 3) b)) .records
+      records-more : recordsOf T b ≡ (d .before ++ (recordAt T b p ∷ [])) ++ (cutOf T (drop (p + 3) b)) .records
       records-more =
-          let q : p + suc (bodyLength rowOf (getD b p 0)) ≡ p + 3 = omega (arith, body) in
-          let c : cutOf rowOf (drop p b) ≡ cons (recordAt rowOf b p) (cutOf rowOf (drop (p + 3) b)) =
-          cut-record rowOf b p h is-known within ∙ ap (λ (m : ℕ). cons (recordAt rowOf b p) (cutOf rowOf (drop m b))) q in
+          let q : p + suc (bodyLength T (getD b p 0)) ≡ p + 3 = omega (arith, body) in
+          let c : cutOf T (drop p b) ≡ cons (recordAt T b p) (cutOf T (drop (p + 3) b)) =
+          cut-record T b p h is-known within ∙ ap (λ (m : ℕ). cons (recordAt T b p) (cutOf T (drop m b))) q in
           d .records-are ∙ ap (λ (x : Cut). d .before ++ x .records) c
-          ∙ sym (append-assoc (d .before) (recordAt rowOf b p ∷ []) ((cutOf rowOf (drop (p + 3) b)) .records))
+          ∙ sym (append-assoc (d .before) (recordAt T b p ∷ []) ((cutOf T (drop (p + 3) b)) .records))
 
       more : (g : ℕ) → g ≡ globalCount (take n classes ++ (getD b (p + 1) 0 ∷ []))
-          → Declaring rowOf b (set classes n (getD b (p + 1) 0)) (set types n (getD b (p + 2) 0)) (p + 3) (n + 1) g
+          → Declaring T b (set classes n (getD b (p + 1) 0)) (set types n (getD b (p + 2) 0)) (p + 3) (n + 1) g
       more g e =
           record {
-            before = d .before ++ (recordAt rowOf b p ∷ []);
+            before = d .before ++ (recordAt T b p ∷ []);
             goes-on = goes;
             records-are = records-more;
-            all-declared = all-append (λ r. isDeclaration r ≡ true) (d .before) (recordAt rowOf b p ∷ []) (d .all-declared) (kind, tt);
-            classes-are = classes-append (d .before) (recordAt rowOf b p) ∙ ap₂ (λ (x : List ℕ) (y : ℕ). x ++ (y ∷ [])) (d .classes-are) class ∙ sym classes-more;
-            types-are = types-append (d .before) (recordAt rowOf b p) ∙ ap₂ (λ (x : List ℕ) (y : ℕ). x ++ (y ∷ [])) (d .types-are) type ∙ sym types-more;
+            all-declared = all-append (λ r. isDeclaration r ≡ true) (d .before) (recordAt T b p ∷ []) (d .all-declared) (kind, tt);
+            classes-are = classes-append (d .before) (recordAt T b p) ∙ ap₂ (λ (x : List ℕ) (y : ℕ). x ++ (y ∷ [])) (d .classes-are) class ∙ sym classes-more;
+            types-are = types-append (d .before) (recordAt T b p) ∙ ap₂ (λ (x : List ℕ) (y : ℕ). x ++ (y ∷ [])) (d .types-are) type ∙ sym types-more;
             globals-are = e ∙ ap globalCount (sym classes-more);
             place-is = omega (arith, d .place-is);
             reached = omega (arith, within, body);
@@ -202,7 +194,7 @@ module _ {b classes types : List ℕ} {p n globals : ℕ} (d : Declaring rowOf b
 
       -- a global
       pub declaring-global : getD b (p + 1) 0 ≡ 0
-          → Declaring rowOf b (set classes n (getD b (p + 1) 0)) (set types n (getD b (p + 2) 0)) (p + 3) (n + 1) (globals + 1)
+          → Declaring T b (set classes n (getD b (p + 1) 0)) (set types n (getD b (p + 2) 0)) (p + 3) (n + 1) (globals + 1)
       declaring-global z =
           let all : allGlobal (take n classes) ≡ true =
           sym (count-all (take n classes)) ∙ ap₂ eqb (sym (d .globals-are)) (length-take-le n classes lc) ∙ (rw (eq-eqb (getD b (p + 1) 0) 0 z) at global-test) in
@@ -211,7 +203,7 @@ module _ {b classes types : List ℕ} {p n globals : ℕ} (d : Declaring rowOf b
 
       -- a temporary
       pub declaring-other : (getD b (p + 1) 0 ≡ 0 → ⊥)
-          → Declaring rowOf b (set classes n (getD b (p + 1) 0)) (set types n (getD b (p + 2) 0)) (p + 3) (n + 1) globals
+          → Declaring T b (set classes n (getD b (p + 1) 0)) (set types n (getD b (p + 2) 0)) (p + 3) (n + 1) globals
       declaring-other z = more globals (d .globals-are ∙ sym (count-other (take n classes) (getD b (p + 1) 0) (ne-eqb (getD b (p + 1) 0) 0 z)))
 
 pub last-false : (a b : Bool) → b ≡ false → false ≡ (a && b)
@@ -219,14 +211,15 @@ last-false true b h = sym h
 last-false false b h = refl
 
 -- the answers of the scan
-module _ {b classes types : List ℕ} {p n globals : ℕ} (d : Declaring rowOf b classes types p n globals) where
-  pub short-by : p < length b → getD b p 0 ≡ 1 → length b - p < 3 → DeclaredBy rowOf b classes types 1 p n globals
-  short-by h k l = refuses {rule = 1} (λ e. omega arith) (declaring-short d h k l)
+pub short-by : {T : Table} (law : LawfulTable T) {b classes types : List ℕ} {p n globals : ℕ} → Declaring T b classes types p n globals → p < length b → getD b p 0 ≡ 1
+    → length b - p < 3 → DeclaredBy T b classes types 1 p n globals
+short-by law d h k l = refuses {rule = 1} (λ e. omega arith) (declaring-short law d h k l)
 
-  pub ended-by : length b ≤ p → DeclaredBy rowOf b classes types 0 p n globals
+module _ {T : Table} {b classes types : List ℕ} {p n globals : ℕ} (d : Declaring T b classes types p n globals) where
+  pub ended-by : length b ≤ p → DeclaredBy T b classes types 0 p n globals
   ended-by l = reads-on d (λ h. absurd (omega arith))
 
-  pub stopped-by : (getD b p 0 ≡ 1 → ⊥) → DeclaredBy rowOf b classes types 0 p n globals
+  pub stopped-by : (getD b p 0 ≡ 1 → ⊥) → DeclaredBy T b classes types 0 p n globals
   stopped-by k = reads-on d (λ h. k)
 
   -- a declaration stands at the place, whole
@@ -235,18 +228,18 @@ module _ {b classes types : List ℕ} {p n globals : ℕ} (d : Declaring rowOf b
     pub declares-here : getD b p 0 ≡ 1
     pub whole : 3 ≤ length b - p
 
-module _ {b classes types : List ℕ} {p n globals : ℕ} {d : Declaring rowOf b classes types p n globals} {r : Bool} (h : Here d)
+module _ {T : Table} (law : LawfulTable T) {b classes types : List ℕ} {p n globals : ℕ} {d : Declaring T b classes types p n globals} {r : Bool} (h : Here d)
     (e : r ≡ declarationOk (getD b (p + 1) 0) (getD b (p + 2) 0) globals n) where
-  pub refused-by : r ≡ false → DeclaredBy rowOf b classes types 3 p n globals
-  refused-by t = refuses {rule = 3} (λ q. omega arith) (declaring-refused d (h .inside) (h .declares-here) (h .whole) (sym e ∙ t))
+  pub refused-by : r ≡ false → DeclaredBy T b classes types 3 p n globals
+  refused-by t = refuses {rule = 3} (λ q. omega arith) (declaring-refused law d (h .inside) (h .declares-here) (h .whole) (sym e ∙ t))
 
   pub again-global : {g : ℕ} → r ≡ true → getD b (p + 1) 0 ≡ 0 → g ≡ globals + 1
-      → Declaring rowOf b (set classes n (getD b (p + 1) 0)) (set types n (getD b (p + 2) 0)) (p + 3) (n + 1) g
-  again-global t z q = rw q (declaring-global d (h .inside) (h .declares-here) (h .whole) (sym e ∙ t) z)
+      → Declaring T b (set classes n (getD b (p + 1) 0)) (set types n (getD b (p + 2) 0)) (p + 3) (n + 1) g
+  again-global t z q = rw q (declaring-global law d (h .inside) (h .declares-here) (h .whole) (sym e ∙ t) z)
 
   pub again-other : {g : ℕ} → r ≡ true → (getD b (p + 1) 0 ≡ 0 → ⊥) → g ≡ globals
-      → Declaring rowOf b (set classes n (getD b (p + 1) 0)) (set types n (getD b (p + 2) 0)) (p + 3) (n + 1) g
-  again-other t z q = rw q (declaring-other d (h .inside) (h .declares-here) (h .whole) (sym e ∙ t) z)
+      → Declaring T b (set classes n (getD b (p + 1) 0)) (set types n (getD b (p + 2) 0)) (p + 3) (n + 1) g
+  again-other t z q = rw q (declaring-other law d (h .inside) (h .declares-here) (h .whole) (sym e ∙ t) z)
 
 pub only : (a : Bool) → a ≡ (a && true)
 only true = refl

@@ -6,7 +6,7 @@ use Prim.Native.Nat.{ℕ, suc, _≤_}
 use native.Mathlib.Omega.{arith}
 use lib.Dec.{eqb, ltb}
 use lib.ListN.{length, getD}
-use borrow.Author.Tests.{ltb-true, eqb-true, lt-ltb, eq-eqb}
+use borrow.Author.Tests.{ltb-true, eqb-true, ne-eqb, lt-ltb, eq-eqb}
 use native.Mathlib.Nat.{le-trans, le-refl}
 use Rattle.theory.specs.Fold.{Known, Rewrite, baseRule}
 use Rattle.theory.specs.Machine.{headOr, pure}
@@ -15,14 +15,12 @@ use Rattle.theory.specs.Sets.{Vars}
 use Rattle.theory.proofs.Accept.{Lenient, Cutting, Admitted, Admits}
 use Rattle.theory.proofs.Rule.{Puts, same, folds, puts}
 use Rattle.theory.proofs.Sets.{and-l, and-r, and-i, clash}
-use Rattle.ops.specs.Rows.{Row, exits, isSetting, isJumping, at}
-use Rattle.ops.specs.Kinds.{rowOf, document01}
+use Rattle.ops.specs.Rows.{Role, roleOf, isPure, isSetting, isJumping, at}
 use Rattle.ops.specs.Rows.{known, bodyLength}
-use Rattle.ops.specs.Ops.{leave, kindOf, rowAt, insBy, labelBy, viewFor, viewOf, tcg, folding}
-use Rattle.ops.specs.Kinds.{moviOf}
-use Rattle.ops.proofs.Table.{rowWith, row-of, exit-role}
+use Rattle.ops.specs.Ops.{leave, kindOf, rowAt, insBy, labelBy, viewFor, viewOf, tcg, folding, Dialect}
 use Rattle.ops.proofs.Traits.{pure-at, pure-quiet}
-use Rattle.ops.proofs.Folding.{Movi, movi-facts, states, movi-for, const-view, constants}
+use Rattle.ops.proofs.Folding.{states, constant-for, const-view, constants}
+use Rattle.ops.proofs.Lawful.{Constant, Lawful}
 use Rattle.block.specs.Checks.{endRules}
 use Rattle.block.specs.Records.{isDeclaration}
 use Rattle.block.specs.Rules.{Seen, allBelow, operandsOf, rule4, haveTypes, rule5, rule6, markedBy, rule7, rule9, rule10}
@@ -40,29 +38,29 @@ pub record Le (x y : Seen) : Type 0 where
   pub ops : y .ops ≤ x .ops
   pub last : x .last ≡ 0x04 → y .last ≡ 0x04
 
-rules-le : (x y : Seen) (o : List ℕ) → Le x y → (rule9 x o && (rule4 rowOf x o && (rule5 rowOf x o && (rule6 rowOf x o && rule7 rowOf x o)))) ≡ true
-    → (rule9 y o && (rule4 rowOf y o && (rule5 rowOf y o && (rule6 rowOf y o && rule7 rowOf y o)))) ≡ true
+rules-le : (D : Dialect) (x y : Seen) (o : List ℕ) → Le x y → (rule9 x o && (rule4 (D .rows) x o && (rule5 (D .rows) x o && (rule6 (D .rows) x o && rule7 (D .rows) x o)))) ≡ true
+    → (rule9 y o && (rule4 (D .rows) y o && (rule5 (D .rows) y o && (rule6 (D .rows) y o && rule7 (D .rows) y o)))) ≡ true
 unfolding rule9 rule4 rule5 rule6 rule7
-rules-le x y o l h =
+rules-le D x y o l h =
     and-i (rule9 y o) _ (lt-ltb (y .ops) 256 (omega (arith, l .ops, ltb-true (x .ops) 256 (and-l (rule9 x o) _ h))))
-    (rw (l .classes, l .types, l .labels) (and-r (rule9 x o) (rule4 rowOf x o && (rule5 rowOf x o && (rule6 rowOf x o && rule7 rowOf x o))) h))
+    (rw (l .classes, l .types, l .labels) (and-r (rule9 x o) (rule4 (D .rows) x o && (rule5 (D .rows) x o && (rule6 (D .rows) x o && rule7 (D .rows) x o))) h))
 
-ok-le : (x y : Seen) (o : List ℕ) → Le x y → opOk x o ≡ true → opOk y o ≡ true
-ok-le x y o l h =
-    let p = and-r (whole rowOf o) (not (isDeclaration o) && (rule9 x o && (rule4 rowOf x o && (rule5 rowOf x o && (rule6 rowOf x o && rule7 rowOf x o))))) h in
-    and-i (whole rowOf o) (not (isDeclaration o) && (rule9 y o && (rule4 rowOf y o && (rule5 rowOf y o && (rule6 rowOf y o && rule7 rowOf y o)))))
-    (and-l (whole rowOf o) (not (isDeclaration o) && (rule9 x o && (rule4 rowOf x o && (rule5 rowOf x o && (rule6 rowOf x o && rule7 rowOf x o))))) h)
-    (and-i (not (isDeclaration o)) (rule9 y o && (rule4 rowOf y o && (rule5 rowOf y o && (rule6 rowOf y o && rule7 rowOf y o))))
-    (and-l (not (isDeclaration o)) (rule9 x o && (rule4 rowOf x o && (rule5 rowOf x o && (rule6 rowOf x o && rule7 rowOf x o)))) p)
-    (rules-le x y o l (and-r (not (isDeclaration o)) (rule9 x o && (rule4 rowOf x o && (rule5 rowOf x o && (rule6 rowOf x o && rule7 rowOf x o)))) p)))
+ok-le : (D : Dialect) (x y : Seen) (o : List ℕ) → Le x y → opOk D x o ≡ true → opOk D y o ≡ true
+ok-le D x y o l h =
+    let p = and-r (whole (D .rows) o) (not (isDeclaration o) && (rule9 x o && (rule4 (D .rows) x o && (rule5 (D .rows) x o && (rule6 (D .rows) x o && rule7 (D .rows) x o))))) h in
+    and-i (whole (D .rows) o) (not (isDeclaration o) && (rule9 y o && (rule4 (D .rows) y o && (rule5 (D .rows) y o && (rule6 (D .rows) y o && rule7 (D .rows) y o)))))
+    (and-l (whole (D .rows) o) (not (isDeclaration o) && (rule9 x o && (rule4 (D .rows) x o && (rule5 (D .rows) x o && (rule6 (D .rows) x o && rule7 (D .rows) x o))))) h)
+    (and-i (not (isDeclaration o)) (rule9 y o && (rule4 (D .rows) y o && (rule5 (D .rows) y o && (rule6 (D .rows) y o && rule7 (D .rows) y o))))
+    (and-l (not (isDeclaration o)) (rule9 x o && (rule4 (D .rows) x o && (rule5 (D .rows) x o && (rule6 (D .rows) x o && rule7 (D .rows) x o)))) p)
+    (rules-le D x y o l (and-r (not (isDeclaration o)) (rule9 x o && (rule4 (D .rows) x o && (rule5 (D .rows) x o && (rule6 (D .rows) x o && rule7 (D .rows) x o)))) p)))
 
-next-le : (x y : Seen) (o : List ℕ) → Le x y → Le (passed rowOf x o) (passed rowOf y o)
-next-le x y o l =
+next-le : (D : Dialect) (x y : Seen) (o : List ℕ) → Le x y → Le (passed (D .rows) x o) (passed (D .rows) y o)
+next-le D x y o l =
     record {
       classes = l .classes;
       types = l .types;
-      labels = ap (λ (f : Vars). markedBy (isSetting ((rowAt rowOf o) .role)) f (labelBy (rowAt rowOf o) o)) (l .labels);
-      targets = ap (λ (f : Vars). markedBy (isJumping ((rowAt rowOf o) .role)) f (labelBy (rowAt rowOf o) o)) (l .targets);
+      labels = ap (λ (f : Vars). markedBy (isSetting ((rowAt (D .rows) o) .role)) f (labelBy (rowAt (D .rows) o) o)) (l .labels);
+      targets = ap (λ (f : Vars). markedBy (isJumping ((rowAt (D .rows) o) .role)) f (labelBy (rowAt (D .rows) o) o)) (l .targets);
       ops = omega (arith, l .ops);
       last = λ e. e;
     }
@@ -74,36 +72,33 @@ end-le x y l h =
     (rw (l .targets, l .labels) (and-r (rule10 x) (rule7end x && true) h))
 
 -- a pure op marks no label and jumps to none, and is no exit
-calc-labels : (labels targets : Vars) (o : List ℕ) → pure (viewOf document01 o) ≡ true
-    → (markedBy (isSetting ((rowAt rowOf o) .role)) labels (labelBy (rowAt rowOf o) o) ≡ labels) × (markedBy (isJumping ((rowAt rowOf o) .role)) targets (labelBy (rowAt rowOf o) o) ≡ targets)
-calc-labels labels targets o c =
-    let q = pure-quiet ((rowAt rowOf o) .role) (sym (pure-at o) ∙ c) in
-    (ap (λ (b : Bool). markedBy b labels (labelBy (rowAt rowOf o) o)) (q .0), ap (λ (b : Bool). markedBy b targets (labelBy (rowAt rowOf o) o)) (q .1))
+calc-labels : (D : Dialect) (labels targets : Vars) (o : List ℕ) → pure (viewOf D o) ≡ true
+    → (markedBy (isSetting ((rowAt (D .rows) o) .role)) labels (labelBy (rowAt (D .rows) o) o) ≡ labels) × (markedBy (isJumping ((rowAt (D .rows) o) .role)) targets (labelBy (rowAt (D .rows) o) o) ≡ targets)
+calc-labels D labels targets o c =
+    let q = pure-quiet ((rowAt (D .rows) o) .role) (sym (pure-at D o) ∙ c) in
+    (ap (λ (b : Bool). markedBy b labels (labelBy (rowAt (D .rows) o) o)) (q .0), ap (λ (b : Bool). markedBy b targets (labelBy (rowAt (D .rows) o) o)) (q .1))
 
-pub exit-view : (o : List ℕ) → kindOf o ≡ 0x04 → viewOf document01 o ≡ leave (at o 1 ∷ [])
+pub exit-view : {D : Dialect} (law : Lawful D) (o : List ℕ) → kindOf o ≡ 0x04 → viewOf D o ≡ leave (insBy (rowAt (D .rows) o) o)
 unfolding viewOf
-exit-view o e = ap (λ (row : Row). viewFor document01 (row .role) row o) (exit-row (kindOf o) e)
-  where
-    exit-row : (k : ℕ) → k ≡ 0x04 → rowOf k ≡ rowWith [] (1 ∷ []) 0 0 exits
-    exit-row k e = ap rowOf e ∙ row-of exits 0x04 exit-role
+exit-view {D = D} law o e = ap (λ (r : Role). viewFor D r (rowAt (D .rows) o) o) (ap (roleOf (D .rows)) e ∙ law .table .exiting)
 
-no-exit : {A : Type 0} (o : List ℕ) → pure (viewOf document01 o) ≡ true → kindOf o ≡ 0x04 → A
-no-exit o c e = clash (pure (viewOf document01 o)) c (ap pure (exit-view o e))
+no-exit : {D : Dialect} (law : Lawful D) {A : Type 0} (o : List ℕ) → pure (viewOf D o) ≡ true → kindOf o ≡ 0x04 → A
+no-exit {D = D} law o c e = clash (pure (viewOf D o)) c (ap pure (exit-view law o e))
 
-drop-ok : (x : Seen) (o : List ℕ) → pure (viewOf document01 o) ≡ true → Le (passed rowOf x o) x
-drop-ok x o c =
-    let l = calc-labels (x .labels) (x .targets) o c in
+drop-ok : {D : Dialect} (law : Lawful D) (x : Seen) (o : List ℕ) → pure (viewOf D o) ≡ true → Le (passed (D .rows) x o) x
+drop-ok {D = D} law x o c =
+    let l = calc-labels D (x .labels) (x .targets) o c in
     record {
       classes = refl;
       types = refl;
       labels = sym (l .0);
       targets = sym (l .1);
       ops = omega arith;
-      last = λ e. no-exit o c e;
+      last = λ e. no-exit law o c e;
     }
 
-pub lenient : Lenient (tcg document01) checker
-lenient =
+pub lenient : {D : Dialect} (law : Lawful D) → Lenient (tcg D) (checker D)
+lenient {D = D} law =
     record {
       Le = Le;
       le-refl = λ x. record { classes = refl; types = refl; labels = refl; targets = refl; ops = omega arith; last = λ e. e };
@@ -115,76 +110,73 @@ lenient =
         ops = omega (arith, a .ops, b .ops);
         last = λ e. b .last (a .last e);
       };
-      ok-le = ok-le;
-      next-le = next-le;
+      ok-le = ok-le D;
+      next-le = next-le D;
       fin-le = end-le;
-      drop-ok = λ x o h c. drop-ok x o c;
+      drop-ok = λ x o h c. drop-ok law x o c;
     }
 
--- a movi in the place of an accepted op with the same output is accepted
-movi-kind : (b : Bool) → eqb (cond b 0x10 0x90) 0x01 ≡ false
-movi-kind true = refl
-movi-kind false = refl
+-- a constant in the place of an accepted op with the same output is accepted
+module _ {D : Dialect} (law : Lawful D) (x : Seen) (o o′ : List ℕ) (w v : ℕ) (one : (rowAt (D .rows) o) .outs ≡ w ∷ []) (m : Constant D w (at o 1) v o′) where
+  constant-operands : operandsOf (D .rows) o′ ≡ at o 1 ∷ []
+  constant-operands = rw (m .outs, m .ins)
 
-module _ (x : Seen) (o : List ℕ) (w v : ℕ) (one : (rowAt rowOf o) .outs ≡ w ∷ []) (m : Movi w (at o 1) v (moviOf w (at o 1) v)) where
-  movi-operands : operandsOf rowOf (moviOf w (at o 1) v) ≡ at o 1 ∷ []
-  movi-operands = rw (m .outs, m .ins)
-
-  first-operand : operandsOf rowOf o ≡ at o 1 ∷ insBy (rowAt rowOf o) o
+  first-operand : operandsOf (D .rows) o ≡ at o 1 ∷ insBy (rowAt (D .rows) o) o
   first-operand = rw one
 
-  movi-4 : rule4 rowOf x o ≡ true → rule4 rowOf x (moviOf w (at o 1) v) ≡ true
+  constant-4 : rule4 (D .rows) x o ≡ true → rule4 (D .rows) x o′ ≡ true
   unfolding rule4
-  movi-4 h =
-      let k : (ltb (at o 1) (length (x .classes)) && allBelow (length (x .classes)) (insBy (rowAt rowOf o) o)) ≡ true = sym (ap (allBelow (length (x .classes))) first-operand) ∙ h in
-      ap (allBelow (length (x .classes))) movi-operands ∙ and-i (ltb (at o 1) (length (x .classes))) true (and-l (ltb (at o 1) (length (x .classes))) _ k) refl
+  constant-4 h =
+      let k : (ltb (at o 1) (length (x .classes)) && allBelow (length (x .classes)) (insBy (rowAt (D .rows) o) o)) ≡ true = sym (ap (allBelow (length (x .classes))) first-operand) ∙ h in
+      ap (allBelow (length (x .classes))) constant-operands ∙ and-i (ltb (at o 1) (length (x .classes))) true (and-l (ltb (at o 1) (length (x .classes))) _ k) refl
 
-  movi-5 : rule5 rowOf x o ≡ true → rule5 rowOf x (moviOf w (at o 1) v) ≡ true
+  constant-5 : rule5 (D .rows) x o ≡ true → rule5 (D .rows) x o′ ≡ true
   unfolding rule5
-  movi-5 h =
-      let k : (eqb (getD (x .types) (at o 1) 0) w && haveTypes (x .types) (insBy (rowAt rowOf o) o) ((rowAt rowOf o) .ins)) ≡ true =
-      sym (ap₂ (haveTypes (x .types)) first-operand (ap (λ (t : List ℕ). t ++ (rowAt rowOf o) .ins) one)) ∙ h in
-      ap₂ (haveTypes (x .types)) movi-operands (ap₂ (λ (s t : List ℕ). s ++ t) (m .types) (m .no-inputs))
+  constant-5 h =
+      let k : (eqb (getD (x .types) (at o 1) 0) w && haveTypes (x .types) (insBy (rowAt (D .rows) o) o) ((rowAt (D .rows) o) .ins)) ≡ true =
+      sym (ap₂ (haveTypes (x .types)) first-operand (ap (λ (t : List ℕ). t ++ (rowAt (D .rows) o) .ins) one)) ∙ h in
+      ap₂ (haveTypes (x .types)) constant-operands (ap₂ (λ (s t : List ℕ). s ++ t) (m .types) (m .no-inputs))
       ∙ and-i (eqb (getD (x .types) (at o 1) 0) w) true (and-l (eqb (getD (x .types) (at o 1) 0) w) _ k) refl
 
-  movi-9 : rule9 x o ≡ true → rule9 x (moviOf w (at o 1) v) ≡ true
+  constant-9 : rule9 x o ≡ true → rule9 x o′ ≡ true
   unfolding rule9
-  movi-9 h = h
+  constant-9 h = h
 
-  movi-6 : rule6 rowOf x (moviOf w (at o 1) v) ≡ true
+  constant-6 : rule6 (D .rows) x o′ ≡ true
   unfolding rule6
-  movi-6 = m .rest
+  constant-6 = m .rest
 
-  movi-7 : rule7 rowOf x (moviOf w (at o 1) v) ≡ true
+  constant-7 : rule7 (D .rows) x o′ ≡ true
   unfolding rule7
-  movi-7 =
-      let q = pure-quiet ((rowAt rowOf (moviOf w (at o 1) v)) .role) (sym (pure-at (moviOf w (at o 1) v)) ∙ ap pure (m .view)) in
+  constant-7 =
+      let q = pure-quiet ((rowAt (D .rows) o′) .role) (sym (pure-at D o′) ∙ ap pure (m .view)) in
       rw (q .0, q .1)
 
-  movi-whole : whole rowOf (moviOf w (at o 1) v) ≡ true
-  movi-whole =
-      and-i (known rowOf (kindOf (moviOf w (at o 1) v))) (eqb (length (moviOf w (at o 1) v)) (suc (bodyLength rowOf (kindOf (moviOf w (at o 1) v)))))
-      (m .is-known) (eq-eqb (length (moviOf w (at o 1) v)) (suc (bodyLength rowOf (kindOf (moviOf w (at o 1) v)))) (m .long))
+  constant-whole : whole (D .rows) o′ ≡ true
+  constant-whole =
+      and-i (known (D .rows) (kindOf o′)) (eqb (length o′) (suc (bodyLength (D .rows) (kindOf o′))))
+      (m .is-known) (eq-eqb (length o′) (suc (bodyLength (D .rows) (kindOf o′))) (m .long))
 
-  movi-ok : opOk x o ≡ true → opOk x (moviOf w (at o 1) v) ≡ true
-  movi-ok h =
-      let a = and-r (not (isDeclaration o)) (rule9 x o && (rule4 rowOf x o && (rule5 rowOf x o && (rule6 rowOf x o && rule7 rowOf x o))))
-      (and-r (whole rowOf o) (not (isDeclaration o) && (rule9 x o && (rule4 rowOf x o && (rule5 rowOf x o && (rule6 rowOf x o && rule7 rowOf x o))))) h) in
-      let b = and-r (rule9 x o) (rule4 rowOf x o && (rule5 rowOf x o && (rule6 rowOf x o && rule7 rowOf x o))) a in
-      let c = and-r (rule4 rowOf x o) (rule5 rowOf x o && (rule6 rowOf x o && rule7 rowOf x o)) b in
-      and-i (whole rowOf o′) _ movi-whole
-      (and-i (not (isDeclaration o′)) _ (ap not (movi-kind (eqb w 0)))
-      (and-i (rule9 x o′) _ (movi-9 (and-l (rule9 x o) _ a))
-      (and-i (rule4 rowOf x o′) _ (movi-4 (and-l (rule4 rowOf x o) _ b))
-      (and-i (rule5 rowOf x o′) _ (movi-5 (and-l (rule5 rowOf x o) _ c))
-      (and-i (rule6 rowOf x o′) _ movi-6 movi-7)))))
-    where
-      o′ : List ℕ
-      o′ = moviOf w (at o 1) v
+  no-declaration : isDeclaration o′ ≡ false
+  no-declaration =
+      ne-eqb (kindOf o′) 0x01 (λ e. clash (isPure ((rowAt (D .rows) o′) .role)) (sym (pure-at D o′) ∙ ap pure (m .view)) (ap isPure (ap (roleOf (D .rows)) e ∙ law .table .declaring)))
+
+  constant-ok : opOk D x o ≡ true → opOk D x o′ ≡ true
+  constant-ok h =
+      let a = and-r (not (isDeclaration o)) (rule9 x o && (rule4 (D .rows) x o && (rule5 (D .rows) x o && (rule6 (D .rows) x o && rule7 (D .rows) x o))))
+      (and-r (whole (D .rows) o) (not (isDeclaration o) && (rule9 x o && (rule4 (D .rows) x o && (rule5 (D .rows) x o && (rule6 (D .rows) x o && rule7 (D .rows) x o))))) h) in
+      let b = and-r (rule9 x o) (rule4 (D .rows) x o && (rule5 (D .rows) x o && (rule6 (D .rows) x o && rule7 (D .rows) x o))) a in
+      let c = and-r (rule4 (D .rows) x o) (rule5 (D .rows) x o && (rule6 (D .rows) x o && rule7 (D .rows) x o)) b in
+      and-i (whole (D .rows) o′) _ constant-whole
+      (and-i (not (isDeclaration o′)) _ (ap not no-declaration)
+      (and-i (rule9 x o′) _ (constant-9 (and-l (rule9 x o) _ a))
+      (and-i (rule4 (D .rows) x o′) _ (constant-4 (and-l (rule4 (D .rows) x o) _ b))
+      (and-i (rule5 (D .rows) x o′) _ (constant-5 (and-l (rule5 (D .rows) x o) _ c))
+      (and-i (rule6 (D .rows) x o′) _ constant-6 constant-7)))))
 
 -- document 01's rule never cuts
-pub cutting : Cutting (tcg document01) checker lenient
-cutting =
+pub cutting : {D : Dialect} (law : Lawful D) → Cutting (tcg D) (checker D) (lenient law)
+cutting law =
     record {
       Good = λ k. Unit {0};
       good-none = tt;
@@ -196,29 +188,29 @@ cutting =
     }
 
 -- what fold puts in place
-admitted : (x : Seen) (k : Known ℕ) (o : List ℕ) (y : Rewrite (List ℕ)) → Puts (tcg document01) (folding document01) constants k o y → opOk x o ≡ true
-    → Admitted (tcg document01) checker lenient cutting x k o y
+admitted : {D : Dialect} (law : Lawful D) (x : Seen) (k : Known ℕ) (o : List ℕ) (y : Rewrite (List ℕ)) → Puts (tcg D) (folding D) (constants law) k o y → opOk D x o ≡ true
+    → Admitted (tcg D) (checker D) (lenient law) (cutting law) x k o y
 unfolding lenient cutting
-admitted x k o y same h = (h, record { classes = refl; types = refl; labels = refl; targets = refl; ops = omega arith; last = λ q. q }, tt)
-admitted x k o y (folds xs vs t a g) h =
-    let o′ = folding document01 .const o (headOr 0 vs) in
-    let s = states o xs vs t g in
-    let q : o′ ≡ moviOf (s .type) (at o 1) (s .value) = movi-for o vs s in
-    let m = movi-facts (s .type) (at o 1) (s .value) (s .small) (s .fits) in
-    let c : pure (viewOf document01 o) ≡ true = ap pure (computes-calc (viewOf document01 o) xs vs g) in
-    let l = calc-labels (x .labels) (x .targets) o c in
-    let l′ = calc-labels (x .labels) (x .targets) o′ (ap pure (const-view o xs vs t g)) in (
-      ap (opOk x) q ∙ movi-ok x o (s .type) (s .value) (s .one-out) m h,
+admitted law x k o y same h = (h, record { classes = refl; types = refl; labels = refl; targets = refl; ops = omega arith; last = λ q. q }, tt)
+admitted {D = D} law x k o y (folds xs vs t a g) h =
+    let o′ = folding D .const o (headOr 0 vs) in
+    let s = states law o xs vs t g in
+    let c′ = D .constant (s .type) (at o 1) (s .value) in
+    let q : o′ ≡ c′ = constant-for law o xs vs t g s in
+    let c : pure (viewOf D o) ≡ true = ap pure (computes-calc (viewOf D o) xs vs g) in
+    let l = calc-labels D (x .labels) (x .targets) o c in
+    let l′ = calc-labels D (x .labels) (x .targets) o′ (ap pure (const-view law o xs vs t g)) in (
+      ap (opOk D x) q ∙ constant-ok law x o c′ (s .type) (s .value) (s .one-out) (s .constant-of (at o 1)) h,
       record {
         classes = refl;
         types = refl;
         labels = l′ .0 ∙ sym (l .0);
         targets = l′ .1 ∙ sym (l .1);
         ops = omega arith;
-        last = λ z. no-exit o c z;
+        last = λ z. no-exit law o c z;
       },
       tt,
     )
 
-pub admits : Admits (tcg document01) checker lenient cutting (baseRule (tcg document01) (folding document01))
-admits x k o u h = admitted x k o (baseRule (tcg document01) (folding document01) k o) (puts (tcg document01) (folding document01) constants k o) h
+pub admits : {D : Dialect} (law : Lawful D) → Admits (tcg D) (checker D) (lenient law) (cutting law) (baseRule (tcg D) (folding D))
+admits {D = D} law x k o u h = admitted law x k o (baseRule (tcg D) (folding D) k o) (puts (tcg D) (folding D) (constants law) k o) h

@@ -10,6 +10,7 @@ use Rattle.theory.specs.Machine.{End, exit, fault, unstated, fell, spent, Resul
 use Rattle.ops.specs.Ops.{kindOf, tcg}
 use Rattle.ops.specs.Kinds.{rowOf, document01}
 use Rattle.ops.proofs.Table.{body-short}
+use Rattle.ops.proofs.Document01.{lawful}
 use Rattle.block.specs.Checks.{asks, opRules, checkOf}
 use Rattle.block.specs.Meaning.{AllMet, EachMeets}
 use Rattle.block.specs.Records.{recordsOf, concat, isDeclaration, declarations, opsFrom, classOf, classesOf}
@@ -81,10 +82,10 @@ SmallWritten (Length n) = n ≤ 4096
 
 result-small : (block : List ℕ) → checkOf block ≡ Accepted → length (resultOf document01 block) ≤ 2752
 result-small block h =
-    let p = parts block h in
+    let p = parts lawful block h in
     let e = result-of block (declarations (recordsOf rowOf block)) (opsFrom (recordsOf rowOf block)) p in
-    let q = (kept-parts block (declarations (recordsOf rowOf block)) (opsFrom (recordsOf rowOf block)) p) .1 in
-    omega (arith, ap length e, parts-size _ (declarations (recordsOf rowOf block)) (passOps document01 (classesOf (declarations (recordsOf rowOf block))) (opsFrom (recordsOf rowOf block))) q)
+    let q = (kept-parts lawful block (declarations (recordsOf rowOf block)) (opsFrom (recordsOf rowOf block)) p) .1 in
+    omega (arith, ap length e, parts-size lawful _ (declarations (recordsOf rowOf block)) (passOps document01 (classesOf (declarations (recordsOf rowOf block))) (opsFrom (recordsOf rowOf block))) q)
 
 written-by : (block out : List ℕ) (v : Verdict) → checkOf block ≡ v → SmallWritten ((passChecked (resultOf document01 block) out v) .answer)
 unfolding passChecked

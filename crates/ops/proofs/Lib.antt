@@ -1,3 +1,4 @@
+pub mod Lawful
 pub mod Ranges
 pub mod Table
 pub mod Entry
@@ -5,5 +6,6 @@ pub mod Traits
 pub mod Inputs
 pub mod Fits
 pub mod Folding
+pub mod Document01
 pub mod Families
 pub mod Folded

@@ -192,6 +192,19 @@ pub role-read : (n : ℕ) → n < 16 → cond (ltb n 10) n 0 ≡ numberOf (roleN
 unfolding roleNo
 role-read n h = eqb-true (cond (ltb n 10) n 0) (numberOf (roleNo n)) (ranged (λ m. eqb (cond (ltb m 10) m 0) (numberOf (roleNo m))) 16 0 refl n (omega arith) (omega arith))
 
-pub exit-role : roleOf rowOf 0x04 ≡ exits
-unfolding tableOf kindTable roleNo
-exit-role = refl
+-- roles are told apart by their numbers
+pub number-of : (r : Role) → (roleNo (numberOf r) ≡ r) × (numberOf r < 10)
+unfolding roleNo
+number-of unknown = (refl, lit< tt)
+number-of declares = (refl, lit< tt)
+number-of setsLabel = (refl, lit< tt)
+number-of jumpsTo = (refl, lit< tt)
+number-of exits = (refl, lit< tt)
+number-of branches = (refl, lit< tt)
+number-of loads = (refl, lit< tt)
+number-of stores = (refl, lit< tt)
+number-of constant = (refl, lit< tt)
+number-of computing = (refl, lit< tt)
+
+pub same-number : (r s : Role) → numberOf r ≡ numberOf s → r ≡ s
+same-number r s e = sym ((number-of r) .0) ∙ ap roleNo e ∙ (number-of s) .0

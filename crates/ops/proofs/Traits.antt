@@ -3,25 +3,25 @@ use mathlib.Core.Path.{_≡_, refl, sym, ap}
 use mathlib.Core.Bool.{Bool, true, false, cond}
 use mathlib.Core.Option.{none, some}
 use mathlib.Core.List.{List, []}
-use Prim.Native.Nat.{ℕ}
+use Prim.Native.Nat.{ℕ, _+_}
+use lib.ListN.{length}
 use Rattle.theory.specs.Machine.{inputs, outputs, closes, labelOf, target, pure}
 use Rattle.theory.specs.Sets.{Vars, plus, empty}
 use Rattle.theory.proofs.Scoped.{wrote}
 use Rattle.theory.proofs.Sets.{clash}
 use Rattle.ops.specs.Rows.{Role, unknown, declares, setsLabel, jumpsTo, exits, branches, loads, stores, constant, computing, Row, isPure, isClosing, isSetting, isJumping}
-use Rattle.ops.specs.Ops.{kindOf, rowAt, outsBy, insBy, labelBy, viewFor, viewOf}
-use Rattle.ops.specs.Kinds.{rowOf, document01}
-use Rattle.ops.proofs.Table.{row-of}
+use Rattle.ops.specs.Ops.{bytesAt, kindOf, rowAt, outsBy, insBy, labelBy, viewFor, viewOf, Dialect}
+use Rattle.ops.proofs.Lawful.{Lawful}
 
-module _ (row : Row) (r : List ℕ) where
+module _ (D : Dialect) (row : Row) (r : List ℕ) where
   -- what the theory sees of an op, by the columns of its role
   abbrev Columns : Role → Type 0
   Columns x =
-      (closes (viewFor document01 x row r) ≡ isClosing x)
-      × (pure (viewFor document01 x row r) ≡ isPure x)
-      × (labelOf (viewFor document01 x row r) ≡ cond (isSetting x) (some (labelBy row r)) none)
-      × (target (viewFor document01 x row r) ≡ cond (isJumping x) (some (labelBy row r)) none)
-      × (outputs (viewFor document01 x row r) ≡ cond (isClosing x) [] (outsBy row r))
+      (closes (viewFor D x row r) ≡ isClosing x)
+      × (pure (viewFor D x row r) ≡ isPure x)
+      × (labelOf (viewFor D x row r) ≡ cond (isSetting x) (some (labelBy row r)) none)
+      × (target (viewFor D x row r) ≡ cond (isJumping x) (some (labelBy row r)) none)
+      × (outputs (viewFor D x row r) ≡ cond (isClosing x) [] (outsBy row r))
 
   columns : (x : Role) → Columns x
   columns unknown = (refl, refl, refl, refl, refl)
@@ -35,7 +35,7 @@ module _ (row : Row) (r : List ℕ) where
   columns constant = (refl, refl, refl, refl, refl)
   columns computing = (refl, refl, refl, refl, refl)
 
-  inputs-by : (x : Role) → (x ≡ setsLabel → insBy row r ≡ []) → inputs (viewFor document01 x row r) ≡ insBy row r
+  inputs-by : (x : Role) → (x ≡ setsLabel → insBy row r ≡ []) → inputs (viewFor D x row r) ≡ insBy row r
   inputs-by unknown h = refl
   inputs-by declares h = refl
   inputs-by setsLabel h = sym (h refl)
@@ -47,37 +47,37 @@ module _ (row : Row) (r : List ℕ) where
   inputs-by constant h = refl
   inputs-by computing h = refl
 
-module _ (r : List ℕ) where
-  pub closes-at : closes (viewOf document01 r) ≡ isClosing ((rowAt rowOf r) .role)
+module _ (D : Dialect) (r : List ℕ) where
+  pub closes-at : closes (viewOf D r) ≡ isClosing ((rowAt (D .rows) r) .role)
   unfolding viewOf
-  closes-at = (columns (rowAt rowOf r) r ((rowAt rowOf r) .role)) .0
+  closes-at = (columns D (rowAt (D .rows) r) r ((rowAt (D .rows) r) .role)) .0
 
-  pub pure-at : pure (viewOf document01 r) ≡ isPure ((rowAt rowOf r) .role)
+  pub pure-at : pure (viewOf D r) ≡ isPure ((rowAt (D .rows) r) .role)
   unfolding viewOf
-  pure-at = (columns (rowAt rowOf r) r ((rowAt rowOf r) .role)) .1
+  pure-at = (columns D (rowAt (D .rows) r) r ((rowAt (D .rows) r) .role)) .1
 
-  pub label-at : labelOf (viewOf document01 r) ≡ cond (isSetting ((rowAt rowOf r) .role)) (some (labelBy (rowAt rowOf r) r)) none
+  pub label-at : labelOf (viewOf D r) ≡ cond (isSetting ((rowAt (D .rows) r) .role)) (some (labelBy (rowAt (D .rows) r) r)) none
   unfolding viewOf
-  label-at = (columns (rowAt rowOf r) r ((rowAt rowOf r) .role)) .2
+  label-at = (columns D (rowAt (D .rows) r) r ((rowAt (D .rows) r) .role)) .2
 
-  pub target-at : target (viewOf document01 r) ≡ cond (isJumping ((rowAt rowOf r) .role)) (some (labelBy (rowAt rowOf r) r)) none
+  pub target-at : target (viewOf D r) ≡ cond (isJumping ((rowAt (D .rows) r) .role)) (some (labelBy (rowAt (D .rows) r) r)) none
   unfolding viewOf
-  target-at = (columns (rowAt rowOf r) r ((rowAt rowOf r) .role)) .3
+  target-at = (columns D (rowAt (D .rows) r) r ((rowAt (D .rows) r) .role)) .3
 
-  pub outputs-at : outputs (viewOf document01 r) ≡ cond (isClosing ((rowAt rowOf r) .role)) [] (outsBy (rowAt rowOf r) r)
+  pub outputs-at : outputs (viewOf D r) ≡ cond (isClosing ((rowAt (D .rows) r) .role)) [] (outsBy (rowAt (D .rows) r) r)
   unfolding viewOf
-  outputs-at = (columns (rowAt rowOf r) r ((rowAt rowOf r) .role)) .4
+  outputs-at = (columns D (rowAt (D .rows) r) r ((rowAt (D .rows) r) .role)) .4
 
-  pub wrote-at : (w : Vars) → wrote w (viewOf document01 r) ≡ cond (isClosing ((rowAt rowOf r) .role)) empty (plus w (outsBy (rowAt rowOf r) r))
-  wrote-at w = rw (closes-at, outputs-at) (go (isClosing ((rowAt rowOf r) .role)))
+  pub wrote-at : (w : Vars) → wrote w (viewOf D r) ≡ cond (isClosing ((rowAt (D .rows) r) .role)) empty (plus w (outsBy (rowAt (D .rows) r) r))
+  wrote-at w = rw (closes-at, outputs-at) (go (isClosing ((rowAt (D .rows) r) .role)))
     where
-      go : (b : Bool) → cond b empty (plus w (cond b [] (outsBy (rowAt rowOf r) r))) ≡ cond b empty (plus w (outsBy (rowAt rowOf r) r))
+      go : (b : Bool) → cond b empty (plus w (cond b [] (outsBy (rowAt (D .rows) r) r))) ≡ cond b empty (plus w (outsBy (rowAt (D .rows) r) r))
       go true = refl
       go false = refl
 
-  pub inputs-at : inputs (viewOf document01 r) ≡ insBy (rowAt rowOf r) r
-  unfolding viewOf
-  inputs-at = inputs-by (rowAt rowOf r) r ((rowAt rowOf r) .role) (λ e. ap (λ (row : Row). insBy row r) (row-of setsLabel (kindOf r) e))
+pub inputs-at : {D : Dialect} (law : Lawful D) (r : List ℕ) → inputs (viewOf D r) ≡ insBy (rowAt (D .rows) r) r
+unfolding viewOf
+inputs-at {D = D} law r = inputs-by D (rowAt (D .rows) r) r ((rowAt (D .rows) r) .role) (λ e. ap (λ (ts : List ℕ). bytesAt r (1 + length ((rowAt (D .rows) r) .outs)) (length ts)) (law .table .label-reads (kindOf r) e))
 
 -- a pure op sets no label and jumps to none
 pub pure-quiet : (x : Role) → isPure x ≡ true → (isSetting x ≡ false) × (isJumping x ≡ false)

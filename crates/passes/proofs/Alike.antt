@@ -13,18 +13,18 @@ use Rattle.theory.specs.Sets.{empty}
 use Rattle.theory.proofs.PruneBy.{Agree}
 use Rattle.theory.proofs.Sets.{and-l, and-r}
 use Rattle.theory.proofs.Simulation.{unspent, stated, definite, notFell, proper, Matches, same-run}
-use Rattle.ops.specs.Ops.{Fault, tcg}
-use Rattle.ops.specs.Kinds.{document01}
-use Rattle.block.specs.Checks.{checkOf}
+use Rattle.ops.specs.Ops.{Fault, tcg, Dialect}
 use Rattle.block.specs.Records.{classesOf, declaredTypes, globalCount}
 use Rattle.block.proofs.Parts.{Parts}
-use Rattle.runs.specs.Runs.{globalsFit, fits, entry, valuesFrom, Ran, answerOf, ranOf, opsRun, runOps, runChecked, runOf, runBy}
+use Rattle.runs.specs.Runs.{globalsFit, fits, entry, valuesFrom, Ran, answerOf, ranOf, opsRun, runOps, runChecked, runBy}
 use Rattle.runs.proofs.Ends.{run-ends}
 use Rattle.passes.specs.Demand.{Fit, unstatedEnd, SameEnd, same-exit, same-fault, Alike}
 use Rattle.passes.specs.Passes.{passOps}
 use Rattle.passes.proofs.Result.{ops-preserved}
 use Rattle.block.specs.Rules.{globalsIn, keptIn, declared}
 use Rattle.block.specs.declared.Verdict.the-variants.{Accepted}
+use Rattle.block.specs.Checks.{checkBy}
+use Rattle.ops.proofs.Lawful.{Lawful}
 
 -- the variables below the number of globals are globals
 pub globals-below : (classes : List ℕ) (v : ℕ) → v < globalCount classes → globalsIn classes v ≡ true
@@ -57,19 +57,19 @@ definite-end fell p m h = absurd (true≢false h)
 definite-end spent p m h = absurd (true≢false h)
 
 -- two results that match give runs alike
-matches-alike : (classes : List ℕ) (a b n : ℕ) (r r′ : Result (tcg document01)) → n ≡ globalCount classes → Matches (tcg document01) (Agree 0 (globalsIn classes)) r r′
-    → unstatedEnd ((ranOf document01 a n r) .answer) ≡ false → Alike (ranOf document01 a n r) (ranOf document01 b n r′)
-matches-alike classes a b n r r′ e m h =
+matches-alike : (D : Dialect) (classes : List ℕ) (a b n : ℕ) (r r′ : Result (tcg D)) → n ≡ globalCount classes → Matches (tcg D) (Agree 0 (globalsIn classes)) r r′
+    → unstatedEnd ((ranOf D a n r) .answer) ≡ false → Alike (ranOf D a n r) (ranOf D b n r′)
+matches-alike D classes a b n r r′ e m h =
     record {
-      end = subst (λ (x : End ℕ Fault). SameEnd ((ranOf document01 a n r) .answer) (answerOf x (b - length (r′ .left)) (r′ .count))) (sym (m .end))
+      end = subst (λ (x : End ℕ Fault). SameEnd ((ranOf D a n r) .answer) (answerOf x (b - length (r′ .left)) (r′ .count))) (sym (m .end))
           (same-end (r .end) (a - length (r .left)) (b - length (r′ .left)) (r .count) (r′ .count) (m .count) h);
       globals = values-same (r′ .state .env) (r .state .env) 0 n (λ u l. sym (m .state .vars u (globals-below classes u (omega arith))));
       memory = sym (m .state .mem);
     }
 
 -- a run of an accepted block on fitting globals and memory is the run of its ops
-pub run-accepted : (block : List ℕ) (ds os : List (List ℕ)) (globals memory : List ℕ) → checkOf block ≡ Accepted → Parts block ds os → fits ds globals memory ≡ true
-    → runOf block globals memory ≡ runOps document01 os globals memory
+pub run-accepted : {D : Dialect} (block : List ℕ) (ds os : List (List ℕ)) (globals memory : List ℕ) → checkBy (D .rows) block ≡ Accepted → Parts D block ds os → fits ds globals memory ≡ true
+    → runBy D block globals memory ≡ runOps D os globals memory
 unfolding runBy runChecked
 run-accepted block ds os globals memory h p f = rw (h, p .declared, p .ops, f)
 
@@ -81,30 +81,30 @@ fit-count ds globals memory f =
     eqb-true (length globals) (globalCount (classesOf ds)) (and-l (eqb (length globals) (globalCount (classesOf ds))) (globalsFit (declaredTypes ds) globals) a)
 
 -- neither run is out of steps: that of the result is the same with the block's limit as with its own
-runs-alike : (ds os : List (List ℕ)) (globals memory : List ℕ) → scoped (tcg document01) (keptIn (classesOf ds)) empty os ≡ true → fits ds globals memory ≡ true
-    → unspent ((opsRun document01 (passOps document01 (classesOf ds) os) (entry document01 globals memory)) .end) ≡ true
-    → unstatedEnd ((runOps document01 os globals memory) .answer) ≡ false → Alike (runOps document01 os globals memory) (runOps document01 (passOps document01 (classesOf ds) os) globals memory)
+runs-alike : {D : Dialect} (law : Lawful D) (ds os : List (List ℕ)) (globals memory : List ℕ) → scoped (tcg D) (keptIn (classesOf ds)) empty os ≡ true → fits ds globals memory ≡ true
+    → unspent ((opsRun D (passOps D (classesOf ds) os) (entry D globals memory)) .end) ≡ true
+    → unstatedEnd ((runOps D os globals memory) .answer) ≡ false → Alike (runOps D os globals memory) (runOps D (passOps D (classesOf ds) os) globals memory)
 unfolding runOps passOps
-runs-alike ds os globals memory c f u h =
-    let os′ = passOps document01 (classesOf ds) os in
-    let s = entry document01 globals memory in
-    let r = opsRun document01 os s in
+runs-alike {D = D} law ds os globals memory c f u h =
+    let os′ = passOps D (classesOf ds) os in
+    let s = entry D globals memory in
+    let r = opsRun D os s in
     let d : definite (r .end) ≡ true = definite-end (r .end) (length os - length (r .left)) (r .count) h in
-    let m = (ops-preserved (classesOf ds) os c) .alike (suc (length os)) s tt d in
-    let r′ = runs (tcg document01) (suc (length os)) os′ s in
+    let m = (ops-preserved law (classesOf ds) os c) .alike (suc (length os)) s tt d in
+    let r′ = runs (tcg D) (suc (length os)) os′ s in
     let u′ : unspent (r′ .end) ≡ true = rw (m .end) (and-l (unspent (r .end)) (stated (r .end)) d) in
-    let e : r′ ≡ opsRun document01 os′ s = same-run (tcg document01) os′ (suc (length os)) (suc (length os′)) os′ s u′ u in
-    matches-alike (classesOf ds) (length os) (length os′) (length globals) r (opsRun document01 os′ s) (fit-count ds globals memory f)
-    (subst (Matches (tcg document01) (Agree 0 (globalsIn (classesOf ds))) r) e m) h
+    let e : r′ ≡ opsRun D os′ s = same-run (tcg D) os′ (suc (length os)) (suc (length os′)) os′ s u′ u in
+    matches-alike D (classesOf ds) (length os) (length os′) (length globals) r (opsRun D os′ s) (fit-count ds globals memory f)
+    (subst (Matches (tcg D) (Agree 0 (globalsIn (classesOf ds))) r) e m) h
 
-pub blocks-alike : (block result : List ℕ) (ds os : List (List ℕ)) → checkOf block ≡ Accepted → Parts block ds os → checkOf result ≡ Accepted
-    → Parts result ds (passOps document01 (classesOf ds) os) → (globals memory : List ℕ) → Fit document01 block globals memory → unstatedEnd ((runOf block globals memory) .answer) ≡ false
-    → Alike (runOf block globals memory) (runOf result globals memory)
-blocks-alike block result ds os h p h′ p′ globals memory f u =
+pub blocks-alike : {D : Dialect} (law : Lawful D) (block result : List ℕ) (ds os : List (List ℕ)) → checkBy (D .rows) block ≡ Accepted → Parts D block ds os → checkBy (D .rows) result ≡ Accepted
+    → Parts D result ds (passOps D (classesOf ds) os) → (globals memory : List ℕ) → Fit D block globals memory → unstatedEnd ((runBy D block globals memory) .answer) ≡ false
+    → Alike (runBy D block globals memory) (runBy D result globals memory)
+blocks-alike {D = D} law block result ds os h p h′ p′ globals memory f u =
     let f₁ : fits ds globals memory ≡ true = sym (ap (λ (t : List (List ℕ)). fits t globals memory) (p .declared)) ∙ f in
     let e = run-accepted block ds os globals memory h p f₁ in
-    let e′ = run-accepted result ds (passOps document01 (classesOf ds) os) globals memory h′ p′ f₁ in
-    let u₁ : unstatedEnd ((runOps document01 os globals memory) .answer) ≡ false = sym (ap (λ (t : Ran). unstatedEnd (t .answer)) e) ∙ u in
-    let v : proper ((opsRun document01 (passOps document01 (classesOf ds) os) (entry document01 globals memory)) .end) ≡ true = rw (p′ .ops) at (run-ends result globals memory h′) in
-    let n : unspent ((opsRun document01 (passOps document01 (classesOf ds) os) (entry document01 globals memory)) .end) ≡ true = and-r (notFell ((opsRun document01 (passOps document01 (classesOf ds) os) (entry document01 globals memory)) .end)) _ v in
-    subst₂ Alike (sym e) (sym e′) (runs-alike ds os globals memory (p .in-scope) f₁ n u₁)
+    let e′ = run-accepted result ds (passOps D (classesOf ds) os) globals memory h′ p′ f₁ in
+    let u₁ : unstatedEnd ((runOps D os globals memory) .answer) ≡ false = sym (ap (λ (t : Ran). unstatedEnd (t .answer)) e) ∙ u in
+    let v : proper ((opsRun D (passOps D (classesOf ds) os) (entry D globals memory)) .end) ≡ true = rw (p′ .ops) at (run-ends law result globals memory h′) in
+    let n : unspent ((opsRun D (passOps D (classesOf ds) os) (entry D globals memory)) .end) ≡ true = and-r (notFell ((opsRun D (passOps D (classesOf ds) os) (entry D globals memory)) .end)) _ v in
+    subst₂ Alike (sym e) (sym e′) (runs-alike law ds os globals memory (p .in-scope) f₁ n u₁)

@@ -106,7 +106,7 @@ module _ {b : List ℕ} {p k e : ℕ} (s : Stands rowOf b p k) (q : e ≡ getD k
     live-before-is w w′ = w′ ∙ ap (λ (m : Vars). plus m (bytesAt b (p + 1 + outsIn e) (insIn e))) w ∙ sym live-is
 
   dead-is : (l : Vars) → dead (viewOf document01 (recordAt rowOf b p)) l ≡ (isPure (roleNo (roleIn e)) && noneIn (bytesAt b (p + 1) (outsIn e)) l)
-  dead-is l = rw (pure-at (recordAt rowOf b p), outputs-at (recordAt rowOf b p), its-role, its-outputs) (dead-by (roleNo (roleIn e)) (bytesAt b (p + 1) (outsIn e)) l)
+  dead-is l = rw (pure-at document01 (recordAt rowOf b p), outputs-at document01 (recordAt rowOf b p), its-role, its-outputs) (dead-by (roleNo (roleIn e)) (bytesAt b (p + 1) (outsIn e)) l)
 
   module _ (l : Vars) {n : ℕ} (m : n ≡ numberOf (roleNo (roleIn e))) where
     pub never-dead : n < 8 → false ≡ dead (viewOf document01 (recordAt rowOf b p)) l

@@ -66,8 +66,8 @@ pub record Begins (folded consts f v : List ℕ) (i : ℕ) : Type 0 where
 
 -- the ops before the i-th have been folded: whatever is chosen so for the rest chooses all
 pub record FoldingSo (b folded consts known values : List ℕ) (os : List (List ℕ)) (i : ℕ) : Type 0 where
-  pub goes-on : (f v : List ℕ) → Begins folded consts f v i → chosenFrom i f v (drop i os) ≡ foldOps (tcg document01) rule (drop i os) (on (knownOf known values))
-      → chosenFrom 0 f v os ≡ foldOps (tcg document01) rule os (on nothing)
+  pub goes-on : (f v : List ℕ) → Begins folded consts f v i → chosenFrom i f v (drop i os) ≡ foldOps (tcg document01) (rule document01) (drop i os) (on (knownOf known values))
+      → chosenFrom 0 f v os ≡ foldOps (tcg document01) (rule document01) os (on nothing)
   pub only-so : (j : ℕ) → j < i → getD folded j 0 ≡ 1 → roleOf rowOf (kindOf (getD os j [])) ≡ computing
   pub long-folded : length folded ≡ 256
   pub long-consts : length consts ≡ 256
@@ -76,7 +76,7 @@ pub folding-start : {b folded consts : List ℕ} {os : List (List ℕ)} {known v
     → FoldingSo b folded consts known values os 0
 folding-start {b} {folded} {consts} {os} {known} {values} l m z =
     record {
-      goes-on = λ f v s e. e ∙ ap (λ (k : Known ℕ). foldOps (tcg document01) rule os (on k)) (none-known values z);
+      goes-on = λ f v s e. e ∙ ap (λ (k : Known ℕ). foldOps (tcg document01) (rule document01) os (on k)) (none-known values z);
       only-so = λ j h. absurd (omega arith);
       long-folded = l;
       long-consts = m;
@@ -100,24 +100,24 @@ module _ {b places folded consts folded′ consts′ known values known′ value
   cut-ops : drop i os ≡ o ∷ drop (suc i) os
   cut-ops = drop-cons os i [] (omega (arith, c .count-is))
 
-  folds-here : foldOps (tcg document01) rule (drop i os) (on (knownOf known values)) ≡ picked ∷ foldOps (tcg document01) rule (drop (suc i) os) (on (knownOf known′ values′))
+  folds-here : foldOps (tcg document01) (rule document01) (drop i os) (on (knownOf known values)) ≡ picked ∷ foldOps (tcg document01) (rule document01) (drop (suc i) os) (on (knownOf known′ values′))
   folds-here =
       let e : recordAt rowOf b (getD places i 0) ≡ o = t .here in
-      let r : rule (knownOf known values) o ≡ put picked =
-      subst (λ (q : List ℕ). rule (knownOf known values) q ≡ put (pickOp (getD folded′ i 0) (getD consts′ i 0) q)) e (a .rule-at) in
+      let r : rule document01 (knownOf known values) o ≡ put picked =
+      subst (λ (q : List ℕ). rule document01 (knownOf known values) q ≡ put (pickOp (getD folded′ i 0) (getD consts′ i 0) q)) e (a .rule-at) in
       let n : knownOf known′ values′ ≡ learned (knownOf known values) (viewOf document01 picked) =
       subst (λ (q : List ℕ). knownOf known′ values′ ≡ learned (knownOf known values) (viewOf document01 (pickOp (getD folded′ i 0) (getD consts′ i 0) q))) e (a .known-at) in
-      ap (λ (q : List (List ℕ)). foldOps (tcg document01) rule q (on (knownOf known values))) cut-ops
-      ∙ ap (emit (tcg document01) rule (knownOf known values) (foldOps (tcg document01) rule (drop (suc i) os))) r
-      ∙ ap (λ (k : Known ℕ). picked ∷ foldOps (tcg document01) rule (drop (suc i) os) (on k)) (sym n)
+      ap (λ (q : List (List ℕ)). foldOps (tcg document01) (rule document01) q (on (knownOf known values))) cut-ops
+      ∙ ap (emit (tcg document01) (rule document01) (knownOf known values) (foldOps (tcg document01) (rule document01) (drop (suc i) os))) r
+      ∙ ap (λ (k : Known ℕ). picked ∷ foldOps (tcg document01) (rule document01) (drop (suc i) os) (on k)) (sym n)
 
   chosen-here : (f v : List ℕ) → getD f i 0 ≡ getD folded′ i 0 → getD v i 0 ≡ getD consts′ i 0 → chosenFrom i f v (drop i os) ≡ picked ∷ chosenFrom (suc i) f v (drop (suc i) os)
   unfolding chosenFrom
   chosen-here f v e g =
       ap (chosenFrom i f v) cut-ops ∙ ap₂ (λ (n y : ℕ). pickOp n y o ∷ chosenFrom (suc i) f v (drop (suc i) os)) e g
 
-  goes-further : (f v : List ℕ) → Begins folded′ consts′ f v (suc i) → chosenFrom (suc i) f v (drop (suc i) os) ≡ foldOps (tcg document01) rule (drop (suc i) os) (on (knownOf known′ values′))
-      → chosenFrom 0 f v os ≡ foldOps (tcg document01) rule os (on nothing)
+  goes-further : (f v : List ℕ) → Begins folded′ consts′ f v (suc i) → chosenFrom (suc i) f v (drop (suc i) os) ≡ foldOps (tcg document01) (rule document01) (drop (suc i) os) (on (knownOf known′ values′))
+      → chosenFrom 0 f v os ≡ foldOps (tcg document01) (rule document01) os (on nothing)
   goes-further f v n e =
       let w = n .same i (omega arith) in
       s .goes-on f v

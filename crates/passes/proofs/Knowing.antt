@@ -28,7 +28,9 @@ use Rattle.block.proofs.MarkSets.{at-place, marked-none}
 use Rattle.block.proofs.Operands.{eachBy}
 use Rattle.block.proofs.Views.{body-from, byte, row-at, constant-view, pure-view}
 use Rattle.runs.specs.Evaluates.{Computed, inputsAt, statesAt, valuesOf, envOf}
-use Rattle.runs.proofs.Roles.{number-of, role-by}
+use Rattle.runs.proofs.Roles.{role-by}
+use Rattle.ops.proofs.Table.{number-of}
+use Rattle.ops.proofs.Document01.{lawful}
 use Rattle.passes.specs.Knows.{knownOf, allMarked, statedBy, StatesKnown, Stays, Folds}
 use Rattle.passes.proofs.Before.{its-role, its-outputs}
 use Rattle.passes.proofs.Emitting.{computing-folds, one-output}
@@ -143,7 +145,7 @@ module _ {b : List ℕ} {p : ℕ} (s : Stands rowOf b p (getD b p 0)) {known val
       go : (ks : Option (List ℕ)) → bindO (stated (viewOf document01 (recordAt rowOf b p))) ks ≡ some (x ∷ []) → viewOf document01 (folding document01 .const (recordAt rowOf b p) x) ≡ calc (at b (p + 1) ∷ []) [] (λ ys. some (x ∷ []))
       go none h = no-some h
       go (some xs) h =
-          const-view (recordAt rowOf b p) xs (x ∷ []) may-fold h ∙ ap (λ (n : ℕ). calc (n ∷ []) [] (λ ys. some (x ∷ []))) (byte s 1 (body-from computing (getD b p 0) computes-so))
+          const-view lawful (recordAt rowOf b p) xs (x ∷ []) may-fold h ∙ ap (λ (n : ℕ). calc (n ∷ []) [] (λ ys. some (x ∷ []))) (byte s 1 (body-from computing (getD b p 0) computes-so))
 
   pub folds-value : {known′ values′ : List ℕ} → knownOf known′ values′ ≡ upd (knownOf known values) (at b (p + 1)) (some x) → Folds b p known values known′ values′ (Value x)
   folds-value u =
@@ -192,7 +194,7 @@ module _ {b : List ℕ} {p k : ℕ} (s : Stands rowOf b p k) {e n : ℕ} (q : e 
       record { known-after = u ∙ ap (λ (z : ℕ). upd (knownOf known values) (at b (p + 1)) (some z)) y ∙ sym (ap (learned (knownOf known values)) (constant-view s (is-constant h))) }
 
   closing : closes (viewOf document01 (recordAt rowOf b p)) ≡ isClosing (roleNo (roleIn e))
-  closing = closes-at (recordAt rowOf b p) ∙ ap isClosing (its-role s q)
+  closing = closes-at document01 (recordAt rowOf b p) ∙ ap isClosing (its-role s q)
 
   pub over-end : {known′ : List ℕ} → n < 6 → known′ ≡ replicate 256 0 → Stays b p known values known′ values
   over-end h z = record { known-after = none-known values z ∙ rw (closing ∙ lt-ltb (numberOf (roleNo (roleIn e))) 6 (omega arith)) }
@@ -209,13 +211,13 @@ module _ {b : List ℕ} {p k : ℕ} (s : Stands rowOf b p k) {e n : ℕ} (q : e 
             let j : 7 < n = omega (arith, ltb-true 7 (numberOf (roleNo (roleIn e))) t) in
             let nine : n ≡ 9 = omega (arith, number-of (roleNo (roleIn e)) .1, lt-of-le-ne {i = 8} {k = n} (omega arith) (λ z. i (sym z))) in
             rw (ap foldableRow (row-at s) ∙ computing-folds k (role-by computing k q m nine)) at (w .states-so)
-        go (inr t) = impure (viewOf document01 o) (pure-at o ∙ ap isPure (its-role s q) ∙ t) (allKnown (reads (knownOf known values) (inputs (viewOf document01 o))))
+        go (inr t) = impure (viewOf document01 o) (pure-at document01 o ∙ ap isPure (its-role s q) ∙ t) (allKnown (reads (knownOf known values) (inputs (viewOf document01 o))))
 
     pub over-others : {known′ : List ℕ} → marked known′ ≡ without (marked known) (bytesAt b (p + 1) (outsIn e)) → Stays b p known values known′ values
     over-others {known′} u =
         let stays : isClosing (roleNo (roleIn e)) ≡ false = le-ltb (numberOf (roleNo (roleIn e))) 6 (omega arith) in
         let outs : outputs (viewOf document01 o) ≡ bytesAt b (p + 1) (outsIn e) =
-        outputs-at o ∙ ap₂ (λ (t : Bool) (xs : List ℕ). cond t [] xs) (ap isClosing (its-role s q) ∙ stays) (its-outputs s q) in
+        outputs-at document01 o ∙ ap₂ (λ (t : Bool) (xs : List ℕ). cond t [] xs) (ap isClosing (its-role s q) ∙ stays) (its-outputs s q) in
         record {
           known-after =
               forgets known known′ values (bytesAt b (p + 1) (outsIn e)) u

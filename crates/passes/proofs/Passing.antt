@@ -30,6 +30,7 @@ use Rattle.passes.proofs.Result.{declarations-size, ops-size, concat-ap
 use Rattle.passes.proofs.Stores.{sets-append}
 use Rattle.block.specs.declared.Verdict.the-variants.{Refused as CheckRefused}
 use Rattle.passes.specs.declared.Written.the-variants.{Refused, Length}
+use Rattle.ops.proofs.Document01.{lawful}
 
 -- what a cut leaves stands after the records
 cut-front : (n : ℕ) (bytes : List ℕ) → (rest : List ℕ) × (concat ((cutBy rowOf n bytes) .records) ++ rest ≡ bytes)
@@ -70,13 +71,13 @@ module _ {block places classes : List ℕ} {ops n : ℕ} (r : Ready block places
   abbrev os : List (List ℕ)
   os = opsFrom (recordsOf rowOf block)
 
-  its-parts : Parts block ds os
-  its-parts = parts block (r .accepted)
+  its-parts : Parts document01 block ds os
+  its-parts = parts lawful block (r .accepted)
 
   long-declared : length (concat ds) ≡ 3 * n
   long-declared =
       let l : length (take n classes) ≡ n = length-take-le n classes (omega (arith, r .few, r .long)) in
-      declarations-size ds (its-parts .wholes .0) (its-parts .all-declared) ∙ ap (λ (m : ℕ). 3 * m) (sym (classes-length ds) ∙ ap length (r .classes-are) ∙ l)
+      declarations-size lawful ds (its-parts .wholes .0) (its-parts .all-declared) ∙ ap (λ (m : ℕ). 3 * m) (sym (classes-length ds) ∙ ap length (r .classes-are) ∙ l)
 
   split-bytes : (rest : List ℕ) × (concat ds ++ rest ≡ block)
   split-bytes =
@@ -99,7 +100,7 @@ module _ {block places classes : List ℕ} {ops n : ℕ} (r : Ready block places
   pub result-small : length (resultOf document01 block) ≤ 2752
   result-small =
       let e : resultOf document01 block ≡ concat (ds ++ passOps document01 (classesOf ds) os) = result-of block ds os its-parts in
-      let b = parts-size (concat (ds ++ passOps document01 (classesOf ds) os)) ds (passOps document01 (classesOf ds) os) ((kept-parts block ds os its-parts) .1) in
+      let b = parts-size lawful (concat (ds ++ passOps document01 (classesOf ds) os)) ds (passOps document01 (classesOf ds) os) ((kept-parts lawful block ds os its-parts) .1) in
       omega (arith, ap length e, b)
 
   no-room : (out : List ℕ) → length out < length (resultOf document01 block) → passOf block out ≡ passRefused 12 0 out
@@ -148,7 +149,7 @@ module _ {block places classes : List ℕ} {ops n : ℕ} (r : Ready block places
 
         pub pass-stores : {out₂ : List ℕ} → out₂ ≡ sets out₁ (3 * n) bytes → (Length (3 * n + size) ≡ (passOf block out) .answer) × (out₂ ≡ (passOf block out) .out)
         pass-stores q =
-            let a = pass-answers block out (r .accepted) (omega (arith, l, result-size)) in
+            let a = pass-answers document01 block out (r .accepted) (omega (arith, l, result-size)) in
             (ap Length result-size ∙ sym (ap (λ (p : Passed). p .answer) a), stored q ∙ sym (ap (λ (p : Passed). p .out) a))
 
 -- the first ops of several are not longer than all
@@ -162,15 +163,15 @@ module _ {block places₀ classes types places labels : List ℕ} {first n globa
   abbrev found : List (List ℕ)
   found = opsFrom (recordsOf rowOf block)
 
-  its : Parts block (declarations (recordsOf rowOf block)) found
-  its = parts block (a .accepted)
+  its : Parts document01 block (declarations (recordsOf rowOf block)) found
+  its = parts lawful block (a .accepted)
 
   few-found : length found ≤ 256
-  few-found = omega (arith, few-ops (declaredIn start (declarations (recordsOf rowOf block))) found (its .checked) (omega arith))
+  few-found = omega (arith, few-ops document01 (declaredIn start (declarations (recordsOf rowOf block))) found (its .checked) (omega arith))
 
   place-is : (i : ℕ) → i < ops → getD places i 0 ≡ first + spanOf i found
   place-is i h =
-      let b : first + spanOf i found < 65536 = omega (arith, span-short i found, ops-size found (its .wholes .1), few-found, a .start-is, a .few) in
+      let b : first + spanOf i found < 65536 = omega (arith, span-short i found, ops-size lawful found (its .wholes .1), few-found, a .start-is, a .few) in
       ap (λ (p : List ℕ). getD p i 0) (a .places-are) ∙ ap (λ (m : ℕ). getD (placesFrom first 0 places₀ found) m 0) (sym (zero-add i))
       ∙ places-at found first 0 places₀ i (omega (arith, a .count-is)) (omega (arith, few-found, l)) ∙ mod-eq-of-lt b
 

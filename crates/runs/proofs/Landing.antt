@@ -16,14 +16,14 @@ use Rattle.theory.proofs.Simulation.{isJump}
 use Rattle.theory.proofs.Sets.{and-l, and-r, clash}
 use Rattle.ops.specs.Limits.{labelCount}
 use Rattle.ops.specs.Rows.{isSetting, isJumping}
-use Rattle.ops.specs.Ops.{rowAt, labelBy, viewOf, tcg}
-use Rattle.ops.specs.Kinds.{rowOf, document01}
+use Rattle.ops.specs.Ops.{rowAt, labelBy, viewOf, tcg, Dialect}
 use Rattle.block.specs.Rules.{Seen, rule7, markedBy, passed}
 use Rattle.block.specs.Scan.{numbered, labelledBy, labelsFrom}
 use Rattle.block.proofs.Checker.{opOk, checker}
 use Rattle.block.proofs.MarkSets.{set-here, at-place, numbered-upd, numbered-none}
 use Rattle.runs.proofs.Ends.{Ahead, ahead-next, other-labels, end-set, op-parts, landed-labels}
 use Rattle.runs.proofs.Roles.{named, is-label, label-low, jump-low, stays-marked}
+use Rattle.ops.proofs.Lawful.{Lawful}
 
 -- the numbers say which labels are set
 abbrev Says : List ℕ → Seen → Type 0
@@ -52,60 +52,60 @@ label-number : (x : Bool) (m l i : ℕ) (L : List ℕ) → named x m l ≡ true 
 label-number true m l i L e h = at-place (set-here L m (i + 1) (omega (arith, eqb-true m l e))) l ∙ rw e
 label-number false m l i L e h = absurd (false≢true e)
 
-module _ (L : List ℕ) (s : Seen) (o : List ℕ) (i : ℕ) (h : Says L s) (k : opOk s o ≡ true) where
-  says-next : Says (labelledBy (rowAt rowOf o) (labelBy (rowAt rowOf o) o) i L) (passed rowOf s o)
-  says-next = says-by (isSetting ((rowAt rowOf o) .role)) L (s .labels) (labelBy (rowAt rowOf o) o) i (h .0) (h .1) (λ x. omega (arith, label-low o s x ((op-parts s o k) .0)))
+module _ {D : Dialect} (law : Lawful D) (L : List ℕ) (s : Seen) (o : List ℕ) (i : ℕ) (h : Says L s) (k : opOk D s o ≡ true) where
+  says-next : Says (labelledBy (rowAt (D .rows) o) (labelBy (rowAt (D .rows) o) o) i L) (passed (D .rows) s o)
+  says-next = says-by (isSetting ((rowAt (D .rows) o) .role)) L (s .labels) (labelBy (rowAt (D .rows) o) o) i (h .0) (h .1) (λ x. omega (arith, label-low law o s x ((op-parts D s o k) .0)))
 
-  keeps : (l : ℕ) → s .labels l ≡ true → getD (labelledBy (rowAt rowOf o) (labelBy (rowAt rowOf o) o) i L) l 0 ≡ getD L l 0
+  keeps : (l : ℕ) → s .labels l ≡ true → getD (labelledBy (rowAt (D .rows) o) (labelBy (rowAt (D .rows) o) o) i L) l 0 ≡ getD L l 0
   unfolding rule7
   keeps l t =
-      keeps-number (isSetting ((rowAt rowOf o) .role)) (isJumping ((rowAt rowOf o) .role)) L (s .labels) (labelBy (rowAt rowOf o) o) i l
-      (λ x. omega (arith, label-low o s x ((op-parts s o k) .0), h .0)) ((op-parts s o k) .1) t
+      keeps-number (isSetting ((rowAt (D .rows) o) .role)) (isJumping ((rowAt (D .rows) o) .role)) L (s .labels) (labelBy (rowAt (D .rows) o) o) i l
+      (λ x. omega (arith, label-low law o s x ((op-parts D s o k) .0), h .0)) ((op-parts D s o k) .1) t
 
-stays : (os : List (List ℕ)) (s : Seen) (L : List ℕ) (i l : ℕ) → checks (tcg document01) checker s os ≡ true → Says L s → s .labels l ≡ true → getD (labelsFrom rowOf i L os) l 0 ≡ getD L l 0
+stays : {D : Dialect} (law : Lawful D) (os : List (List ℕ)) (s : Seen) (L : List ℕ) (i l : ℕ) → checks (tcg D) (checker D) s os ≡ true → Says L s → s .labels l ≡ true → getD (labelsFrom (D .rows) i L os) l 0 ≡ getD L l 0
 unfolding labelsFrom
-stays [] s L i l c h t = refl
-stays (o ∷ os) s L i l c h t =
-    let k : opOk s o ≡ true = and-l (opOk s o) (checks (tcg document01) checker (passed rowOf s o) os) c in
-    stays os (passed rowOf s o) (labelledBy (rowAt rowOf o) (labelBy (rowAt rowOf o) o) i L) (suc i) l (and-r (opOk s o) (checks (tcg document01) checker (passed rowOf s o) os) c) (says-next L s o i h k)
-    (stays-marked (isSetting ((rowAt rowOf o) .role)) (s .labels) (labelBy (rowAt rowOf o) o) l t)
-    ∙ keeps L s o i h k l t
+stays law [] s L i l c h t = refl
+stays {D = D} law (o ∷ os) s L i l c h t =
+    let k : opOk D s o ≡ true = and-l (opOk D s o) (checks (tcg D) (checker D) (passed (D .rows) s o) os) c in
+    stays law os (passed (D .rows) s o) (labelledBy (rowAt (D .rows) o) (labelBy (rowAt (D .rows) o) o) i L) (suc i) l (and-r (opOk D s o) (checks (tcg D) (checker D) (passed (D .rows) s o) os) c) (says-next law L s o i h k)
+    (stays-marked (isSetting ((rowAt (D .rows) o) .role)) (s .labels) (labelBy (rowAt (D .rows) o) o) l t)
+    ∙ keeps law L s o i h k l t
 
 -- the op that sets a label that is jumped to: so many ops on
-record Found (os : List (List ℕ)) (l number i : ℕ) : Type 0 where
+record Found (D : Dialect) (os : List (List ℕ)) (l number i : ℕ) : Type 0 where
   on : ℕ
-  here : seek (tcg document01) l os ≡ drop on os
+  here : seek (tcg D) l os ≡ drop on os
   inside : on < length os
   numbered-so : number ≡ suc (i + on)
 
-found : (os : List (List ℕ)) (s : Seen) (L : List ℕ) (i l : ℕ) → checks (tcg document01) checker s os ≡ true → Says L s → l < labelCount → s .labels l ≡ false → s .targets l ≡ true
-    → Found os l (getD (labelsFrom rowOf i L os) l 0) i
+found : {D : Dialect} (law : Lawful D) (os : List (List ℕ)) (s : Seen) (L : List ℕ) (i l : ℕ) → checks (tcg D) (checker D) s os ≡ true → Says L s → l < labelCount → s .labels l ≡ false → s .targets l ≡ true
+    → Found D os l (getD (labelsFrom (D .rows) i L os) l 0) i
 unfolding labelsFrom
-found [] s L i l c h b f t = clash (s .labels l) (end-set s l c b t) f
-found (o ∷ os) s L i l c h b f t =
-    go (isLabel l (viewOf document01 o)) refl
-    (λ e. let p = other-labels s o l e f t in found os (passed rowOf s o) (labelledBy (rowAt rowOf o) (labelBy (rowAt rowOf o) o) i L) (suc i) l c′ h′ b (p .0) (p .1))
+found law [] s L i l c h b f t = clash (s .labels l) (end-set s l c b t) f
+found {D = D} law (o ∷ os) s L i l c h b f t =
+    go (isLabel l (viewOf D o)) refl
+    (λ e. let p = other-labels D s o l e f t in found law os (passed (D .rows) s o) (labelledBy (rowAt (D .rows) o) (labelBy (rowAt (D .rows) o) o) i L) (suc i) l c′ h′ b (p .0) (p .1))
   where
-    k : opOk s o ≡ true
-    k = and-l (opOk s o) (checks (tcg document01) checker (passed rowOf s o) os) c
+    k : opOk D s o ≡ true
+    k = and-l (opOk D s o) (checks (tcg D) (checker D) (passed (D .rows) s o) os) c
 
-    c′ : checks (tcg document01) checker (passed rowOf s o) os ≡ true
-    c′ = and-r (opOk s o) (checks (tcg document01) checker (passed rowOf s o) os) c
+    c′ : checks (tcg D) (checker D) (passed (D .rows) s o) os ≡ true
+    c′ = and-r (opOk D s o) (checks (tcg D) (checker D) (passed (D .rows) s o) os) c
 
-    h′ : Says (labelledBy (rowAt rowOf o) (labelBy (rowAt rowOf o) o) i L) (passed rowOf s o)
-    h′ = says-next L s o i h k
+    h′ : Says (labelledBy (rowAt (D .rows) o) (labelBy (rowAt (D .rows) o) o) i L) (passed (D .rows) s o)
+    h′ = says-next law L s o i h k
 
-    go : (x : Bool) → isLabel l (viewOf document01 o) ≡ x
-        → (isLabel l (viewOf document01 o) ≡ false → Found os l (getD (labelsFrom rowOf (suc i) (labelledBy (rowAt rowOf o) (labelBy (rowAt rowOf o) o) i L) os) l 0) (suc i))
-        → Found (o ∷ os) l (getD (labelsFrom rowOf (suc i) (labelledBy (rowAt rowOf o) (labelBy (rowAt rowOf o) o) i L) os) l 0) i
+    go : (x : Bool) → isLabel l (viewOf D o) ≡ x
+        → (isLabel l (viewOf D o) ≡ false → Found D os l (getD (labelsFrom (D .rows) (suc i) (labelledBy (rowAt (D .rows) o) (labelBy (rowAt (D .rows) o) o) i L) os) l 0) (suc i))
+        → Found D (o ∷ os) l (getD (labelsFrom (D .rows) (suc i) (labelledBy (rowAt (D .rows) o) (labelBy (rowAt (D .rows) o) o) i L) os) l 0) i
     go true e ih =
-        let n : getD (labelledBy (rowAt rowOf o) (labelBy (rowAt rowOf o) o) i L) l 0 ≡ i + 1 = label-number (isSetting ((rowAt rowOf o) .role)) (labelBy (rowAt rowOf o) o) l i L (sym (is-label o l) ∙ e) (omega (arith, h .0)) in
-        let set : (passed rowOf s o) .labels l ≡ true = sym (h′ .1 l) ∙ ap (λ (x : ℕ). not (eqb x 0)) n ∙ rw (ne-eqb (i + 1) 0 (λ q. omega arith)) in
+        let n : getD (labelledBy (rowAt (D .rows) o) (labelBy (rowAt (D .rows) o) o) i L) l 0 ≡ i + 1 = label-number (isSetting ((rowAt (D .rows) o) .role)) (labelBy (rowAt (D .rows) o) o) l i L (sym (is-label D o l) ∙ e) (omega (arith, h .0)) in
+        let set : (passed (D .rows) s o) .labels l ≡ true = sym (h′ .1 l) ∙ ap (λ (x : ℕ). not (eqb x 0)) n ∙ rw (ne-eqb (i + 1) 0 (λ q. omega arith)) in
         record {
           on = 0;
           here = rw e;
           inside = omega arith;
-          numbered-so = stays os (passed rowOf s o) (labelledBy (rowAt rowOf o) (labelBy (rowAt rowOf o) o) i L) (suc i) l c′ h′ set ∙ n ∙ last i;
+          numbered-so = stays law os (passed (D .rows) s o) (labelledBy (rowAt (D .rows) o) (labelBy (rowAt (D .rows) o) o) i L) (suc i) l c′ h′ set ∙ n ∙ last i;
         }
       where
         last : (i : ℕ) → i + 1 ≡ suc (i + 0)
@@ -118,42 +118,42 @@ found (o ∷ os) s L i l c h b f t =
         next i n = omega arith
 
 -- the check at the i-th op of a block
-record Reached (b os : List (List ℕ)) (i : ℕ) : Type 0 where
+record Reached (D : Dialect) (b os : List (List ℕ)) (i : ℕ) : Type 0 where
   seen-so : Seen
   numbers : List ℕ
-  checked : checks (tcg document01) checker seen-so os ≡ true
+  checked : checks (tcg D) (checker D) seen-so os ≡ true
   says : Says numbers seen-so
-  same : labelsFrom rowOf 0 (replicate 256 0) b ≡ labelsFrom rowOf i numbers os
-  ahead : Ahead b seen-so os
+  same : labelsFrom (D .rows) 0 (replicate 256 0) b ≡ labelsFrom (D .rows) i numbers os
+  ahead : Ahead D b seen-so os
 
-reach-next : (b : List (List ℕ)) (o : List ℕ) (os : List (List ℕ)) (i : ℕ) → Reached b (o ∷ os) i → Reached b os (suc i)
+reach-next : {D : Dialect} (law : Lawful D) (b : List (List ℕ)) (o : List ℕ) (os : List (List ℕ)) (i : ℕ) → Reached D b (o ∷ os) i → Reached D b os (suc i)
 unfolding labelsFrom
-reach-next b o os i r =
+reach-next {D = D} law b o os i r =
     let s = r .seen-so in
-    let k : opOk s o ≡ true = and-l (opOk s o) (checks (tcg document01) checker (passed rowOf s o) os) (r .checked) in
+    let k : opOk D s o ≡ true = and-l (opOk D s o) (checks (tcg D) (checker D) (passed (D .rows) s o) os) (r .checked) in
     record {
-      seen-so = passed rowOf s o;
-      numbers = labelledBy (rowAt rowOf o) (labelBy (rowAt rowOf o) o) i (r .numbers);
-      checked = and-r (opOk s o) (checks (tcg document01) checker (passed rowOf s o) os) (r .checked);
-      says = says-next (r .numbers) s o i (r .says) k;
+      seen-so = passed (D .rows) s o;
+      numbers = labelledBy (rowAt (D .rows) o) (labelBy (rowAt (D .rows) o) o) i (r .numbers);
+      checked = and-r (opOk D s o) (checks (tcg D) (checker D) (passed (D .rows) s o) os) (r .checked);
+      says = says-next law (r .numbers) s o i (r .says) k;
       same = r .same;
-      ahead = ahead-next b s o os (r .ahead);
+      ahead = ahead-next D b s o os (r .ahead);
     }
 
-reach : (b : List (List ℕ)) (i j : ℕ) (os : List (List ℕ)) → Reached b os j → Reached b (drop i os) (j + i)
+reach : {D : Dialect} (law : Lawful D) (b : List (List ℕ)) (i j : ℕ) (os : List (List ℕ)) → Reached D b os j → Reached D b (drop i os) (j + i)
 unfolding labelsFrom
-reach b zero j os r = rw (add-zero j) r
-reach b (suc i) j [] r = record { seen-so = r .seen-so; numbers = r .numbers; checked = r .checked; says = r .says; same = r .same; ahead = r .ahead }
-reach b (suc i) j (o ∷ os) r = let e : suc j + i ≡ j + suc i = omega arith in subst (λ (n : ℕ). Reached b (drop i os) n) e (reach b i (suc j) os (reach-next b o os j r))
+reach law b zero j os r = rw (add-zero j) r
+reach law b (suc i) j [] r = record { seen-so = r .seen-so; numbers = r .numbers; checked = r .checked; says = r .says; same = r .same; ahead = r .ahead }
+reach {D = D} law b (suc i) j (o ∷ os) r = let e : suc j + i ≡ j + suc i = omega arith in subst (λ (n : ℕ). Reached D b (drop i os) n) e (reach law b i (suc j) os (reach-next law b o os j r))
 
 -- a jump of the i-th op lands further on, at the op whose number the scan keeps
-pub record Lands (os : List (List ℕ)) (l number i : ℕ) : Type 0 where
+pub record Lands (D : Dialect) (os : List (List ℕ)) (l number i : ℕ) : Type 0 where
   pub has-number : 1 ≤ number
   pub further : i < number - 1
   pub inside : number - 1 < length os
-  pub here : seek (tcg document01) l os ≡ drop (number - 1) os
+  pub here : seek (tcg D) l os ≡ drop (number - 1) os
 
-lands : (os : List (List ℕ)) (i l number : ℕ) → seek (tcg document01) l os ≡ seek (tcg document01) l (drop (suc i) os) → Found (drop (suc i) os) l number (suc i) → Lands os l number i
+lands : {D : Dialect} (os : List (List ℕ)) (i l number : ℕ) → seek (tcg D) l os ≡ seek (tcg D) l (drop (suc i) os) → Found D (drop (suc i) os) l number (suc i) → Lands D os l number i
 lands os i l number e f =
     let n : suc i + f .on ≡ number - 1 = omega (arith, f .numbered-so) in
     record {
@@ -163,13 +163,13 @@ lands os i l number e f =
       here = e ∙ f .here ∙ drop-drop (f .on) (suc i) os ∙ ap (λ (x : ℕ). drop x os) n;
     }
 
-pub jump-lands : (s : Seen) (os : List (List ℕ)) (i l : ℕ) → checks (tcg document01) checker s os ≡ true → s .labels ≡ empty → i < length os → isJump l (viewOf document01 (getD os i [])) ≡ true
-    → Lands os l (getD (labelsFrom rowOf 0 (replicate 256 0) os) l 0) i
+pub jump-lands : {D : Dialect} (law : Lawful D) (s : Seen) (os : List (List ℕ)) (i l : ℕ) → checks (tcg D) (checker D) s os ≡ true → s .labels ≡ empty → i < length os → isJump l (viewOf D (getD os i [])) ≡ true
+    → Lands D os l (getD (labelsFrom (D .rows) 0 (replicate 256 0) os) l 0) i
 unfolding labelsFrom reach-next
-jump-lands s os i l c e h j =
+jump-lands {D = D} law s os i l c e h j =
     let o = getD os i [] in
     let rest = drop (suc i) os in
-    let r₀ : Reached os os 0 =
+    let r₀ : Reached D os os 0 =
     record {
       seen-so = s;
       numbers = replicate 256 0;
@@ -178,12 +178,12 @@ jump-lands s os i l c e h j =
       same = refl;
       ahead = λ m q. refl;
     } in
-    let r₁ : Reached os (o ∷ rest) i = subst₂ (Reached os) (drop-cons os i [] h) (zero-add i) (reach os i 0 os r₀) in
+    let r₁ : Reached D os (o ∷ rest) i = subst₂ (Reached D os) (drop-cons os i [] h) (zero-add i) (reach law os i 0 os r₀) in
     let t = r₁ .seen-so in
-    let k : opOk t o ≡ true = and-l (opOk t o) (checks (tcg document01) checker (passed rowOf t o) rest) (r₁ .checked) in
-    let p = op-parts t o k in
-    let q = landed-labels t o l j (p .1) in
-    let r₂ = reach-next os o rest i r₁ in
-    lands os i l (getD (labelsFrom rowOf 0 (replicate 256 0) os) l 0) (r₂ .ahead l (q .0))
-    (subst (λ (n : List ℕ). Found rest l (getD n l 0) (suc i)) (sym (r₂ .same))
-    (found rest (passed rowOf t o) (r₂ .numbers) (suc i) l (r₂ .checked) (r₂ .says) (jump-low o t l j (p .0)) (q .0) (q .1)))
+    let k : opOk D t o ≡ true = and-l (opOk D t o) (checks (tcg D) (checker D) (passed (D .rows) t o) rest) (r₁ .checked) in
+    let p = op-parts D t o k in
+    let q = landed-labels D t o l j (p .1) in
+    let r₂ = reach-next law os o rest i r₁ in
+    lands os i l (getD (labelsFrom (D .rows) 0 (replicate 256 0) os) l 0) (r₂ .ahead l (q .0))
+    (subst (λ (n : List ℕ). Found D rest l (getD n l 0) (suc i)) (sym (r₂ .same))
+    (found law rest (passed (D .rows) t o) (r₂ .numbers) (suc i) l (r₂ .checked) (r₂ .says) (jump-low law o t l j (p .0)) (q .0) (q .1)))

@@ -19,6 +19,7 @@ use Rattle.ops.specs.Rows.{bodyLength}
 use Rattle.ops.specs.Ops.{Fault, viewOf, tcg}
 use Rattle.ops.proofs.Entry.{Digits, digits}
 use Rattle.ops.proofs.Table.{body-short}
+use Rattle.ops.proofs.Document01.{lawful}
 use Rattle.block.specs.Records.{recordsOf, declarations, opsFrom}
 use Rattle.block.specs.Scan.{recordAt, Stands, placesFrom, recordsAt}
 use Rattle.block.proofs.Parts.{parts}
@@ -58,11 +59,11 @@ span-small b p (suc j) (o ∷ os) e l =
     omega (arith, n, body-short (getD b p 0), span-small b (p + suc (bodyLength rowOf (getD b p 0))) j os (s .others) (omega arith))
 
 module _ {b places labels : List ℕ} {start ops : ℕ} (r : Ready b places labels start ops) where
-  checked : checks (tcg document01) checker (declaredIn seenFirst (declarations (recordsOf rowOf b))) (opsOf b) ≡ true
-  checked = (parts b (r .approved .accepted)) .checked
+  checked : checks (tcg document01) (checker document01) (declaredIn seenFirst (declarations (recordsOf rowOf b))) (opsOf b) ≡ true
+  checked = (parts lawful b (r .approved .accepted)) .checked
 
   pub few : length (opsOf b) ≤ 256
-  few = omega (arith, few-ops (declaredIn seenFirst (declarations (recordsOf rowOf b))) (opsOf b) checked (omega arith))
+  few = omega (arith, few-ops document01 (declaredIn seenFirst (declarations (recordsOf rowOf b))) (opsOf b) checked (omega arith))
 
   pub count-of : ops ≡ length (opsOf b)
   count-of = r .approved .count-is
@@ -190,10 +191,10 @@ module _ {b values₀ memory₀ values memory : List ℕ} {op place count : ℕ}
 
     -- a jump
     module _ {places labels : List ℕ} {start ops : ℕ} (r : Ready b places labels start ops) {l : ℕ} (p : Performs (viewOf document01 (recordAt rowOf b place)) values memory values′ memory′ (JumpsTo l)) where
-      pub landing : Lands (opsOf b) l (getD labels l 0) op
+      pub landing : Lands document01 (opsOf b) l (getD labels l 0) op
       landing =
-          subst (λ (x : List ℕ). Lands (opsOf b) l (getD x l 0) op) (sym (r .approved .labels-are))
-          (jump-lands (declaredIn seenFirst (declarations (recordsOf rowOf b))) (opsOf b) op l (checked r) no-labels h
+          subst (λ (x : List ℕ). Lands document01 (opsOf b) l (getD x l 0) op) (sym (r .approved .labels-are))
+          (jump-lands lawful (declaredIn seenFirst (declarations (recordsOf rowOf b))) (opsOf b) op l (checked r) no-labels h
           (effect-jumps (viewOf document01 (getD (opsOf b) op [])) (stateOf values memory) l (told p)))
         where
           no-labels : (declaredIn seenFirst (declarations (recordsOf rowOf b))) .labels ≡ empty

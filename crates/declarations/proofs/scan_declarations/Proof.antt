@@ -10,6 +10,7 @@ use Rattle.block.proofs.Declaring.{declaring-few, declaring-start, short-by, en
 use Rattle.declarations.proofs.scan_declarations.Statement.{statement}
 use Rattle.declarations.proofs.scan_declarations.Tie as tie
 use Rattle.ops.specs.Kinds.{rowOf}
+use Rattle.ops.proofs.Document01.{table-lawful}
 
 abbrev Inv-loop : tie.InvT-loop
 Inv-loop block classes₀ types₀ n₀ globals₀ at₀ classes types n globals at = (at ≤ length block) × Declaring rowOf block classes types at n globals
@@ -18,7 +19,7 @@ abbrev μ-loop : tie.MeasureT-loop
 μ-loop block classes₀ types₀ n₀ globals₀ at₀ classes types n globals at = length block - at
 
 loop-holds : tie.Need-loop-holds Inv-loop μ-loop
-loop-holds c = (omega arith, declaring-start _ _ _ (c .before .pre .0) (c .before .pre .1))
+loop-holds c = (omega arith, declaring-start rowOf _ _ _ (c .before .pre .0) (c .before .pre .1))
 
 -- the test that leaves a whole declaration, and what is then known
 abbrev turn : tie.Else2 Inv-loop μ-loop → tie.In-loop Inv-loop μ-loop
@@ -34,7 +35,7 @@ sub-if2 : tie.Need-sub-if2 Inv-loop μ-loop
 sub-if2 c = search needs
 
 returns : tie.Need-returns Inv-loop μ-loop
-returns c = short-by (c .before .before .before .before .loop .inv .1) (c .before .before .before .loop-test .taken) (c .before .if1 .left) (c .if2 .taken)
+returns c = short-by table-lawful (c .before .before .before .before .loop .inv .1) (c .before .before .before .loop-test .taken) (c .before .if1 .left) (c .if2 .taken)
 
 add-class : tie.Need-add-class Inv-loop μ-loop
 add-class c = search needs
@@ -52,7 +53,7 @@ declaration-ok-requires : tie.Need-declaration-ok-requires Inv-loop μ-loop
 declaration-ok-requires c κs = search needs
 
 returns-2 : tie.Need-returns-2 Inv-loop μ-loop
-returns-2 c = refused-by (here (c .before .before .before .before)) (c .before .declaration-ok .ensures) (not-true _ (c .if3 .taken))
+returns-2 c = refused-by table-lawful (here (c .before .before .before .before)) (c .before .declaration-ok .ensures) (not-true _ (c .if3 .taken))
 
 element-write-classes : tie.Need-element-write-classes Inv-loop μ-loop
 element-write-classes c = search needs
@@ -79,7 +80,7 @@ loop-again c =
     let h = here (c .before .before .before .before .before) in
     let ok = c .before .before .declaration-ok .ensures in
     let t = not-false (c .before .before .declaration-ok .result) (c .before .if3 .left) in
-    (omega arith, ⊎-elim (λ w. again-global h ok t (w .0 .taken) (w .1)) (λ w. again-other h ok t (w .0 .left) (w .1)) (c .if4 .came))
+    (omega arith, ⊎-elim (λ w. again-global table-lawful h ok t (w .0 .taken) (w .1)) (λ w. again-other table-lawful h ok t (w .0 .left) (w .1)) (c .if4 .came))
 
 returns-3 : tie.Need-returns-3 Inv-loop μ-loop
 returns-3 c = ended-by (c .before .loop .inv .1) (c .loop-test .left)

@@ -6,7 +6,8 @@ use borrow.Author.Needs.{needs}
 use Rattle.ops.specs.Rows.{setsLabel, jumpsTo, exits, branches, loads, stores, constant, computing, roleNo, roleIn}
 use Rattle.block.proofs.Views.{inside, branch-view, load-view, store-view, constant-view}
 use Rattle.runs.proofs.Performed.{step-label, step-jumps, step-exits, step-none}
-use Rattle.runs.proofs.Roles.{number-of, role-by}
+use Rattle.runs.proofs.Roles.{role-by}
+use Rattle.ops.proofs.Table.{number-of}
 use Rattle.step.proofs.step.Statement.{statement}
 use Rattle.step.proofs.step.Tie as tie
 
