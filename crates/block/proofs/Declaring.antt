@@ -24,7 +24,7 @@ use Rattle.block.proofs.Steps.{cut-record, at-short, at-record, at-star
 use Rattle.block.specs.Rules.{allGlobal, rule3, declared, next}
 use Rattle.block.specs.Scan.{recordAt, checkAt, declaredSeen, Declaring}
 use Rattle.block.specs.declared.Verdict.the-variants.{Refused}
-use Rattle.ops.proofs.Lawful.{LawfulTable}
+use Rattle.ops.specs.Lawful.{LawfulTable}
 
 -- the globals come first: all are globals exactly when as many are as there are variables
 count-all : (cs : List ℕ) → eqb (globalCount cs) (length cs) ≡ allGlobal cs

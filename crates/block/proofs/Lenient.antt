@@ -15,7 +15,7 @@ use Rattle.theory.specs.Sets.{Vars}
 use Rattle.theory.proofs.Accept.{Lenient, Cutting, Admitted, Admits}
 use Rattle.theory.proofs.Rule.{Puts, same, folds, puts}
 use Rattle.theory.proofs.Sets.{and-l, and-r, and-i, clash}
-use Rattle.ops.specs.Rows.{Role, roleOf, isPure, isSetting, isJumping, at}
+use Rattle.ops.specs.Rows.{Role, roleOf, isPure, isSetting, isJumping, at, Table}
 use Rattle.ops.specs.Rows.{known, bodyLength}
 use Rattle.ops.specs.Ops.{leave, kindOf, rowAt, insBy, labelBy, viewFor, viewOf, tcg, folding, Dialect}
 use Rattle.ops.proofs.Traits.{pure-at, pure-quiet}
@@ -38,29 +38,29 @@ pub record Le (x y : Seen) : Type 0 where
   pub ops : y .ops ≤ x .ops
   pub last : x .last ≡ 0x04 → y .last ≡ 0x04
 
-rules-le : (D : Dialect) (x y : Seen) (o : List ℕ) → Le x y → (rule9 x o && (rule4 (D .rows) x o && (rule5 (D .rows) x o && (rule6 (D .rows) x o && rule7 (D .rows) x o)))) ≡ true
-    → (rule9 y o && (rule4 (D .rows) y o && (rule5 (D .rows) y o && (rule6 (D .rows) y o && rule7 (D .rows) y o)))) ≡ true
+rules-le : (T : Table) (x y : Seen) (o : List ℕ) → Le x y → (rule9 x o && (rule4 T x o && (rule5 T x o && (rule6 T x o && rule7 T x o)))) ≡ true
+    → (rule9 y o && (rule4 T y o && (rule5 T y o && (rule6 T y o && rule7 T y o)))) ≡ true
 unfolding rule9 rule4 rule5 rule6 rule7
-rules-le D x y o l h =
+rules-le T x y o l h =
     and-i (rule9 y o) _ (lt-ltb (y .ops) 256 (omega (arith, l .ops, ltb-true (x .ops) 256 (and-l (rule9 x o) _ h))))
-    (rw (l .classes, l .types, l .labels) (and-r (rule9 x o) (rule4 (D .rows) x o && (rule5 (D .rows) x o && (rule6 (D .rows) x o && rule7 (D .rows) x o))) h))
+    (rw (l .classes, l .types, l .labels) (and-r (rule9 x o) (rule4 T x o && (rule5 T x o && (rule6 T x o && rule7 T x o))) h))
 
-ok-le : (D : Dialect) (x y : Seen) (o : List ℕ) → Le x y → opOk D x o ≡ true → opOk D y o ≡ true
-ok-le D x y o l h =
-    let p = and-r (whole (D .rows) o) (not (isDeclaration o) && (rule9 x o && (rule4 (D .rows) x o && (rule5 (D .rows) x o && (rule6 (D .rows) x o && rule7 (D .rows) x o))))) h in
-    and-i (whole (D .rows) o) (not (isDeclaration o) && (rule9 y o && (rule4 (D .rows) y o && (rule5 (D .rows) y o && (rule6 (D .rows) y o && rule7 (D .rows) y o)))))
-    (and-l (whole (D .rows) o) (not (isDeclaration o) && (rule9 x o && (rule4 (D .rows) x o && (rule5 (D .rows) x o && (rule6 (D .rows) x o && rule7 (D .rows) x o))))) h)
-    (and-i (not (isDeclaration o)) (rule9 y o && (rule4 (D .rows) y o && (rule5 (D .rows) y o && (rule6 (D .rows) y o && rule7 (D .rows) y o))))
-    (and-l (not (isDeclaration o)) (rule9 x o && (rule4 (D .rows) x o && (rule5 (D .rows) x o && (rule6 (D .rows) x o && rule7 (D .rows) x o)))) p)
-    (rules-le D x y o l (and-r (not (isDeclaration o)) (rule9 x o && (rule4 (D .rows) x o && (rule5 (D .rows) x o && (rule6 (D .rows) x o && rule7 (D .rows) x o)))) p)))
+ok-le : (T : Table) (x y : Seen) (o : List ℕ) → Le x y → opOk T x o ≡ true → opOk T y o ≡ true
+ok-le T x y o l h =
+    let p = and-r (whole T o) (not (isDeclaration o) && (rule9 x o && (rule4 T x o && (rule5 T x o && (rule6 T x o && rule7 T x o))))) h in
+    and-i (whole T o) (not (isDeclaration o) && (rule9 y o && (rule4 T y o && (rule5 T y o && (rule6 T y o && rule7 T y o)))))
+    (and-l (whole T o) (not (isDeclaration o) && (rule9 x o && (rule4 T x o && (rule5 T x o && (rule6 T x o && rule7 T x o))))) h)
+    (and-i (not (isDeclaration o)) (rule9 y o && (rule4 T y o && (rule5 T y o && (rule6 T y o && rule7 T y o))))
+    (and-l (not (isDeclaration o)) (rule9 x o && (rule4 T x o && (rule5 T x o && (rule6 T x o && rule7 T x o)))) p)
+    (rules-le T x y o l (and-r (not (isDeclaration o)) (rule9 x o && (rule4 T x o && (rule5 T x o && (rule6 T x o && rule7 T x o)))) p)))
 
-next-le : (D : Dialect) (x y : Seen) (o : List ℕ) → Le x y → Le (passed (D .rows) x o) (passed (D .rows) y o)
-next-le D x y o l =
+next-le : (T : Table) (x y : Seen) (o : List ℕ) → Le x y → Le (passed T x o) (passed T y o)
+next-le T x y o l =
     record {
       classes = l .classes;
       types = l .types;
-      labels = ap (λ (f : Vars). markedBy (isSetting ((rowAt (D .rows) o) .role)) f (labelBy (rowAt (D .rows) o) o)) (l .labels);
-      targets = ap (λ (f : Vars). markedBy (isJumping ((rowAt (D .rows) o) .role)) f (labelBy (rowAt (D .rows) o) o)) (l .targets);
+      labels = ap (λ (f : Vars). markedBy (isSetting ((rowAt T o) .role)) f (labelBy (rowAt T o) o)) (l .labels);
+      targets = ap (λ (f : Vars). markedBy (isJumping ((rowAt T o) .role)) f (labelBy (rowAt T o) o)) (l .targets);
       ops = omega (arith, l .ops);
       last = λ e. e;
     }
@@ -110,8 +110,8 @@ lenient {D = D} law =
         ops = omega (arith, a .ops, b .ops);
         last = λ e. b .last (a .last e);
       };
-      ok-le = ok-le D;
-      next-le = next-le D;
+      ok-le = ok-le (D .rows);
+      next-le = next-le (D .rows);
       fin-le = end-le;
       drop-ok = λ x o h c. drop-ok law x o c;
     }
@@ -161,7 +161,7 @@ module _ {D : Dialect} (law : Lawful D) (x : Seen) (o o′ : List ℕ) (w v : �
   no-declaration =
       ne-eqb (kindOf o′) 0x01 (λ e. clash (isPure ((rowAt (D .rows) o′) .role)) (sym (pure-at D o′) ∙ ap pure (m .view)) (ap isPure (ap (roleOf (D .rows)) e ∙ law .table .declaring)))
 
-  constant-ok : opOk D x o ≡ true → opOk D x o′ ≡ true
+  constant-ok : opOk (D .rows) x o ≡ true → opOk (D .rows) x o′ ≡ true
   constant-ok h =
       let a = and-r (not (isDeclaration o)) (rule9 x o && (rule4 (D .rows) x o && (rule5 (D .rows) x o && (rule6 (D .rows) x o && rule7 (D .rows) x o))))
       (and-r (whole (D .rows) o) (not (isDeclaration o) && (rule9 x o && (rule4 (D .rows) x o && (rule5 (D .rows) x o && (rule6 (D .rows) x o && rule7 (D .rows) x o))))) h) in
@@ -188,7 +188,7 @@ cutting law =
     }
 
 -- what fold puts in place
-admitted : {D : Dialect} (law : Lawful D) (x : Seen) (k : Known ℕ) (o : List ℕ) (y : Rewrite (List ℕ)) → Puts (tcg D) (folding D) (constants law) k o y → opOk D x o ≡ true
+admitted : {D : Dialect} (law : Lawful D) (x : Seen) (k : Known ℕ) (o : List ℕ) (y : Rewrite (List ℕ)) → Puts (tcg D) (folding D) (constants law) k o y → opOk (D .rows) x o ≡ true
     → Admitted (tcg D) (checker D) (lenient law) (cutting law) x k o y
 unfolding lenient cutting
 admitted law x k o y same h = (h, record { classes = refl; types = refl; labels = refl; targets = refl; ops = omega arith; last = λ q. q }, tt)
@@ -200,7 +200,7 @@ admitted {D = D} law x k o y (folds xs vs t a g) h =
     let c : pure (viewOf D o) ≡ true = ap pure (computes-calc (viewOf D o) xs vs g) in
     let l = calc-labels D (x .labels) (x .targets) o c in
     let l′ = calc-labels D (x .labels) (x .targets) o′ (ap pure (const-view law o xs vs t g)) in (
-      ap (opOk D x) q ∙ constant-ok law x o c′ (s .type) (s .value) (s .one-out) (s .constant-of (at o 1)) h,
+      ap (opOk (D .rows) x) q ∙ constant-ok law x o c′ (s .type) (s .value) (s .one-out) (s .constant-of (at o 1)) h,
       record {
         classes = refl;
         types = refl;

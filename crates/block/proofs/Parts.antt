@@ -68,7 +68,7 @@ parts {D = D} law block h =
     m = and-l (meet (D .rows) start ds) (accepts (D .rows) (seen (D .rows) start ds) os) b
 
     c : accepts (D .rows) (declaredIn start ds) os ≡ true
-    c = sym (ap (λ (s : Seen). accepts (D .rows) s os) (seen-declared D start ds (declared-all rs))) ∙ and-r (meet (D .rows) start ds) (accepts (D .rows) (seen (D .rows) start ds) os) b
+    c = sym (ap (λ (s : Seen). accepts (D .rows) s os) (seen-declared (D .rows) start ds (declared-all rs))) ∙ and-r (meet (D .rows) start ds) (accepts (D .rows) (seen (D .rows) start ds) os) b
 
     p : (checks (tcg D) (checker D) (declaredIn start ds) os ≡ true) × (inScope D (declaredIn start ds) os ≡ true)
     p = accepts-ops law (declaredIn start ds) os (ops-head rs) (w .1) c
@@ -77,7 +77,7 @@ parts {D = D} law block h =
 pub joined : {D : Dialect} (law : Lawful D) (ds os : List (List ℕ)) → AllWhole (D .rows) ds → AllDeclared ds → meet (D .rows) start ds ≡ true → checks (tcg D) (checker D) (declaredIn start ds) os ≡ true
     → scoped (tcg D) (keptIn (classesOf ds)) empty os ≡ true → (checkBy (D .rows) (concat (ds ++ os)) ≡ Accepted) × Parts D (concat (ds ++ os)) ds os
 joined {D = D} law ds os wd d m c k = (
-  records-accepted (D .rows) (ds ++ os) w (accepts-append (D .rows) start ds os ∙ and-i (meet (D .rows) start ds) (accepts (D .rows) (seen (D .rows) start ds) os) m (ap (λ (s : Seen). accepts (D .rows) s os) (seen-declared D start ds d) ∙ q .2)),
+  records-accepted (D .rows) (ds ++ os) w (accepts-append (D .rows) start ds os ∙ and-i (meet (D .rows) start ds) (accepts (D .rows) (seen (D .rows) start ds) os) m (ap (λ (s : Seen). accepts (D .rows) s os) (seen-declared (D .rows) start ds d) ∙ q .2)),
   record {
     records = ap (λ (t : Cut). t .records) (cut-concat (D .rows) (ds ++ os) w);
     declared = ap (λ (t : Cut). declarations (t .records)) (cut-concat (D .rows) (ds ++ os) w) ∙ z .0;

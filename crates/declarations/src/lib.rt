@@ -3,7 +3,8 @@ ghost use mathlib.Core.Path.{_≡_};
 ghost use lib.ListN.{length};
 ghost use Rattle.block.specs.Scan.{declarationOk, DeclaredBy};
 use ops::MAX_VARIABLES;
-ghost use Rattle.ops.specs.Kinds.{rowOf};
+ghost use Rattle.ops.specs.Rows.{Table};
+ghost use Rattle.ops.specs.Lawful.{LawfulTable};
 
 // Where the declarations end: the rule that is broken there, or 0; how many variables and globals there are.
 pub struct Declared {
@@ -35,7 +36,7 @@ fn declaration_ok(class: u8, ty: u8, globals: usize, n: usize) -> bool
 // Reads the declarations, up to the first record that is none or the first that is refused.
 pub fn scan_declarations(block: &[u8], classes: &mut [u8; 256], types: &mut [u8; 256]) -> Declared
     requires { ⌜ (length (now classes) ≡ 256) × (length (now types) ≡ 256) ⌝ }
-    ensures { λ r. ⌜ DeclaredBy rowOf (now (block .entry)) (now (classes .exit)) (now (types .exit)) (r .rule) (r .place) (r .variables) (r .globals) ⌝ }
+    ensures { λ r. ⌜ ((T : Table) → LawfulTable T → DeclaredBy T (now (block .entry)) (now (classes .exit)) (now (types .exit)) (r .rule) (r .place) (r .variables) (r .globals)) ⌝ }
 {
     let mut n: usize = 0;
     let mut globals: usize = 0;

@@ -23,7 +23,8 @@ use Rattle.ops.specs.Kinds.{kindTable, rowOf, one, computedOf, statesOf,
 use Rattle.ops.proofs.Table.{typeAt, rowWith, row-of, asks-few, body-short, same-number}
 use Rattle.ops.proofs.Inputs.{no-movi, evaluated}
 use Rattle.ops.proofs.Fits.{folded-fits, out-small}
-use Rattle.ops.proofs.Lawful.{LawfulTable, Constant, States, Lawful}
+use Rattle.ops.specs.Lawful.{LawfulTable}
+use Rattle.ops.proofs.Lawful.{Constant, States, Lawful}
 use Rattle.ops.proofs.Folding.{single}
 
 -- rule 6 asks that a label be below 32

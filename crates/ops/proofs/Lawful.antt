@@ -1,27 +1,14 @@
--- What the laws take of a table and of a dialect. Assumes nothing.
+-- What the laws take of a dialect. Assumes nothing.
 use mathlib.Core.Path.{_≡_}
-use mathlib.Core.Bool.{true, false, _||_}
+use mathlib.Core.Bool.{true, false}
 use mathlib.Core.Option.{some}
 use mathlib.Core.List.{List, [], _∷_}
-use Prim.Native.Nat.{ℕ, suc, _≤_, _<_}
+use Prim.Native.Nat.{ℕ, suc}
 use lib.ListN.{length}
 use Rattle.theory.specs.Machine.{calc}
-use Rattle.ops.specs.Limits.{labelCount}
-use Rattle.ops.specs.Rows.{setsLabel, declares, exits, Row, Table, isSetting, isJumping, roleOf, known, bodyLength, testOk, asksFor}
-use Rattle.ops.specs.Ops.{kindOf, rowAt, outsBy, insBy, restBy, labelBy, Dialect, evalOf, viewOf, foldableRow}
-
-pub record LawfulTable (T : Table) : Type 0 where
-  -- kind 01 declares, and has two bytes, a class and a type; kind 04 exits
-  pub declaring : roleOf T 0x01 ≡ declares
-  pub declared-body : bodyLength T 0x01 ≡ 2
-  pub exiting : roleOf T 0x04 ≡ exits
-  -- an op that sets a label reads nothing; the test of an op that sets a label or may jump to one asks that it be below the limit
-  pub label-reads : (k : ℕ) → roleOf T k ≡ setsLabel → (T k) .ins ≡ []
-  pub label-low : (r : List ℕ) → (isSetting ((rowAt T r) .role) || isJumping ((rowAt T r) .role)) ≡ true → testOk ((rowAt T r) .test) (restBy (rowAt T r) r) ≡ true
-      → labelBy (rowAt T r) r < labelCount
-  -- a test asks for no more bytes than follow the operands, and no body is longer than nine bytes
-  pub asks-few : (k : ℕ) → asksFor ((T k) .test) ≤ (T k) .rest
-  pub body-short : (k : ℕ) → bodyLength T k ≤ 9
+use Rattle.ops.specs.Rows.{Row, known, bodyLength, testOk}
+use Rattle.ops.specs.Ops.{kindOf, rowAt, outsBy, insBy, restBy, Dialect, evalOf, viewOf, foldableRow}
+use Rattle.ops.specs.Lawful.{LawfulTable}
 
 -- m is a constant of the type t, with the output d and the value x: what it does, and what the check finds in it
 pub record Constant (D : Dialect) (t d x : ℕ) (m : List ℕ) : Type 0 where

@@ -2,5 +2,6 @@ pub mod Limits
 pub mod Rows
 pub mod Eval
 pub mod Ops
+pub mod Lawful
 pub mod Kinds
 pub mod Evaluate

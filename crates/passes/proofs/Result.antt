@@ -81,7 +81,7 @@ parts-size {D = D} law block ds os p =
       length-append (concat ds) (concat os),
       declarations-size law ds (p .wholes .0) (p .all-declared),
       ops-size law os (p .wholes .1),
-      few-declared D start ds (p .all-declared) (p .met) (omega arith),
+      few-declared (D .rows) start ds (p .all-declared) (p .met) (omega arith),
       few-ops D (declaredIn start ds) os (p .checked) (omega arith),
     )
 

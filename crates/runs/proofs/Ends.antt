@@ -15,7 +15,7 @@ use Rattle.theory.proofs.Ends.{Grounded, ends-properly}
 use Rattle.theory.proofs.Simulation.{proper, goesOn, isJump}
 use Rattle.theory.proofs.Sets.{and-l, and-r, clash, tell}
 use Rattle.ops.specs.Limits.{labelCount}
-use Rattle.ops.specs.Rows.{isSetting, isJumping}
+use Rattle.ops.specs.Rows.{isSetting, isJumping, Table}
 use Rattle.ops.specs.Ops.{kindOf, rowAt, labelBy, viewOf, tcg, Dialect}
 use Rattle.block.specs.Checks.{endRules, checkBy}
 use Rattle.block.specs.Records.{recordsOf, isDeclaration, declarations, opsFrom}
@@ -48,8 +48,8 @@ unfolding rule10
 not-last law s o h = ap goesOn (exit-view law o (eqb-true (kindOf o) 0x04 (and-l (eqb (kindOf o) 0x04) _ h)))
 
 next-due : {D : Dialect} (law : Lawful D) (b : List (List ℕ)) (o : List ℕ) (r : List (List ℕ)) → Due D b (o ∷ r) → goesOn (viewOf D o) ≡ true → Due D b r
-next-due {D = D} law b o [] d h = clash (goesOn (viewOf D o)) h (not-last law (d .0) o (and-r (opOk D (d .0) o) (allMet (endRules (passed (D .rows) (d .0) o))) (d .1)))
-next-due {D = D} law b o (q ∷ r) d h = (passed (D .rows) (d .0) o, and-r (opOk D (d .0) o) (checks (tcg D) (checker D) (passed (D .rows) (d .0) o) (q ∷ r)) (d .1), ahead-next D b (d .0) o (q ∷ r) (d .2))
+next-due {D = D} law b o [] d h = clash (goesOn (viewOf D o)) h (not-last law (d .0) o (and-r (opOk (D .rows) (d .0) o) (allMet (endRules (passed (D .rows) (d .0) o))) (d .1)))
+next-due {D = D} law b o (q ∷ r) d h = (passed (D .rows) (d .0) o, and-r (opOk (D .rows) (d .0) o) (checks (tcg D) (checker D) (passed (D .rows) (d .0) o) (q ∷ r)) (d .1), ahead-next D b (d .0) o (q ∷ r) (d .2))
 
 -- a label that is not set stays so up to its set_label, and a target stays one
 pub other-labels : (D : Dialect) (s : Seen) (o : List ℕ) (k : ℕ) → isLabel k (viewOf D o) ≡ false → s .labels k ≡ false → s .targets k ≡ true
@@ -83,18 +83,18 @@ found D b [] s k c a m l t = clash (s .labels k) (end-set s k c m t) l
 found D b (o ∷ r) s k c a m l t =
     go (isLabel k (viewOf D o)) refl
     (λ n. let p = other-labels D s o k n l t in
-    found D b r (passed (D .rows) s o) k (and-r (opOk D s o) (checks (tcg D) (checker D) (passed (D .rows) s o) r) c) (ahead-next D b s o r a) m (p .0) (p .1))
+    found D b r (passed (D .rows) s o) k (and-r (opOk (D .rows) s o) (checks (tcg D) (checker D) (passed (D .rows) s o) r) c) (ahead-next D b s o r a) m (p .0) (p .1))
   where
     go : (x : Bool) → isLabel k (viewOf D o) ≡ x → (isLabel k (viewOf D o) ≡ false → Due D b (seek (tcg D) k r)) → Due D b (cond x (o ∷ r) (seek (tcg D) k r))
     go true e ih = (s, c, a)
     go false e ih = ih e
 
-pub op-parts : (D : Dialect) (s : Seen) (o : List ℕ) → opOk D s o ≡ true → (rule6 (D .rows) s o ≡ true) × (rule7 (D .rows) s o ≡ true)
-op-parts D s o h =
-    let a = and-r (not (isDeclaration o)) (rule9 s o && (rule4 (D .rows) s o && (rule5 (D .rows) s o && (rule6 (D .rows) s o && rule7 (D .rows) s o))))
-    (and-r (whole (D .rows) o) (not (isDeclaration o) && (rule9 s o && (rule4 (D .rows) s o && (rule5 (D .rows) s o && (rule6 (D .rows) s o && rule7 (D .rows) s o))))) h) in
-    let b = and-r (rule5 (D .rows) s o) (rule6 (D .rows) s o && rule7 (D .rows) s o) (and-r (rule4 (D .rows) s o) (rule5 (D .rows) s o && (rule6 (D .rows) s o && rule7 (D .rows) s o)) (and-r (rule9 s o) (rule4 (D .rows) s o && (rule5 (D .rows) s o && (rule6 (D .rows) s o && rule7 (D .rows) s o))) a)) in
-    (and-l (rule6 (D .rows) s o) (rule7 (D .rows) s o) b, and-r (rule6 (D .rows) s o) (rule7 (D .rows) s o) b)
+pub op-parts : (T : Table) (s : Seen) (o : List ℕ) → opOk T s o ≡ true → (rule6 T s o ≡ true) × (rule7 T s o ≡ true)
+op-parts T s o h =
+    let a = and-r (not (isDeclaration o)) (rule9 s o && (rule4 T s o && (rule5 T s o && (rule6 T s o && rule7 T s o))))
+    (and-r (whole T o) (not (isDeclaration o) && (rule9 s o && (rule4 T s o && (rule5 T s o && (rule6 T s o && rule7 T s o))))) h) in
+    let b = and-r (rule5 T s o) (rule6 T s o && rule7 T s o) (and-r (rule4 T s o) (rule5 T s o && (rule6 T s o && rule7 T s o)) (and-r (rule9 s o) (rule4 T s o && (rule5 T s o && (rule6 T s o && rule7 T s o))) a)) in
+    (and-l (rule6 T s o) (rule7 T s o) b, and-r (rule6 T s o) (rule7 T s o) b)
 
 -- a jump's label is not yet set, and is then jumped to
 pub landed-labels : (D : Dialect) (s : Seen) (o : List ℕ) (k : ℕ) → isJump k (viewOf D o) ≡ true → rule7 (D .rows) s o ≡ true
@@ -110,7 +110,7 @@ landed-labels D s o k j h =
 
 module _ {D : Dialect} (law : Lawful D) (b : List (List ℕ)) (o : List ℕ) (r : List (List ℕ)) (k : ℕ) (d : Due D b (o ∷ r)) (j : isJump k (viewOf D o) ≡ true) where
   met : (rule6 (D .rows) (d .0) o ≡ true) × (rule7 (D .rows) (d .0) o ≡ true)
-  met = op-parts D (d .0) o (and-l (opOk D (d .0) o) (checks (tcg D) (checker D) (passed (D .rows) (d .0) o) r) (d .1))
+  met = op-parts (D .rows) (d .0) o (and-l (opOk (D .rows) (d .0) o) (checks (tcg D) (checker D) (passed (D .rows) (d .0) o) r) (d .1))
 
   forward : seek (tcg D) k b ≡ seek (tcg D) k r
   forward = ahead-next D b (d .0) o r (d .2) k ((landed-labels D (d .0) o k j (met .1)) .0)
@@ -119,7 +119,7 @@ module _ {D : Dialect} (law : Lawful D) (b : List (List ℕ)) (o : List ℕ) (r 
   landed-due =
       let q = landed-labels D (d .0) o k j (met .1) in
       rw forward
-      (found D b r (passed (D .rows) (d .0) o) k (and-r (opOk D (d .0) o) (checks (tcg D) (checker D) (passed (D .rows) (d .0) o) r) (d .1)) (ahead-next D b (d .0) o r (d .2)) (jump-low law o (d .0) k j (met .0)) (q .0) (q .1))
+      (found D b r (passed (D .rows) (d .0) o) k (and-r (opOk (D .rows) (d .0) o) (checks (tcg D) (checker D) (passed (D .rows) (d .0) o) r) (d .1)) (ahead-next D b (d .0) o r (d .2)) (jump-low law o (d .0) k j (met .0)) (q .0) (q .1))
 
 grounded : {D : Dialect} (law : Lawful D) (b : List (List ℕ)) → Grounded (tcg D) b (Due D b)
 grounded law b = record { some-op = λ d. d; next-op = next-due law b; landed = landed-due law b }

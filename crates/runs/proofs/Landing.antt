@@ -52,22 +52,22 @@ label-number : (x : Bool) (m l i : ℕ) (L : List ℕ) → named x m l ≡ true 
 label-number true m l i L e h = at-place (set-here L m (i + 1) (omega (arith, eqb-true m l e))) l ∙ rw e
 label-number false m l i L e h = absurd (false≢true e)
 
-module _ {D : Dialect} (law : Lawful D) (L : List ℕ) (s : Seen) (o : List ℕ) (i : ℕ) (h : Says L s) (k : opOk D s o ≡ true) where
+module _ {D : Dialect} (law : Lawful D) (L : List ℕ) (s : Seen) (o : List ℕ) (i : ℕ) (h : Says L s) (k : opOk (D .rows) s o ≡ true) where
   says-next : Says (labelledBy (rowAt (D .rows) o) (labelBy (rowAt (D .rows) o) o) i L) (passed (D .rows) s o)
-  says-next = says-by (isSetting ((rowAt (D .rows) o) .role)) L (s .labels) (labelBy (rowAt (D .rows) o) o) i (h .0) (h .1) (λ x. omega (arith, label-low law o s x ((op-parts D s o k) .0)))
+  says-next = says-by (isSetting ((rowAt (D .rows) o) .role)) L (s .labels) (labelBy (rowAt (D .rows) o) o) i (h .0) (h .1) (λ x. omega (arith, label-low law o s x ((op-parts (D .rows) s o k) .0)))
 
   keeps : (l : ℕ) → s .labels l ≡ true → getD (labelledBy (rowAt (D .rows) o) (labelBy (rowAt (D .rows) o) o) i L) l 0 ≡ getD L l 0
   unfolding rule7
   keeps l t =
       keeps-number (isSetting ((rowAt (D .rows) o) .role)) (isJumping ((rowAt (D .rows) o) .role)) L (s .labels) (labelBy (rowAt (D .rows) o) o) i l
-      (λ x. omega (arith, label-low law o s x ((op-parts D s o k) .0), h .0)) ((op-parts D s o k) .1) t
+      (λ x. omega (arith, label-low law o s x ((op-parts (D .rows) s o k) .0), h .0)) ((op-parts (D .rows) s o k) .1) t
 
 stays : {D : Dialect} (law : Lawful D) (os : List (List ℕ)) (s : Seen) (L : List ℕ) (i l : ℕ) → checks (tcg D) (checker D) s os ≡ true → Says L s → s .labels l ≡ true → getD (labelsFrom (D .rows) i L os) l 0 ≡ getD L l 0
 unfolding labelsFrom
 stays law [] s L i l c h t = refl
 stays {D = D} law (o ∷ os) s L i l c h t =
-    let k : opOk D s o ≡ true = and-l (opOk D s o) (checks (tcg D) (checker D) (passed (D .rows) s o) os) c in
-    stays law os (passed (D .rows) s o) (labelledBy (rowAt (D .rows) o) (labelBy (rowAt (D .rows) o) o) i L) (suc i) l (and-r (opOk D s o) (checks (tcg D) (checker D) (passed (D .rows) s o) os) c) (says-next law L s o i h k)
+    let k : opOk (D .rows) s o ≡ true = and-l (opOk (D .rows) s o) (checks (tcg D) (checker D) (passed (D .rows) s o) os) c in
+    stays law os (passed (D .rows) s o) (labelledBy (rowAt (D .rows) o) (labelBy (rowAt (D .rows) o) o) i L) (suc i) l (and-r (opOk (D .rows) s o) (checks (tcg D) (checker D) (passed (D .rows) s o) os) c) (says-next law L s o i h k)
     (stays-marked (isSetting ((rowAt (D .rows) o) .role)) (s .labels) (labelBy (rowAt (D .rows) o) o) l t)
     ∙ keeps law L s o i h k l t
 
@@ -86,11 +86,11 @@ found {D = D} law (o ∷ os) s L i l c h b f t =
     go (isLabel l (viewOf D o)) refl
     (λ e. let p = other-labels D s o l e f t in found law os (passed (D .rows) s o) (labelledBy (rowAt (D .rows) o) (labelBy (rowAt (D .rows) o) o) i L) (suc i) l c′ h′ b (p .0) (p .1))
   where
-    k : opOk D s o ≡ true
-    k = and-l (opOk D s o) (checks (tcg D) (checker D) (passed (D .rows) s o) os) c
+    k : opOk (D .rows) s o ≡ true
+    k = and-l (opOk (D .rows) s o) (checks (tcg D) (checker D) (passed (D .rows) s o) os) c
 
     c′ : checks (tcg D) (checker D) (passed (D .rows) s o) os ≡ true
-    c′ = and-r (opOk D s o) (checks (tcg D) (checker D) (passed (D .rows) s o) os) c
+    c′ = and-r (opOk (D .rows) s o) (checks (tcg D) (checker D) (passed (D .rows) s o) os) c
 
     h′ : Says (labelledBy (rowAt (D .rows) o) (labelBy (rowAt (D .rows) o) o) i L) (passed (D .rows) s o)
     h′ = says-next law L s o i h k
@@ -130,11 +130,11 @@ reach-next : {D : Dialect} (law : Lawful D) (b : List (List ℕ)) (o : List ℕ)
 unfolding labelsFrom
 reach-next {D = D} law b o os i r =
     let s = r .seen-so in
-    let k : opOk D s o ≡ true = and-l (opOk D s o) (checks (tcg D) (checker D) (passed (D .rows) s o) os) (r .checked) in
+    let k : opOk (D .rows) s o ≡ true = and-l (opOk (D .rows) s o) (checks (tcg D) (checker D) (passed (D .rows) s o) os) (r .checked) in
     record {
       seen-so = passed (D .rows) s o;
       numbers = labelledBy (rowAt (D .rows) o) (labelBy (rowAt (D .rows) o) o) i (r .numbers);
-      checked = and-r (opOk D s o) (checks (tcg D) (checker D) (passed (D .rows) s o) os) (r .checked);
+      checked = and-r (opOk (D .rows) s o) (checks (tcg D) (checker D) (passed (D .rows) s o) os) (r .checked);
       says = says-next law (r .numbers) s o i (r .says) k;
       same = r .same;
       ahead = ahead-next D b s o os (r .ahead);
@@ -180,8 +180,8 @@ jump-lands {D = D} law s os i l c e h j =
     } in
     let r₁ : Reached D os (o ∷ rest) i = subst₂ (Reached D os) (drop-cons os i [] h) (zero-add i) (reach law os i 0 os r₀) in
     let t = r₁ .seen-so in
-    let k : opOk D t o ≡ true = and-l (opOk D t o) (checks (tcg D) (checker D) (passed (D .rows) t o) rest) (r₁ .checked) in
-    let p = op-parts D t o k in
+    let k : opOk (D .rows) t o ≡ true = and-l (opOk (D .rows) t o) (checks (tcg D) (checker D) (passed (D .rows) t o) rest) (r₁ .checked) in
+    let p = op-parts (D .rows) t o k in
     let q = landed-labels D t o l j (p .1) in
     let r₂ = reach-next law os o rest i r₁ in
     lands os i l (getD (labelsFrom (D .rows) 0 (replicate 256 0) os) l 0) (r₂ .ahead l (q .0))

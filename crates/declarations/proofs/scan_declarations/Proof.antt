@@ -9,24 +9,26 @@ use Rattle.block.specs.Scan.{Declaring}
 use Rattle.block.proofs.Declaring.{declaring-few, declaring-start, short-by, ended-by, stopped-by, Here, refused-by, again-global, again-other}
 use Rattle.declarations.proofs.scan_declarations.Statement.{statement}
 use Rattle.declarations.proofs.scan_declarations.Tie as tie
+use Rattle.ops.specs.Rows.{Table}
+use Rattle.ops.specs.Lawful.{LawfulTable}
 use Rattle.ops.specs.Kinds.{rowOf}
 use Rattle.ops.proofs.Document01.{table-lawful}
 
 abbrev Inv-loop : tie.InvT-loop
-Inv-loop block classes₀ types₀ n₀ globals₀ at₀ classes types n globals at = (at ≤ length block) × Declaring rowOf block classes types at n globals
+Inv-loop block classes₀ types₀ n₀ globals₀ at₀ classes types n globals at = (at ≤ length block) × (n ≤ 64) × ((T : Table) → LawfulTable T → Declaring T block classes types at n globals)
 
 abbrev μ-loop : tie.MeasureT-loop
 μ-loop block classes₀ types₀ n₀ globals₀ at₀ classes types n globals at = length block - at
 
 loop-holds : tie.Need-loop-holds Inv-loop μ-loop
-loop-holds c = (omega arith, declaring-start rowOf _ _ _ (c .before .pre .0) (c .before .pre .1))
+loop-holds c = (omega arith, omega arith, λ T law. declaring-start T _ _ _ (c .before .pre .0) (c .before .pre .1))
 
 -- the test that leaves a whole declaration, and what is then known
 abbrev turn : tie.Else2 Inv-loop μ-loop → tie.In-loop Inv-loop μ-loop
 turn c = c .before .before .before
 
-here : (c : tie.Else2 Inv-loop μ-loop) → Here (turn c .before .loop .inv .1)
-here c = record { inside = turn c .loop-test .taken; declares-here = c .before .if1 .left; whole = c .if2 .left }
+here : (c : tie.Else2 Inv-loop μ-loop) (T : Table) (law : LawfulTable T) → Here (turn c .before .loop .inv .2 T law)
+here c T law = record { inside = turn c .loop-test .taken; declares-here = c .before .if1 .left; whole = c .if2 .left }
 
 shared-slice-read-if1 : tie.Need-shared-slice-read-if1 Inv-loop μ-loop
 shared-slice-read-if1 c = search needs
@@ -35,7 +37,7 @@ sub-if2 : tie.Need-sub-if2 Inv-loop μ-loop
 sub-if2 c = search needs
 
 returns : tie.Need-returns Inv-loop μ-loop
-returns c = short-by table-lawful (c .before .before .before .before .loop .inv .1) (c .before .before .before .loop-test .taken) (c .before .if1 .left) (c .if2 .taken)
+returns c T law = short-by law (c .before .before .before .before .loop .inv .2 T law) (c .before .before .before .loop-test .taken) (c .before .if1 .left) (c .if2 .taken)
 
 add-class : tie.Need-add-class Inv-loop μ-loop
 add-class c = search needs
@@ -53,7 +55,7 @@ declaration-ok-requires : tie.Need-declaration-ok-requires Inv-loop μ-loop
 declaration-ok-requires c κs = search needs
 
 returns-2 : tie.Need-returns-2 Inv-loop μ-loop
-returns-2 c = refused-by table-lawful (here (c .before .before .before .before)) (c .before .declaration-ok .ensures) (not-true _ (c .if3 .taken))
+returns-2 c T law = refused-by law (here (c .before .before .before .before) T law) (c .before .declaration-ok .ensures) (not-true _ (c .if3 .taken))
 
 element-write-classes : tie.Need-element-write-classes Inv-loop μ-loop
 element-write-classes c = search needs
@@ -63,7 +65,7 @@ element-write-types c = search needs
 
 add-globals : tie.Need-add-globals Inv-loop μ-loop
 add-globals c =
-    let d = turn (c .before .before .before .before .before) .before .loop .inv .1 in
+    let d = turn (c .before .before .before .before .before) .before .loop .inv .2 rowOf table-lawful in
     omega (arith, declaring-few d, d .few)
 
 add-n : tie.Need-add-n Inv-loop μ-loop
@@ -77,16 +79,18 @@ loop-less c = search needs
 
 loop-again : tie.Need-loop-again Inv-loop μ-loop
 loop-again c =
-    let h = here (c .before .before .before .before .before) in
     let ok = c .before .before .declaration-ok .ensures in
     let t = not-false (c .before .before .declaration-ok .result) (c .before .if3 .left) in
-    (omega arith, ⊎-elim (λ w. again-global table-lawful h ok t (w .0 .taken) (w .1)) (λ w. again-other table-lawful h ok t (w .0 .left) (w .1)) (c .if4 .came))
+    let more : (T : Table) → LawfulTable T → _ =
+    λ T law. let h = here (c .before .before .before .before .before) T law in
+    ⊎-elim (λ w. again-global law h ok t (w .0 .taken) (w .1)) (λ w. again-other law h ok t (w .0 .left) (w .1)) (c .if4 .came) in
+    (omega arith, more rowOf table-lawful .few, more)
 
 returns-3 : tie.Need-returns-3 Inv-loop μ-loop
-returns-3 c = ended-by (c .before .loop .inv .1) (c .loop-test .left)
+returns-3 c T law = ended-by (c .before .loop .inv .2 T law) (c .loop-test .left)
 
 returns-4 : tie.Need-returns-4 Inv-loop μ-loop
-returns-4 c = stopped-by (c .before .before .before .loop .inv .1) (c .if1 .taken)
+returns-4 c T law = stopped-by (c .before .before .before .loop .inv .2 T law) (c .if1 .taken)
 
 pub scan-declarations-spec : {M : Type 1} → statement M
 scan-declarations-spec =
