@@ -112,7 +112,7 @@ ops-accepts {D = D} law s (o ∷ os) h k =
     let r : accepts (D .rows) (next (D .rows) s o) os ≡ true = ap (λ (t : Seen). accepts (D .rows) t os) (op-next (D .rows) s o e) ∙ q .2 in
     ((and-l (whole (D .rows) o) _ ok, q .0), n, and-i (allMet (rulesOf (D .rows) s o)) (accepts (D .rows) (next (D .rows) s o) os) m′ r)
 
--- what is (seen rowOf) after declarations alone
+-- what is seen after declarations alone
 abbrev pub declaredIn : Seen → List (List ℕ) → Seen
 declaredIn s ds =
     record {

@@ -15,7 +15,7 @@ use Rattle.ops.specs.Rows.{known, bodyLength, Table}
 use Rattle.ops.specs.Ops.{kindOf}
 use Rattle.block.specs.Records.{Cut, nothingLeft, stray, cons, cutBy, cutOf, concat, isDeclaration, declarations, opsFrom}
 
--- a record of a (known rowOf) kind, with its body
+-- a record of a known kind, with its body
 abbrev pub whole : Table → List ℕ → Bool
 whole T r = known T (kindOf r) && eqb (length r) (suc (bodyLength T (kindOf r)))
 

@@ -132,7 +132,7 @@ obeys-accepted {T = T} block o =
 pub accepted-means : (T : Table) (block : List ℕ) → AcceptedMeans T block
 accepted-means T block = record { accepted-obeys = accepted-obeys T block; obeys-accepted = obeys-accepted block }
 
--- refused: what (Broken rowOf) says, from any place on
+-- refused: what Broken says, from any place on
 record BrokenFrom (T : Table) (s : Seen) (place : ℕ) (bytes : List ℕ) (number p : ℕ) : Type 0 where
   before : List (List ℕ)
   rest : List ℕ

@@ -19,7 +19,7 @@ use Rattle.block.specs.declared.Verdict.the-variants.{Accepted}
 use Rattle.block.specs.Checks.{checkBy}
 use Rattle.ops.proofs.Lawful.{Lawful}
 
--- the records of an accepted block: declarations, and ops that (meet rowOf) every rule
+-- the records of an accepted block: declarations, and ops that meet every rule
 pub record Parts (D : Dialect) (block : List ℕ) (ds os : List (List ℕ)) : Type 0 where
   pub records : recordsOf (D .rows) block ≡ ds ++ os
   pub declared : declarations (recordsOf (D .rows) block) ≡ ds
@@ -73,7 +73,7 @@ parts {D = D} law block h =
     p : (checks (tcg D) (checker D) (declaredIn start ds) os ≡ true) × (inScope D (declaredIn start ds) os ≡ true)
     p = accepts-ops law (declaredIn start ds) os (ops-head rs) (w .1) c
 
--- the other way: declarations and ops that (meet rowOf) every rule make an accepted block
+-- the other way: declarations and ops that meet every rule make an accepted block
 pub joined : {D : Dialect} (law : Lawful D) (ds os : List (List ℕ)) → AllWhole (D .rows) ds → AllDeclared ds → meet (D .rows) start ds ≡ true → checks (tcg D) (checker D) (declaredIn start ds) os ≡ true
     → scoped (tcg D) (keptIn (classesOf ds)) empty os ≡ true → (checkBy (D .rows) (concat (ds ++ os)) ≡ Accepted) × Parts D (concat (ds ++ os)) ds os
 joined {D = D} law ds os wd d m c k = (

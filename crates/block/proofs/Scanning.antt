@@ -43,7 +43,7 @@ at-place T s b p h = go (known T (getD b p 0)) refl (ltb (length b) (p + suc (bo
     go true e true f = at-short T b p h s e (ltb-true (length b) (p + suc (bodyLength T k)) f)
     go true e false f = at-record T b p h s e (ltb-false (length b) (p + suc (bodyLength T k)) f)
 
--- a record of a (known rowOf) kind stands at a place, whole
+-- a record of a known kind stands at a place, whole
 pub record WholeAt (T : Table) (b : List ℕ) (p : ℕ) : Type 0 where
   pub is-known : known T (getD b p 0) ≡ true
   pub within : p + suc (bodyLength T (getD b p 0)) ≤ length b

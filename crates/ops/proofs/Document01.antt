@@ -1,13 +1,13 @@
 -- Document 01's table and dialect are lawful. Assumes nothing.
 use mathlib.Core.Path.{_≡_, refl, sym, ap, _∙_, fun-ext}
-use mathlib.Core.Bool.{true, false, cond, _||_}
+use mathlib.Core.Bool.{true, cond, _||_}
 use mathlib.Core.Option.{Option, none, some}
 use mathlib.Core.List.{List, [], _∷_}
 use mathlib.Core.Logic.{_⊎_, inl, inr}
-use Prim.Native.Nat.{ℕ, zero, suc, _^_, _≤_, _<_}
+use Prim.Native.Nat.{ℕ, zero, suc, _^_, _<_}
 use native.Mathlib.Omega.{arith}
 use lib.Dec.{eqb}
-use lib.ListN.{length, getD, drop}
+use lib.ListN.{getD, drop}
 use lib.Seq.{getD-drop}
 use borrow.Author.Tests.{eqb-true, lt-ltb, ltb-true}
 use Rattle.theory.specs.Machine.{calc}
@@ -16,8 +16,8 @@ use Rattle.theory.proofs.Sets.{and-r, or-cases}
 use Rattle.memory.specs.Bytes.{lowFirst, bytesOf}
 use Rattle.memory.proofs.Numbers.{low-bytes, length-bytes}
 use Rattle.ops.specs.Limits.{labelCount}
-use Rattle.ops.specs.Rows.{Role, declares, setsLabel, jumpsTo, exits, branches, constant, roleNo, Row, numberOf, bitsOf, typesOf, tableOf, bodyOf}
-use Rattle.ops.specs.Rows.{isKnown, isSetting, isJumping, at, condOk, labelOk, testOk, asksFor}
+use Rattle.ops.specs.Rows.{Role, setsLabel, jumpsTo, branches, constant, roleNo, Row, numberOf, bitsOf, typesOf, tableOf, bodyOf}
+use Rattle.ops.specs.Rows.{isKnown, isSetting, isJumping, at, condOk, labelOk, testOk}
 use Rattle.ops.specs.Ops.{kindOf, rowAt, outsBy, insBy, restBy, labelBy, atTypes, evalOf, viewFor, viewOf, foldableRow}
 use Rattle.ops.specs.Kinds.{kindTable, rowOf, one, computedOf, statesOf, moviKind, moviOf, document01}
 use Rattle.ops.proofs.Table.{typeAt, rowWith, row-of, asks-few, body-short, same-number}

@@ -2,7 +2,6 @@
 use mathlib.Core.Path.{_≡_, sym, ap, ap₂, _∙_}
 use mathlib.Core.List.{List, _∷_, _++_}
 use Prim.Native.Nat.{ℕ, zero, suc, _+_, _/_, _%_, _^_}
-use native.Mathlib.Omega.{arith}
 use native.Mathlib.Nat.{zero-add, suc-add, pow-zero, pow-succ', div-one, div-div-eq-div-mul}
 use lib.ListN.{length, getD, length-append}
 use Rattle.ops.specs.Rows.{outsIn, insIn, restIn, roleIn, typesIn, typesOf, roleNo, rowIn, Row, isKnown, tableOf, Table}

@@ -89,7 +89,7 @@ tcg D = record { Op = List ℕ; Val = ℕ; Mem = List ℕ; Out = ℕ; Flt = Faul
 abbrev pub foldableRow : Row → Bool
 foldableRow row = isComputing (row .role) && eqb (length (row .outs)) 1
 
--- "a movi of the output's width"
+-- fold puts the constant of the output's type
 abbrev pub folding : (D : Dialect) → Folding (tcg D)
 folding D =
     record { foldable = λ r. foldableRow (rowAt (D .rows) r); const = λ r x. D .constant (headOr 0 ((rowAt (D .rows) r) .outs)) (at r 1) x }

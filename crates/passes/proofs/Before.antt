@@ -73,7 +73,7 @@ module _ (x : Role) (classes outs : List ℕ) (l : Vars) {m : Vars} {n : ℕ} (q
 pub limit-small : (t : Bool) {limit : ℕ} → limit ≡ cond t 2 1 → limit ≤ 2
 limit-small t e = rw e (cond-all (λ (n : ℕ). n ≤ 2) t (omega arith) (omega arith))
 
--- the op that stands at a place, by the (digits kindTable) of its kind's entry
+-- the op that stands at a place, by the digits of its kind's entry
 module _ {b : List ℕ} {p k e : ℕ} (s : Stands rowOf b p k) (q : e ≡ getD kindTable k 0) where
   abbrev d : Digits rowOf e k
   d = digits kindTable q

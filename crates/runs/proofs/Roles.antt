@@ -1,18 +1,16 @@
 -- Roles by their numbers, and the labels that ops set and jump to. Assumes nothing.
 use mathlib.Core.Path.{_≡_, refl, sym, ap, _∙_, subst}
 use mathlib.Core.Bool.{Bool, true, false, cond, _||_, false≢true, true≢false}
-use mathlib.Core.Logic.{_⊎_, inl, inr}
 use mathlib.Core.Option.{none, some}
-use mathlib.Core.List.{List, [], _∷_}
+use mathlib.Core.List.{List}
 use Prim.Native.Nat.{ℕ, _<_}
-use lib.Dec.{eqb, lit<}
-use lib.ListN.{getD, drop}
-use lib.Seq.{getD-drop}
-use borrow.Author.Tests.{eqb-true, ne-eqb, ltb-true}
+use lib.Dec.{eqb}
+use lib.ListN.{getD}
+use borrow.Author.Tests.{eqb-true, ne-eqb}
 use Rattle.word.proofs.Tests.{cond-all}
 use Rattle.theory.specs.Machine.{oneOf, isLabel}
 use Rattle.theory.specs.Sets.{Vars}
-use Rattle.theory.proofs.Sets.{and-r, or-cases, clash}
+use Rattle.theory.proofs.Sets.{clash}
 use Rattle.theory.proofs.Simulation.{isJump}
 use Rattle.ops.specs.Limits.{labelCount}
 use Rattle.ops.specs.Rows.{Role, roleNo, Row, roleIn, numberOf}

@@ -12,14 +12,14 @@ use Rattle.block.proofs.Scanning.{WholeAt, rule-2, rule-1, whole-by, rule-3, op
 use Rattle.scan.proofs.record_rule.Statement.{statement}
 use Rattle.scan.proofs.record_rule.Tie as tie
 
--- the record, once it is (known rowOf) to be whole and an op
+-- the record, once it is known to be whole and an op
 abbrev start : tie.Else1 → tie.Start
 start c = c .before .before .before
 
 abbrev start-2 : tie.Else2 → tie.Start
 start-2 c = start (c .before .before)
 
--- the (digits kindTable) of its entry, and what they tell
+-- the digits of its entry, and what they tell
 its-digits : (s : tie.Start) → Digits rowOf (s .args .e) (getD (s .args .block .now) (s .args .at) 0)
 its-digits s = digits kindTable (s .pre .1)
 
