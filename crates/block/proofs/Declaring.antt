@@ -1,15 +1,16 @@
 -- One turn of the loop over the declarations. Assumes nothing.
-use mathlib.Core.Path.{_≡_, refl, sym, ap, ap₂, _∙_}
+use mathlib.Core.Path.{_≡_, refl, sym, ap, ap₂, _∙_, subst, fun-ext}
 use mathlib.Core.Bool.{Bool, true, false, cond, not, _&&_, _||_}
 use mathlib.Core.List.{List, [], _∷_, _++_, append-assoc}
-use Prim.Native.Nat.{ℕ, suc, _+_, _-_, _≤_, _<_}
+use Prim.Native.Nat.{ℕ, zero, suc, _+_, _-_, _≤_, _<_}
 use native.Mathlib.Omega.{arith}
 use lib.Dec.{eqb, ltb, leb, eqb·zero-suc, eqb·suc-suc}
-use lib.ListN.{length, getD, take, drop, set, length-set}
+use lib.ListN.{length, getD, take, drop, set, replicate, length-set}
 use lib.Seq.{length-take-le, take-suc-set}
-use borrow.Author.Tests.{ltb-true, eq-eqb, ne-eqb}
+use borrow.Author.Tests.{ltb-true, leb-true, le-ltb, eq-eqb, ne-eqb}
 use native.Mathlib.Numerals.{add-one}
 use Rattle.theory.specs.Prune.{before}
+use Rattle.theory.specs.Sets.{empty}
 use Rattle.theory.proofs.Sets.{and-l, and-r}
 use Rattle.ops.specs.Rows.{isKnown, at, Table}
 use Rattle.ops.specs.Rows.{known, bodyLength}
@@ -17,7 +18,8 @@ use Rattle.ops.specs.Ops.{kindOf}
 use Rattle.block.specs.Checks.{asks, firstBroken, answer, checkBy}
 use Rattle.block.specs.Records.{Cut, cons, cutOf, recordsOf, isDeclaration, classOf, typeOf, classesOf, declaredTypes, globalCount}
 use Rattle.block.specs.Rules.{Seen}
-use Rattle.block.specs.Scan.{Stands, declarationOk, DeclaredBy, refuses, reads-on}
+use Rattle.block.specs.Scan.{Stands, codesIn, codeOf, Coded, codeFor, declarationOk, DeclaredBy, refuses, reads-on}
+use Rattle.block.proofs.Codes.{coded-more}
 use Rattle.block.proofs.Cut.{all-append}
 use Rattle.block.proofs.Views.{byte, kind-byte}
 use Rattle.block.proofs.Steps.{cut-record, at-short, at-record, at-start}
@@ -64,11 +66,11 @@ count-small (c ∷ cs) = go (eqb c 0) (count-small cs)
     go false h = omega arith
 
 -- no more globals than variables
-pub declaring-few : {T : Table} {b classes types : List ℕ} {p n globals : ℕ} → Declaring T b classes types p n globals → globals ≤ n
-declaring-few {b} {classes} {types} {p} {n} d = omega (arith, d .globals-are, count-small (take n classes), length-take-le n classes (omega (arith, d .few, d .long-classes)))
+pub declaring-few : {T : Table} {b classes types vars : List ℕ} {p n globals : ℕ} → Declaring T b classes types vars p n globals → globals ≤ n
+declaring-few {b} {classes} {types} {vars} {p} {n} d = omega (arith, d .globals-are, count-small (take n classes), length-take-le n classes (omega (arith, d .few, d .long-classes)))
 
-pub declaring-start : (T : Table) (b classes types : List ℕ) → length classes ≡ 256 → length types ≡ 256 → Declaring T b classes types 0 0 0
-declaring-start T b classes types lc lt =
+pub declaring-start : (T : Table) (b classes types vars : List ℕ) → length classes ≡ 256 → length types ≡ 256 → vars ≡ replicate 256 8 → Declaring T b classes types vars 0 0 0
+declaring-start T b classes types vars lc lt lv =
     record {
       before = [];
       goes-on = sym (at-start T b);
@@ -82,9 +84,19 @@ declaring-start T b classes types lc lt =
       few = omega arith;
       long-classes = lc;
       long-types = lt;
+      coded = record { codes-are = ap codesIn lv ∙ fun-ext (λ v. eights 256 v ∙ sym (none v)); types-small = λ v. omega arith; inside = λ v h. refl };
+      long-vars = ap length lv;
     }
+  where
+    none : (v : ℕ) → codeOf [] [] empty v ≡ 8
+    none v = rw (le-ltb v 0 (omega arith))
 
-module _ {T : Table} (law : LawfulTable T) {b classes types : List ℕ} {p n globals : ℕ} (d : Declaring T b classes types p n globals) (h : p < length b) (k : getD b p 0 ≡ 1) where
+    eights : (m v : ℕ) → getD {A = ℕ} (replicate m 8) v 8 ≡ 8
+    eights zero v = refl
+    eights (suc m) zero = refl
+    eights (suc m) (suc v) = eights m v
+
+module _ {T : Table} (law : LawfulTable T) {b classes types vars : List ℕ} {p n globals : ℕ} (d : Declaring T b classes types vars p n globals) (h : p < length b) (k : getD b p 0 ≡ 1) where
   body : bodyLength T (getD b p 0) ≡ 2
   body = ap (bodyLength T) k ∙ law .declared-body
 
@@ -112,6 +124,10 @@ module _ {T : Table} (law : LawfulTable T) {b classes types : List ℕ} {p n glo
 
     abbrev met : Bool
     met = declarationOk (getD b (p + 1) 0) (getD b (p + 2) 0) globals n
+
+    -- the byte of the variable that is declared
+    abbrev code : ℕ
+    code = codeFor (getD b (p + 1) 0) (getD b (p + 2) 0)
 
     lc : n ≤ length classes
     lc = omega (arith, d .few, d .long-classes)
@@ -147,6 +163,15 @@ module _ {T : Table} (law : LawfulTable T) {b classes types : List ℕ} {p n glo
           and-r (leb (getD b (p + 1) 0) 2 && leb (getD b (p + 2) 0) 1) (not (eqb (getD b (p + 1) 0) 0) || eqb globals n)
           (and-l (leb (getD b (p + 1) 0) 2 && leb (getD b (p + 2) 0) 1 && (not (eqb (getD b (p + 1) 0) 0) || eqb globals n)) (ltb n 64) t)
 
+      type-low : getD b (p + 2) 0 < 4
+      unfolding declarationOk
+      type-low =
+          let e : leb (getD b (p + 2) 0) 1 ≡ true =
+          and-r (leb (getD b (p + 1) 0) 2) (leb (getD b (p + 2) 0) 1)
+          (and-l (leb (getD b (p + 1) 0) 2 && leb (getD b (p + 2) 0) 1) (not (eqb (getD b (p + 1) 0) 0) || eqb globals n)
+          (and-l (leb (getD b (p + 1) 0) 2 && leb (getD b (p + 2) 0) 1 && (not (eqb (getD b (p + 1) 0) 0) || eqb globals n)) (ltb n 64) t)) in
+          omega (arith, leb-true (getD b (p + 2) 0) 1 e)
+
       hc : n < length classes
       hc = omega (arith, few-more, d .long-classes)
 
@@ -175,7 +200,7 @@ module _ {T : Table} (law : LawfulTable T) {b classes types : List ℕ} {p n glo
           ∙ sym (append-assoc (d .before) (recordAt T b p ∷ []) ((cutOf T (drop (p + 3) b)) .records))
 
       more : (g : ℕ) → g ≡ globalCount (take n classes ++ (getD b (p + 1) 0 ∷ []))
-          → Declaring T b (set classes n (getD b (p + 1) 0)) (set types n (getD b (p + 2) 0)) (p + 3) (n + 1) g
+          → Declaring T b (set classes n (getD b (p + 1) 0)) (set types n (getD b (p + 2) 0)) (set vars n code) (p + 3) (n + 1) g
       more g e =
           record {
             before = d .before ++ (recordAt T b p ∷ []);
@@ -190,11 +215,16 @@ module _ {T : Table} (law : LawfulTable T) {b classes types : List ℕ} {p n glo
             few = omega (arith, few-more);
             long-classes = length-set classes n (getD b (p + 1) 0) ∙ d .long-classes;
             long-types = length-set types n (getD b (p + 2) 0) ∙ d .long-types;
+            coded =
+                subst (λ (cs : List ℕ). Coded (set vars n code) cs (take (n + 1) (set types n (getD b (p + 2) 0))) empty) (sym classes-more)
+                (subst (λ (ts : List ℕ). Coded (set vars n code) (take n classes ++ (getD b (p + 1) 0 ∷ [])) ts empty) (sym types-more)
+                (coded-more (d .coded) (length-take-le n classes lc) (length-take-le n types (omega (arith, ht))) (omega (arith, few-more, d .long-vars)) (getD b (p + 1) 0) (getD b (p + 2) 0) type-low));
+            long-vars = length-set vars n code ∙ d .long-vars;
           }
 
       -- a global
       pub declaring-global : getD b (p + 1) 0 ≡ 0
-          → Declaring T b (set classes n (getD b (p + 1) 0)) (set types n (getD b (p + 2) 0)) (p + 3) (n + 1) (globals + 1)
+          → Declaring T b (set classes n (getD b (p + 1) 0)) (set types n (getD b (p + 2) 0)) (set vars n code) (p + 3) (n + 1) (globals + 1)
       declaring-global z =
           let all : allGlobal (take n classes) ≡ true =
           sym (count-all (take n classes)) ∙ ap₂ eqb (sym (d .globals-are)) (length-take-le n classes lc) ∙ (rw (eq-eqb (getD b (p + 1) 0) 0 z) at global-test) in
@@ -203,7 +233,7 @@ module _ {T : Table} (law : LawfulTable T) {b classes types : List ℕ} {p n glo
 
       -- a temporary
       pub declaring-other : (getD b (p + 1) 0 ≡ 0 → ⊥)
-          → Declaring T b (set classes n (getD b (p + 1) 0)) (set types n (getD b (p + 2) 0)) (p + 3) (n + 1) globals
+          → Declaring T b (set classes n (getD b (p + 1) 0)) (set types n (getD b (p + 2) 0)) (set vars n code) (p + 3) (n + 1) globals
       declaring-other z = more globals (d .globals-are ∙ sym (count-other (take n classes) (getD b (p + 1) 0) (ne-eqb (getD b (p + 1) 0) 0 z)))
 
 pub last-false : (a b : Bool) → b ≡ false → false ≡ (a && b)
@@ -211,15 +241,15 @@ last-false true b h = sym h
 last-false false b h = refl
 
 -- the answers of the scan
-pub short-by : {T : Table} (law : LawfulTable T) {b classes types : List ℕ} {p n globals : ℕ} → Declaring T b classes types p n globals → p < length b → getD b p 0 ≡ 1
-    → length b - p < 3 → DeclaredBy T b classes types 1 p n globals
+pub short-by : {T : Table} (law : LawfulTable T) {b classes types vars : List ℕ} {p n globals : ℕ} → Declaring T b classes types vars p n globals → p < length b → getD b p 0 ≡ 1
+    → length b - p < 3 → DeclaredBy T b classes types vars 1 p n globals
 short-by law d h k l = refuses {rule = 1} (λ e. omega arith) (declaring-short law d h k l)
 
-module _ {T : Table} {b classes types : List ℕ} {p n globals : ℕ} (d : Declaring T b classes types p n globals) where
-  pub ended-by : length b ≤ p → DeclaredBy T b classes types 0 p n globals
+module _ {T : Table} {b classes types vars : List ℕ} {p n globals : ℕ} (d : Declaring T b classes types vars p n globals) where
+  pub ended-by : length b ≤ p → DeclaredBy T b classes types vars 0 p n globals
   ended-by l = reads-on d (λ h. absurd (omega arith))
 
-  pub stopped-by : (getD b p 0 ≡ 1 → ⊥) → DeclaredBy T b classes types 0 p n globals
+  pub stopped-by : (getD b p 0 ≡ 1 → ⊥) → DeclaredBy T b classes types vars 0 p n globals
   stopped-by k = reads-on d (λ h. k)
 
   -- a declaration stands at the place, whole
@@ -228,18 +258,18 @@ module _ {T : Table} {b classes types : List ℕ} {p n globals : ℕ} (d : Decla
     pub declares-here : getD b p 0 ≡ 1
     pub whole : 3 ≤ length b - p
 
-module _ {T : Table} (law : LawfulTable T) {b classes types : List ℕ} {p n globals : ℕ} {d : Declaring T b classes types p n globals} {r : Bool} (h : Here d)
+module _ {T : Table} (law : LawfulTable T) {b classes types vars : List ℕ} {p n globals : ℕ} {d : Declaring T b classes types vars p n globals} {r : Bool} (h : Here d)
     (e : r ≡ declarationOk (getD b (p + 1) 0) (getD b (p + 2) 0) globals n) where
-  pub refused-by : r ≡ false → DeclaredBy T b classes types 3 p n globals
+  pub refused-by : r ≡ false → DeclaredBy T b classes types vars 3 p n globals
   refused-by t = refuses {rule = 3} (λ q. omega arith) (declaring-refused law d (h .inside) (h .declares-here) (h .whole) (sym e ∙ t))
 
-  pub again-global : {g : ℕ} → r ≡ true → getD b (p + 1) 0 ≡ 0 → g ≡ globals + 1
-      → Declaring T b (set classes n (getD b (p + 1) 0)) (set types n (getD b (p + 2) 0)) (p + 3) (n + 1) g
-  again-global t z q = rw q (declaring-global law d (h .inside) (h .declares-here) (h .whole) (sym e ∙ t) z)
+  pub again-global : {g x : ℕ} → r ≡ true → x ≡ codeFor (getD b (p + 1) 0) (getD b (p + 2) 0) → getD b (p + 1) 0 ≡ 0 → g ≡ globals + 1
+      → Declaring T b (set classes n (getD b (p + 1) 0)) (set types n (getD b (p + 2) 0)) (set vars n x) (p + 3) (n + 1) g
+  again-global t c z q = rw (q, c) (declaring-global law d (h .inside) (h .declares-here) (h .whole) (sym e ∙ t) z)
 
-  pub again-other : {g : ℕ} → r ≡ true → (getD b (p + 1) 0 ≡ 0 → ⊥) → g ≡ globals
-      → Declaring T b (set classes n (getD b (p + 1) 0)) (set types n (getD b (p + 2) 0)) (p + 3) (n + 1) g
-  again-other t z q = rw q (declaring-other law d (h .inside) (h .declares-here) (h .whole) (sym e ∙ t) z)
+  pub again-other : {g x : ℕ} → r ≡ true → x ≡ codeFor (getD b (p + 1) 0) (getD b (p + 2) 0) → (getD b (p + 1) 0 ≡ 0 → ⊥) → g ≡ globals
+      → Declaring T b (set classes n (getD b (p + 1) 0)) (set types n (getD b (p + 2) 0)) (set vars n x) (p + 3) (n + 1) g
+  again-other t c z q = rw (q, c) (declaring-other law d (h .inside) (h .declares-here) (h .whole) (sym e ∙ t) z)
 
 pub only : (a : Bool) → a ≡ (a && true)
 only true = refl

@@ -12,6 +12,7 @@ pub mod Fields
 pub mod OpRules
 pub mod Rests
 pub mod MarkSets
+pub mod Codes
 pub mod Marking
 pub mod Declaring
 pub mod Scanning

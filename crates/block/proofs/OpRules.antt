@@ -1,233 +1,326 @@
--- The rules of the op at a place, one after the other. Assumes nothing.
+-- The rules of the op at a place, by the scan's tests. Assumes nothing.
 use mathlib.Core.Path.{_≡_, refl, sym, ap, ap₂, _∙_}
-use mathlib.Core.Bool.{Bool, true, false}
-use mathlib.Core.List.{List, []}
-use Prim.Native.Nat.{ℕ, zero, suc, _+_, _≤_, _<_}
+use mathlib.Core.Logic.{_⊎_, inl, inr}
+use mathlib.Core.Bool.{Bool, true, false, cond, not, _&&_, _||_}
+use mathlib.Core.List.{List, [], _∷_}
+use Prim.Native.Nat.{ℕ, zero, suc, _+_, _-_, _/_, _%_, _≤_, _<_}
 use native.Mathlib.Omega.{arith}
+use native.Mathlib.Nat.{add-zero, zero-add, suc-add}
+use lib.Dec.{eqb, ltb, leb}
 use lib.ListN.{length, getD, take, drop}
-use lib.Seq.{length-take-le}
-use borrow.Author.Tests.{lt-ltb, le-ltb}
-use Rattle.theory.specs.Sets.{allIn}
-use Rattle.ops.specs.Rows.{outsIn, insIn, restIn, testIn, typesIn, rowIn, Row, testOk, Table}
-use Rattle.ops.specs.Rows.{bodyLength, outputCount, operandTypes, operandCount}
-use Rattle.ops.specs.Ops.{rowAt, bytesAt, outsBy, insBy}
+use borrow.Author.Tests.{eqb-true, lt-ltb, le-ltb, le-leb, lt-leb, eq-eqb, ne-eqb}
+use Rattle.theory.specs.Sets.{Vars, allIn}
+use Rattle.theory.proofs.Sets.{tell, and-l, and-r}
+use Rattle.ops.specs.Limits.{maxOps}
+use Rattle.ops.specs.Rows.{Table, Row, outsIn, insIn, restIn, testIn, roleIn, typesIn, typesOf, rowIn, roleNo, isKnown, testOk, outputCount, operandTypes, operandCount}
+use Rattle.ops.specs.Ops.{rowAt, bytesAt, insBy}
 use Rattle.ops.proofs.Entry.{Digits}
-use Rattle.block.specs.Checks.{firstBroken, opRules}
+use Rattle.block.specs.Checks.{asks, firstBroken, opRules}
 use Rattle.block.specs.Rules.{Seen, keptIn, allBelow, operandsOf, rule4, haveTypes, rule5, rule6, labelFree, rule7, rule8, rule9}
-use Rattle.block.specs.Scan.{recordAt, Stands, typesMatch, mayReadAll, marked, numbered, seenOf, OpAt}
-use Rattle.block.proofs.Fields.{types-match, reads-match, below-right}
+use Rattle.block.specs.Scan.{recordAt, Stands, codesIn, codeOf, Coded, fitsAs, operandsFit, declaredAll, numbered, opTests, operandsOk, entryRule, opStands, opOk}
+use Rattle.block.proofs.Codes.{fit-all}
 use Rattle.block.proofs.Views.{kind-byte, row-at, operand-bytes, input-bytes, label-byte, rule4-at, rule6-at}
+
+unlike : false ≡ true → ⊥
+unlike q = omega (arith, ap (λ (b : Bool). cond {A = ℕ} b 0 1) q)
+
+-- operands that fit are declared and have their types
+fits-low : (output : Bool) (x t : ℕ) → t < 4 → fitsAs output x t ≡ true → (ltb x 8 ≡ true) × (fitsAs true x t ≡ true)
+fits-low output x t l = go output (tell (eqb x (t + 4)))
+  where
+    go : (o : Bool) → (eqb x (t + 4) ≡ true) ⊎ (eqb x (t + 4) ≡ false) → fitsAs o x t ≡ true → (ltb x 8 ≡ true) × (fitsAs true x t ≡ true)
+    go o (inl e) h = (lt-ltb x 8 (omega (arith, eqb-true x (t + 4) e)), rw e)
+    go true (inr e) h = let q : eqb x t ≡ true = rw e at h in (lt-ltb x 8 (omega (arith, eqb-true x t q)), rw (e, q))
+    go false (inr e) h = let q : false ≡ true = rw e at h in absurd (unlike q)
+
+fit-declared : (vars : List ℕ) (outs codes : ℕ) (vs : List ℕ) → operandsFit vars outs codes vs ≡ true → declaredAll vars vs ≡ true
+unfolding operandsFit
+fit-declared vars outs codes [] h = refl
+fit-declared vars outs codes (v ∷ vs) h =
+    let f : fitsAs (ltb 0 outs) (codesIn vars v) (codes % 4) ≡ true = and-l (fitsAs (ltb 0 outs) (codesIn vars v) (codes % 4)) (operandsFit vars (outs - 1) (codes / 4) vs) h in
+    rw (fits-low (ltb 0 outs) (codesIn vars v) (codes % 4) (omega arith) f .0)
+    (fit-declared vars (outs - 1) (codes / 4) vs (and-r (fitsAs (ltb 0 outs) (codesIn vars v) (codes % 4)) (operandsFit vars (outs - 1) (codes / 4) vs) h))
+
+fit-typed : (vars : List ℕ) (outs codes m : ℕ) (vs : List ℕ) → length vs ≡ m → operandsFit vars outs codes vs ≡ true → operandsFit vars m codes vs ≡ true
+unfolding operandsFit
+fit-typed vars outs codes m [] e h = refl
+fit-typed vars outs codes zero (v ∷ vs) e h = absurd (omega arith)
+fit-typed vars outs codes (suc m) (v ∷ vs) e h =
+    let f : fitsAs (ltb 0 outs) (codesIn vars v) (codes % 4) ≡ true = and-l (fitsAs (ltb 0 outs) (codesIn vars v) (codes % 4)) (operandsFit vars (outs - 1) (codes / 4) vs) h in
+    let q : suc m - 1 ≡ m = omega arith in
+    rw (q, lt-ltb 0 (suc m) (omega arith), fits-low (ltb 0 outs) (codesIn vars v) (codes % 4) (omega arith) f .1)
+    (fit-typed vars (outs - 1) (codes / 4) m vs (omega arith) (and-r (fitsAs (ltb 0 outs) (codesIn vars v) (codes % 4)) (operandsFit vars (outs - 1) (codes / 4) vs) h))
 
 bytes-length : (b : List ℕ) (q m : ℕ) → length (bytesAt b q m) ≡ m
 bytes-length b q zero = refl
 bytes-length b q (suc m) = ap suc (bytes-length b (suc q) m)
 
--- an op at a place is inside the block, whole
-pub here : {T : Table} {b classes types : List ℕ} {p n : ℕ} → OpAt T b classes types p n → p < length b
-here o = omega (arith, o .within)
-
-pub stands-here : {T : Table} {b classes types : List ℕ} {p n : ℕ} → OpAt T b classes types p n → Stands T b p (getD b p 0)
-stands-here o = record { its-kind = refl; whole = o .within }
-
--- an op: its block and place, and what the scan has of the block before it
+-- an op: the entry of its kind, its block and place, and what the scan has of the block before it
 pub record Op : Type 0 where
-  pub block : List ℕ
-  pub place : ℕ
-  pub entry : ℕ
-  pub classes : List ℕ
-  pub types : List ℕ
-  pub written : List ℕ
-  pub labels : List ℕ
-  pub n : ℕ
+  pub e : ℕ
+  pub b : List ℕ
+  pub p : ℕ
   pub ops : ℕ
+  pub vars : List ℕ
+  pub labels : List ℕ
 
-module _ (T : Table) (q : Op) where
-  abbrev its : List ℕ
-  its = recordAt T (q .block) (q .place)
-
-  abbrev seen : Seen
-  seen = seenOf (q .classes) (q .types) (q .written) (q .labels) [] (q .n) (q .ops) 0
-
-  abbrev pub kind : ℕ
-  kind = getD (q .block) (q .place) 0
-
-  -- the variables that it names, those that it reads, and the bytes after them
+module _ (q : Op) where
   abbrev named : List ℕ
-  named = bytesAt (q .block) (q .place + 1) (operandCount T kind)
+  named = bytesAt (q .b) (q .p + 1) (outsIn (q .e) + insIn (q .e))
 
-  abbrev reads : List ℕ
-  reads = bytesAt (q .block) (q .place + (1 + outputCount T kind)) (length ((T kind) .ins))
+  abbrev fit : Bool
+  fit = operandsOk (q .e) (q .b) (q .p) (q .vars)
 
-  abbrev after : List ℕ
-  after = take ((T kind) .rest) (drop (q .place + (1 + operandCount T kind)) (q .block))
+  abbrev restOk : Bool
+  restOk = testOk (testIn (q .e)) (take (restIn (q .e)) (drop (q .p + 1 + (outsIn (q .e) + insIn (q .e))) (q .b)))
 
-  -- what the tests answer
-  abbrev pub Below : Bool → Type 0
-  Below t = allBelow (q .n) named ≡ t
+  abbrev free : Bool
+  free = labelFree (rowIn (q .e)) (numbered (q .labels)) (getD (q .b) (q .p + (outsIn (q .e) + insIn (q .e) + restIn (q .e))) 0)
 
-  abbrev pub Match : Bool → Type 0
-  Match t = typesMatch (q .types) (typesIn (q .entry)) named ≡ t
-
-  abbrev pub RestOk : Bool → Type 0
-  RestOk t = testOk (testIn (q .entry)) after ≡ t
-
-  abbrev pub Free : Bool → Type 0
-  Free t = labelFree (rowIn (q .entry)) (numbered (q .labels)) (getD (q .block) (q .place + bodyLength T kind) 0) ≡ t
-
-  abbrev pub MayRead : Bool → Type 0
-  MayRead t = mayReadAll (q .classes) (q .written) reads ≡ t
-
-  -- the first rule that is broken
+  -- the first rule that is broken, where the operands do not fit
   abbrev pub First : ℕ → Type 0
-  First rule = rule ≡ firstBroken (opRules T seen its)
+  First r = r ≡ firstBroken (opTests (q .e) (q .b) (q .p) (q .ops) (q .vars) (q .labels) false)
 
-  -- the rules met so far, in the order of the tests
-  pub record Met9 : Type 0 where
-    pub stands : OpAt T (q .block) (q .classes) (q .types) (q .place) (q .n)
-    pub few : q .ops < 256
-    pub digits : Digits T (q .entry) kind
-
+  -- the tests passed, in their order
   pub record Met4 : Type 0 where
-    pub before : Met9
-    pub test : Below true
+    pub few : q .ops < 256
+    pub declared : declaredAll (q .vars) named ≡ true
 
   pub record Met5 : Type 0 where
     pub before : Met4
-    pub test : Match true
+    pub typed : operandsFit (q .vars) (outsIn (q .e) + insIn (q .e)) (typesIn (q .e)) named ≡ true
 
   pub record Met6 : Type 0 where
     pub before : Met5
-    pub test : RestOk true
+    pub rest-so : restOk ≡ true
 
-  pub record Met7 : Type 0 where
-    pub before : Met6
-    pub test : Free true
+pub is-9 : (q : Op) → 256 ≤ q .ops → First q 9
+unfolding firstBroken
+is-9 q l = rw (le-ltb (q .ops) maxOps l)
 
--- the rules, by the tests
-module _ (T : Table) {q : Op} where
-  met-9 : Met9 T q → rule9 (seen T q) (its T q) ≡ true
-  unfolding rule9
-  met-9 m = lt-ltb (q .ops) 256 (m .few)
+pub is-4 : (q : Op) → q .ops < 256 → declaredAll (q .vars) (named q) ≡ false → First q 4
+unfolding firstBroken
+is-4 q few t = rw (lt-ltb (q .ops) maxOps few, t)
 
-  its-stands : Met9 T q → Stands T (q .block) (q .place) (kind T q)
-  its-stands m = stands-here (m .stands)
+pub is-5 : {q : Op} → Met4 q → operandsFit (q .vars) (outsIn (q .e) + insIn (q .e)) (typesIn (q .e)) (named q) ≡ false → First q 5
+unfolding firstBroken
+is-5 {q} m t = rw (lt-ltb (q .ops) maxOps (m .few), m .declared, t)
 
-  rule-4 : Met9 T q → rule4 T (seen T q) (its T q) ≡ allBelow (q .n) (named T q)
-  rule-4 m = rule4-at (its-stands m) (seen T q) ∙ ap (λ (m : ℕ). allBelow m (named T q)) (length-take-le (q .n) (q .classes) (m .stands .few-classes))
+pub is-6 : {q : Op} → Met5 q → restOk q ≡ false → First q 6
+unfolding firstBroken
+is-6 {q} m t = rw (lt-ltb (q .ops) maxOps (m .before .few), m .before .declared, m .typed, t)
 
-  met-4 : Met4 T q → rule4 T (seen T q) (its T q) ≡ true
-  met-4 m = rule-4 (m .before) ∙ m .test
-
-  rule-5 : Met4 T q → rule5 T (seen T q) (its T q) ≡ typesMatch (q .types) (typesIn (q .entry)) (named T q)
-  unfolding rule5
-  rule-5 m =
-      let s = its-stands (m .before) in
-      let d = m .before .digits in
-      ap₂ (haveTypes (take (q .n) (q .types))) (operand-bytes s) (ap (operandTypes T) (kind-byte s) ∙ d .types)
-      ∙ types-match (q .n) (q .types) (m .before .stands .few-types) (named T q) (outsIn (q .entry) + insIn (q .entry)) (typesIn (q .entry))
-      (bytes-length (q .block) (q .place + 1) (operandCount T (kind T q)) ∙ d .operands) (m .test)
-
-  met-5 : Met5 T q → rule5 T (seen T q) (its T q) ≡ true
-  met-5 m = rule-5 (m .before) ∙ m .test
-
-  rule-6 : Met9 T q → rule6 T (seen T q) (its T q) ≡ testOk (testIn (q .entry)) (after T q)
-  rule-6 m = rule6-at (its-stands m) (seen T q) ∙ ap (λ (row : Row). testOk (row .test) (after T q)) (m .digits .row)
-
-  met-6 : Met6 T q → rule6 T (seen T q) (its T q) ≡ true
-  met-6 m = rule-6 (m .before .before .before) ∙ m .test
-
-  rule-7 : Met9 T q → rule7 T (seen T q) (its T q) ≡ labelFree (rowIn (q .entry)) (numbered (q .labels)) (getD (q .block) (q .place + bodyLength T (kind T q)) 0)
-  unfolding rule7
-  rule-7 m = let s = its-stands m in ap₂ (λ (row : Row) (l : ℕ). labelFree row (numbered (q .labels)) l) (row-at s ∙ m .digits .row) (label-byte s)
-
-  met-7 : Met7 T q → rule7 T (seen T q) (its T q) ≡ true
-  met-7 m = rule-7 (m .before .before .before .before) ∙ m .test
-
-  rule-8 : Met4 T q → rule8 T (seen T q) (its T q) ≡ mayReadAll (q .classes) (q .written) (reads T q)
-  unfolding rule8
-  rule-8 m =
-      let s = its-stands (m .before) in
-      let below : allBelow (q .n) (operandsOf T (its T q)) ≡ true = ap (allBelow (q .n)) (operand-bytes s) ∙ m .test in
-      let inputs : allBelow (q .n) (reads T q) ≡ true =
-      sym (ap (allBelow (q .n)) (input-bytes s)) ∙ below-right (q .n) (outsBy (rowAt T (its T q)) (its T q)) (insBy (rowAt T (its T q)) (its T q)) below in
-      ap (λ (vs : List ℕ). allIn (keptIn (take (q .n) (q .classes))) vs (marked (q .written))) (input-bytes s)
-      ∙ reads-match (q .n) (q .classes) (q .written) (m .before .stands .few-classes) (reads T q) inputs
-
-  -- the first rule that is broken, test by test
-  pub is-4 : Met9 T q → Below T q false → First T q 4
+module _ {q : Op} (m : Met6 q) where
+  pub is-7 : free q ≡ false → First q 7
   unfolding firstBroken
-  is-4 m t = rw (met-9 m, rule-4 m, t)
+  is-7 t = rw (lt-ltb (q .ops) maxOps (m .before .before .few), m .before .before .declared, m .before .typed, m .rest-so, t)
 
-  pub is-5 : Met4 T q → Match T q false → First T q 5
+  pub is-8 : free q ≡ true → First q 8
   unfolding firstBroken
-  is-5 m t = rw (met-9 (m .before), met-4 m, rule-5 m, t)
-
-  pub is-6 : Met5 T q → RestOk T q false → First T q 6
-  unfolding firstBroken
-  is-6 m t = rw (met-9 (m .before .before), met-4 (m .before), met-5 m, rule-6 (m .before .before), t)
-
-  pub is-7 : Met6 T q → Free T q false → First T q 7
-  unfolding firstBroken
-  is-7 m t =
-      let nine = m .before .before .before in
-      rw (met-9 nine, met-4 (m .before .before), met-5 (m .before), met-6 m, rule-7 nine, t)
-
-  pub is-8 : Met7 T q → MayRead T q false → First T q 8
-  unfolding firstBroken
-  is-8 m t =
-      let below = m .before .before .before in
-      rw (met-9 (below .before), met-4 below, met-5 (m .before .before), met-6 (m .before), met-7 m, rule-8 below, t)
-
-  pub is-0 : Met7 T q → MayRead T q true → First T q 0
-  unfolding firstBroken
-  is-0 m t =
-      let below = m .before .before .before in
-      rw (met-9 (below .before), met-4 below, met-5 (m .before .before), met-6 (m .before), met-7 m, rule-8 below, t)
-
-pub is-9 : (T : Table) (q : Op) → 256 ≤ q .ops → First T q 9
-unfolding firstBroken rule9
-is-9 T q l = rw (le-ltb (q .ops) 256 l)
-
--- how many variables it names, and how many it writes
-pub record Counted (T : Table) (q : Op) (count : ℕ) : Type 0 where
-  pub met : Met9 T q
-  pub counted : count ≡ outsIn (q .entry) + insIn (q .entry)
+  is-8 t = rw (lt-ltb (q .ops) maxOps (m .before .before .few), m .before .before .declared, m .before .typed, m .rest-so, t)
 
 -- what the leaves answer, in these terms
-module _ {T : Table} {q : Op} {count : ℕ} (c : Counted T q count) where
-  d : Digits T (q .entry) (kind T q)
-  d = c .met .digits
+module _ (q : Op) {count : ℕ} (n : count ≡ outsIn (q .e) + insIn (q .e)) where
+  pub count-inside : q .p + (outsIn (q .e) + insIn (q .e) + restIn (q .e)) < length (q .b) → q .p + 1 + count ≤ length (q .b)
+  count-inside l = omega (arith, n)
 
-  pub count-inside : q .place + 1 + count ≤ length (q .block)
-  count-inside = omega (arith, d .body, c .counted, c .met .stands .within)
-
-  pub rest-inside : q .place + 1 + count + restIn (q .entry) ≤ length (q .block)
-  rest-inside = omega (arith, d .body, c .counted, c .met .stands .within)
-
-  counts : count ≡ operandCount T (kind T q)
-  counts = c .counted ∙ sym (d .operands)
+  pub rest-inside : q .p + (outsIn (q .e) + insIn (q .e) + restIn (q .e)) < length (q .b) → q .p + 1 + count + restIn (q .e) ≤ length (q .b)
+  rest-inside l = omega (arith, n)
 
   module _ {r t : Bool} where
-    pub below-by : r ≡ allBelow (q .n) (bytesAt (q .block) (q .place + 1) count) → r ≡ t → Below T q t
-    below-by e a = sym (e ∙ ap (λ (m : ℕ). allBelow (q .n) (bytesAt (q .block) (q .place + 1) m)) counts) ∙ a
+    pub declared-by : r ≡ declaredAll (q .vars) (bytesAt (q .b) (q .p + 1) count) → r ≡ t → declaredAll (q .vars) (named q) ≡ t
+    declared-by e a = rw n at (sym e ∙ a)
 
-    pub match-by : {codes : ℕ} → codes ≡ typesIn (q .entry) → r ≡ typesMatch (q .types) codes (bytesAt (q .block) (q .place + 1) count) → r ≡ t → Match T q t
-    match-by w e a = sym (e ∙ ap₂ (λ (x m : ℕ). typesMatch (q .types) x (bytesAt (q .block) (q .place + 1) m)) w counts) ∙ a
+    pub typed-by : {codes : ℕ} → codes ≡ typesIn (q .e) → r ≡ operandsFit (q .vars) count codes (bytesAt (q .b) (q .p + 1) count) → r ≡ t
+        → operandsFit (q .vars) (outsIn (q .e) + insIn (q .e)) (typesIn (q .e)) (named q) ≡ t
+    typed-by c e a = rw (n, c) at (sym e ∙ a)
 
-    pub rest-by : r ≡ testOk (testIn (q .entry)) (take (restIn (q .entry)) (drop (q .place + 1 + count) (q .block))) → r ≡ t → RestOk T q t
-    rest-by e a =
-        let m : q .place + 1 + count ≡ q .place + (1 + operandCount T (kind T q)) = omega (arith, counts) in
-        sym (e ∙ ap₂ (λ (n m : ℕ). testOk (testIn (q .entry)) (take n (drop m (q .block)))) (sym (d .rest)) m) ∙ a
+    pub fit-by : {outs codes : ℕ} → outs ≡ outsIn (q .e) → codes ≡ typesIn (q .e) → r ≡ operandsFit (q .vars) outs codes (bytesAt (q .b) (q .p + 1) count) → r ≡ t → fit q ≡ t
+    fit-by o c e a = rw (n, o, c) at (sym e ∙ a)
 
-    pub free-by : r ≡ labelFree (rowIn (q .entry)) (numbered (q .labels)) (getD (q .block) (q .place + (outsIn (q .entry) + insIn (q .entry) + restIn (q .entry))) 0) → r ≡ t → Free T q t
-    free-by e a = sym (e ∙ ap (λ (m : ℕ). labelFree (rowIn (q .entry)) (numbered (q .labels)) (getD (q .block) (q .place + m) 0)) (sym (d .body))) ∙ a
+    pub rest-by : r ≡ testOk (testIn (q .e)) (take (restIn (q .e)) (drop (q .p + 1 + count) (q .b))) → r ≡ t → restOk q ≡ t
+    rest-by e a = rw n at (sym e ∙ a)
 
-  module _ {outs ins : ℕ} (u : outs ≡ outsIn (q .entry)) (v : ins ≡ insIn (q .entry)) where
-    pub reads-inside : q .place + 1 + outs + ins ≤ length (q .block)
-    reads-inside = omega (arith, count-inside, c .counted)
+pub free-by : (q : Op) {r t : Bool} → r ≡ free q → r ≡ t → free q ≡ t
+free-by q e a = sym e ∙ a
 
-    pub reads-by : {r t : Bool} → r ≡ mayReadAll (q .classes) (q .written) (bytesAt (q .block) (q .place + 1 + outs) ins) → r ≡ t → MayRead T q t
-    reads-by e a =
-        let m : ins ≡ length ((T (kind T q)) .ins) = v ∙ sym (d .ins) in
-        let x : q .place + 1 + outs ≡ q .place + (1 + outputCount T (kind T q)) = omega (arith, d .outs) in
-        sym (e ∙ ap₂ (λ (x y : ℕ). mayReadAll (q .classes) (q .written) (bytesAt (q .block) x y)) x m) ∙ a
+-- the fast test, step by step
+module _ (q : Op) where
+  pub ok-late : 256 ≤ q .ops → false ≡ opOk (q .e) (q .b) (q .p) (q .ops) (q .vars) (q .labels)
+  ok-late l = rw (le-ltb (q .ops) maxOps l)
+
+  module _ (l : q .ops < 256) where
+    pub ok-misfit : fit q ≡ false → false ≡ opOk (q .e) (q .b) (q .p) (q .ops) (q .vars) (q .labels)
+    ok-misfit f = rw (lt-ltb (q .ops) maxOps l, f)
+
+    module _ (f : fit q ≡ true) where
+      pub ok-rest : restOk q ≡ false → false ≡ opOk (q .e) (q .b) (q .p) (q .ops) (q .vars) (q .labels)
+      ok-rest t = rw (lt-ltb (q .ops) maxOps l, f, t)
+
+      pub ok-free : {r : Bool} → restOk q ≡ true → r ≡ free q → r ≡ opOk (q .e) (q .b) (q .p) (q .ops) (q .vars) (q .labels)
+      ok-free t e = e ∙ rw (lt-ltb (q .ops) maxOps l, f, t)
+
+-- the record's rule, test by test
+module _ (e : ℕ) (b : List ℕ) (p ops : ℕ) (vars labels : List ℕ) where
+  pub entry-2 : isKnown (roleNo (roleIn e)) ≡ false → 2 ≡ entryRule e b p ops vars labels false
+  unfolding entryRule
+  entry-2 k = rw k
+
+  module _ (k : isKnown (roleNo (roleIn e)) ≡ true) where
+    pub entry-1 : length b - p ≤ outsIn e + insIn e + restIn e → 1 ≡ entryRule e b p ops vars labels false
+    unfolding entryRule
+    entry-1 l = rw (k, le-leb (length b - p) (outsIn e + insIn e + restIn e) l)
+
+    module _ (l : outsIn e + insIn e + restIn e < length b - p) where
+      pub entry-3 : getD b p 0 ≡ 1 → 3 ≡ entryRule e b p ops vars labels false
+      unfolding entryRule
+      entry-3 d = rw (k, lt-leb (length b - p) (outsIn e + insIn e + restIn e) l, eq-eqb (getD b p 0) 1 d)
+
+      pub entry-op : {r : ℕ} → (getD b p 0 ≡ 1 → ⊥) → r ≡ firstBroken (opTests e b p ops vars labels false) → r ≡ entryRule e b p ops vars labels false
+      unfolding entryRule
+      entry-op d q = rw (k, lt-leb (length b - p) (outsIn e + insIn e + restIn e) l, ne-eqb (getD b p 0) 1 d) q
+
+-- the fast test: it passes where no rule is broken; where it does not, the operands need not be asked again
+all-met : (n a b c d : Bool) → firstBroken (asks 9 n ∷ asks 4 a ∷ asks 5 b ∷ asks 6 c ∷ asks 7 d ∷ asks 8 false ∷ []) ≡ 0 → ⊥
+unfolding firstBroken
+all-met false a b c d e = omega arith
+all-met true false b c d e = omega arith
+all-met true true false c d e = omega arith
+all-met true true true false d e = omega arith
+all-met true true true true false e = omega arith
+all-met true true true true true e = omega arith
+
+not-all : (n a b c d f : Bool) → (n && f && c && d) ≡ false
+    → firstBroken (asks 9 n ∷ asks 4 a ∷ asks 5 b ∷ asks 6 c ∷ asks 7 d ∷ asks 8 f ∷ []) ≡ firstBroken (asks 9 n ∷ asks 4 a ∷ asks 5 b ∷ asks 6 c ∷ asks 7 d ∷ asks 8 false ∷ [])
+unfolding firstBroken
+not-all n a b c d false h = refl
+not-all false a b c d true h = refl
+not-all true false b c d true h = refl
+not-all true true false c d true h = refl
+not-all true true true false d true h = refl
+not-all true true true true false true h = refl
+not-all true true true true true true h = absurd (unlike (sym h))
+
+module _ (q : Op) where
+  pub stopped-not : entryRule (q .e) (q .b) (q .p) (q .ops) (q .vars) (q .labels) false ≡ 0 → ⊥
+  unfolding entryRule
+  stopped-not = go (isKnown (roleNo (roleIn (q .e)))) (leb (length (q .b) - q .p) (outsIn (q .e) + insIn (q .e) + restIn (q .e))) (eqb (getD (q .b) (q .p) 0) 1)
+    where
+      go : (k s d : Bool) → cond k (cond s 1 (cond d 3 (firstBroken (opTests (q .e) (q .b) (q .p) (q .ops) (q .vars) (q .labels) false)))) 2 ≡ 0 → ⊥
+      go false s d z = omega arith
+      go true true d z = omega arith
+      go true false true z = omega arith
+      go true false false z =
+          all-met (ltb (q .ops) maxOps) (declaredAll (q .vars) (named q)) (operandsFit (q .vars) (outsIn (q .e) + insIn (q .e)) (typesIn (q .e)) (named q)) (restOk q) (free q) z
+
+  pub no-op : opStands (q .e) (q .b) (q .p) ≡ false → entryRule (q .e) (q .b) (q .p) (q .ops) (q .vars) (q .labels) (fit q) ≡ entryRule (q .e) (q .b) (q .p) (q .ops) (q .vars) (q .labels) false
+  unfolding entryRule
+  no-op = go (isKnown (roleNo (roleIn (q .e)))) (leb (length (q .b) - q .p) (outsIn (q .e) + insIn (q .e) + restIn (q .e))) (eqb (getD (q .b) (q .p) 0) 1) _ _
+    where
+      go : (k s d : Bool) (x y : ℕ) → (k && not s && not d) ≡ false → cond k (cond s 1 (cond d 3 x)) 2 ≡ cond k (cond s 1 (cond d 3 y)) 2
+      go false s d x y h = refl
+      go true true d x y h = refl
+      go true false true x y h = refl
+      go true false false x y h = absurd (unlike (sym h))
+
+  module _ (o : opStands (q .e) (q .b) (q .p) ≡ true) where
+    stands-rule : (f : Bool) → entryRule (q .e) (q .b) (q .p) (q .ops) (q .vars) (q .labels) f ≡ firstBroken (opTests (q .e) (q .b) (q .p) (q .ops) (q .vars) (q .labels) f)
+    unfolding entryRule
+    stands-rule f = go (isKnown (roleNo (roleIn (q .e)))) (leb (length (q .b) - q .p) (outsIn (q .e) + insIn (q .e) + restIn (q .e))) (eqb (getD (q .b) (q .p) 0) 1) _ o
+      where
+        go : (k s d : Bool) (x : ℕ) → (k && not s && not d) ≡ true → cond k (cond s 1 (cond d 3 x)) 2 ≡ x
+        go true false false x h = refl
+        go true false true x h = absurd (unlike h)
+        go true true d x h = absurd (unlike h)
+        go false s d x h = absurd (unlike h)
+
+    pub no-fit : opOk (q .e) (q .b) (q .p) (q .ops) (q .vars) (q .labels) ≡ false
+        → entryRule (q .e) (q .b) (q .p) (q .ops) (q .vars) (q .labels) (fit q) ≡ entryRule (q .e) (q .b) (q .p) (q .ops) (q .vars) (q .labels) false
+    no-fit h =
+        stands-rule (fit q)
+        ∙ not-all (ltb (q .ops) maxOps) (declaredAll (q .vars) (named q)) (operandsFit (q .vars) (outsIn (q .e) + insIn (q .e)) (typesIn (q .e)) (named q)) (restOk q) (free q) (fit q) h
+        ∙ sym (stands-rule false)
+
+    pub op-fits : opOk (q .e) (q .b) (q .p) (q .ops) (q .vars) (q .labels) ≡ true → entryRule (q .e) (q .b) (q .p) (q .ops) (q .vars) (q .labels) (fit q) ≡ 0
+    unfolding firstBroken
+    op-fits h =
+        let m = outsIn (q .e) + insIn (q .e) in
+        let c = and-l (ltb (q .ops) maxOps && fit q && restOk q) (free q) h in
+        let d = and-l (ltb (q .ops) maxOps && fit q) (restOk q) c in
+        let f = and-r (ltb (q .ops) maxOps) (fit q) d in
+        stands-rule (fit q)
+        ∙ rw (and-l (ltb (q .ops) maxOps) (fit q) d, fit-declared (q .vars) (outsIn (q .e)) (typesIn (q .e)) (named q) f, fit-typed (q .vars) (outsIn (q .e)) (typesIn (q .e)) m (named q) (bytes-length (q .b) (q .p + 1) m) f, and-r (ltb (q .ops) maxOps && fit q) (restOk q) c, and-r (ltb (q .ops) maxOps && fit q && restOk q) (free q) h, f)
+
+-- the tests are the rules, where the variables' bytes and the labels are those of what has been seen
+rules-alike : (n a b c d e : Bool) → firstBroken (asks 9 n ∷ asks 4 a ∷ asks 5 (a && b && true) ∷ asks 6 c ∷ asks 7 d ∷ asks 8 (a && b && e) ∷ []) ≡ firstBroken (asks 9 n ∷ asks 4 a ∷ asks 5 b ∷ asks 6 c ∷ asks 7 d ∷ asks 8 e ∷ [])
+unfolding firstBroken
+rules-alike false a b c d e = refl
+rules-alike true false b c d e = refl
+rules-alike true true false c d e = refl
+rules-alike true true true c d e = refl
+
+drop-bytes : (b : List ℕ) (m k p : ℕ) → drop m (bytesAt b p (m + k)) ≡ bytesAt b (p + m) k
+drop-bytes b zero k p = rw (add-zero p, zero-add k)
+drop-bytes b (suc m) k p = rw (suc-add m k) (drop-bytes b m k (suc p) ∙ ap (λ (n : ℕ). bytesAt b n k) (omega arith))
+
+drop-all : (b : List ℕ) (m p : ℕ) → drop m (bytesAt b p m) ≡ []
+drop-all b zero p = refl
+drop-all b (suc m) p = drop-all b m (suc p)
+
+declared-below : {vars classes types : List ℕ} {written : Vars} → Coded vars classes types written → (vs : List ℕ) → declaredAll vars vs ≡ allBelow (length classes) vs
+declared-below c [] = refl
+declared-below {vars} {classes} {types} {written} c (v ∷ vs) =
+    ap₂ (λ (x y : Bool). x && y) (ap (λ (codes : ℕ → ℕ). ltb (codes v) 8) (c .codes-are) ∙ go (ltb v (length classes)) (keptIn classes v || written v) (c .types-small v)) (declared-below c vs)
+  where
+    go : (below k : Bool) → getD types v 0 < 4 → ltb (cond below (cond k (getD types v 0 + 4) (getD types v 0)) 8) 8 ≡ below
+    go true true l = lt-ltb (getD types v 0 + 4) 8 (omega arith)
+    go true false l = lt-ltb (getD types v 0) 8 (omega arith)
+    go false k l = refl
+
+module _ (q : Op) (s : Seen) {T : Table} {k : ℕ} (st : Stands T (q .b) (q .p) k) (d : Digits T (q .e) k) (c : Coded (q .vars) (s .classes) (s .types) (s .written))
+    (ls : s .labels ≡ numbered (q .labels)) (os : s .ops ≡ q .ops) where
+  abbrev its : List ℕ
+  its = recordAt T (q .b) (q .p)
+
+  abbrev count : ℕ
+  count = outsIn (q .e) + insIn (q .e)
+
+  rule-4 : rule4 T s its ≡ allBelow (length (s .classes)) (named q)
+  rule-4 = rule4-at st s ∙ ap (λ (m : ℕ). allBelow (length (s .classes)) (bytesAt (q .b) (q .p + 1) m)) (d .operands)
+
+  rule-5 : rule5 T s its ≡ haveTypes (s .types) (named q) (typesOf count (typesIn (q .e)))
+  unfolding rule5
+  rule-5 = ap₂ (haveTypes (s .types)) (operand-bytes st ∙ ap (bytesAt (q .b) (q .p + 1)) (d .operands)) (ap (operandTypes T) (kind-byte st) ∙ d .types)
+
+  rule-6 : rule6 T s its ≡ restOk q
+  rule-6 =
+      let m : q .p + (1 + operandCount T k) ≡ q .p + 1 + count = omega (arith, d .operands) in
+      rule6-at st s ∙ ap (λ (row : Row). testOk (row .test) (take ((T k) .rest) (drop (q .p + (1 + operandCount T k)) (q .b)))) (d .row)
+      ∙ ap₂ (λ (x y : ℕ). testOk (testIn (q .e)) (take x (drop y (q .b)))) (d .rest) m
+
+  rule-7 : rule7 T s its ≡ free q
+  unfolding rule7
+  rule-7 =
+      ap₂ (λ (row : Row) (l : ℕ). labelFree row (s .labels) l) (row-at st ∙ d .row) (label-byte st ∙ ap (λ (m : ℕ). getD (q .b) (q .p + m) 0) (d .body))
+      ∙ ap (λ (labels : Vars). labelFree (rowIn (q .e)) labels (getD (q .b) (q .p + (count + restIn (q .e))) 0)) ls
+
+  rule-8 : rule8 T s its ≡ allIn (keptIn (s .classes)) (drop (outsIn (q .e)) (named q)) (s .written)
+  unfolding rule8
+  rule-8 =
+      let m : q .p + (1 + outputCount T k) ≡ q .p + 1 + outsIn (q .e) = omega (arith, d .outs) in
+      ap (λ (vs : List ℕ). allIn (keptIn (s .classes)) vs (s .written))
+      (input-bytes st ∙ ap₂ (bytesAt (q .b)) m (d .ins) ∙ sym (drop-bytes (q .b) (outsIn (q .e)) (insIn (q .e)) (q .p + 1)))
+
+  typed : operandsFit (q .vars) count (typesIn (q .e)) (named q) ≡ (allBelow (length (s .classes)) (named q) && haveTypes (s .types) (named q) (typesOf count (typesIn (q .e))) && true)
+  typed =
+      fit-all c count (typesIn (q .e)) count (named q) (bytes-length (q .b) (q .p + 1) count)
+      ∙ ap (λ (vs : List ℕ). allBelow (length (s .classes)) (named q) && haveTypes (s .types) (named q) (typesOf count (typesIn (q .e))) && allIn (keptIn (s .classes)) vs (s .written)) (drop-all (q .b) count (q .p + 1))
+
+  fits : operandsOk (q .e) (q .b) (q .p) (q .vars) ≡ (allBelow (length (s .classes)) (named q) && haveTypes (s .types) (named q) (typesOf count (typesIn (q .e))) && allIn (keptIn (s .classes)) (drop (outsIn (q .e)) (named q)) (s .written))
+  fits = fit-all c (outsIn (q .e)) (typesIn (q .e)) count (named q) (bytes-length (q .b) (q .p + 1) count)
+
+  pub tests-alike : firstBroken (opTests (q .e) (q .b) (q .p) (q .ops) (q .vars) (q .labels) (operandsOk (q .e) (q .b) (q .p) (q .vars))) ≡ firstBroken (opRules T s its)
+  unfolding rule9
+  tests-alike =
+      rw (declared-below c (named q), typed, fits, rule-4, rule-5, rule-6, rule-7, rule-8, os)
+      (rules-alike (ltb (q .ops) maxOps) (allBelow (length (s .classes)) (named q)) (haveTypes (s .types) (named q) (typesOf count (typesIn (q .e)))) (restOk q) (free q) (allIn (keptIn (s .classes)) (drop (outsIn (q .e)) (named q)) (s .written)))

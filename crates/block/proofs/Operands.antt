@@ -1,18 +1,18 @@
 -- Loops over the operands of a record that stop at the first one that fails a test. Assumes nothing.
 use mathlib.Core.Path.{_≡_, refl, sym, ap, ap₂, _∙_}
 use mathlib.Core.Bool.{Bool, true, false, _&&_}
+use mathlib.Core.Logic.{_⊎_, inl, inr}
 use mathlib.Core.List.{List, [], _∷_}
 use Prim.Native.Nat.{ℕ, suc, _+_, _-_, _/_, _%_, _≤_, _<_}
 use native.Mathlib.Omega.{arith}
-use lib.Dec.{eqb, ltb}
+use lib.Dec.{ltb}
 use lib.ListN.{getD}
-use borrow.Author.Tests.{lt-ltb, le-ltb}
+use borrow.Author.Tests.{ltb-true, ltb-false, lt-ltb, le-ltb}
 use native.Mathlib.Nat.{sub-zero, add-zero}
-use Rattle.theory.specs.Machine.{step}
+use Rattle.theory.proofs.Sets.{tell}
 use Rattle.ops.specs.Rows.{at}
 use Rattle.ops.specs.Ops.{bytesAt}
-use Rattle.block.specs.Rules.{allBelow}
-use Rattle.block.specs.Scan.{typesMatch, readable, mayReadAll}
+use Rattle.block.specs.Scan.{codesIn, fitsAs, operandsFit, declaredAll}
 
 -- the test f passes at each value; s goes along
 abbrev pub eachBy : (ℕ → ℕ → Bool) → (ℕ → ℕ) → ℕ → List ℕ → Bool
@@ -45,69 +45,59 @@ module _ {f : ℕ → ℕ → Bool} {step : ℕ → ℕ} {b : List ℕ} {p n s�
 abbrev same : ℕ → ℕ
 same s = s
 
--- rule 4: each is below n
-below-each : (n : ℕ) (vs : List ℕ) → eachBy (λ s v. ltb v n) same 0 vs ≡ allBelow n vs
-below-each n [] = refl
-below-each n (v ∷ vs) = rw (below-each n vs)
+-- rule 4: each is declared
+declared-each : (vars vs : List ℕ) → eachBy (λ s v. ltb (codesIn vars v) 8) same 0 vs ≡ declaredAll vars vs
+declared-each vars [] = refl
+declared-each vars (v ∷ vs) = rw (declared-each vars vs)
 
-pub record Below (b : List ℕ) (p count n i : ℕ) : Type 0 where
-  pub left : Left (λ s v. ltb v n) same b p count 0 i 0
+pub record Declared (b vars : List ℕ) (p count i : ℕ) : Type 0 where
+  pub left : Left (λ s v. ltb (codesIn vars v) 8) same b p count 0 i 0
 
-pub below-start : (b : List ℕ) (p count n : ℕ) → Below b p count n 0
-below-start b p count n = record { left = left-start (λ s v. ltb v n) same b p count 0 }
+pub declared-start : (b vars : List ℕ) (p count : ℕ) → Declared b vars p count 0
+declared-start b vars p count = record { left = left-start (λ s v. ltb (codesIn vars v) 8) same b p count 0 }
 
-module _ {b : List ℕ} {p count n i x : ℕ} (l : Below b p count n i) (e : x ≡ at b (p + i)) (h : i < count) where
-  pub below-next : x < n → Below b p count n (i + 1)
-  below-next t = record { left = left-next (l .left) h (lt-ltb (at b (p + i)) n (omega arith)) }
+module _ {b vars : List ℕ} {p count i x : ℕ} (l : Declared b vars p count i) (e : x ≡ codesIn vars (at b (p + i))) (h : i < count) where
+  pub declared-next : x < 8 → Declared b vars p count (i + 1)
+  declared-next t = record { left = left-next (l .left) h (lt-ltb (codesIn vars (at b (p + i))) 8 (omega arith)) }
 
-  pub below-stops : n ≤ x → false ≡ allBelow n (bytesAt b p count)
-  below-stops t = left-stops (l .left) h (le-ltb (at b (p + i)) n (omega arith)) ∙ below-each n (bytesAt b p count)
+  pub declared-stops : 8 ≤ x → false ≡ declaredAll vars (bytesAt b p count)
+  declared-stops t = left-stops (l .left) h (le-ltb (codesIn vars (at b (p + i))) 8 (omega arith)) ∙ declared-each vars (bytesAt b p count)
 
-pub below-ends : {b : List ℕ} {p count n i : ℕ} → Below b p count n i → count ≤ i → true ≡ allBelow n (bytesAt b p count)
-below-ends {b} {p} {count} {n} l h = left-ends (l .left) h ∙ below-each n (bytesAt b p count)
+pub declared-ends : {b vars : List ℕ} {p count i : ℕ} → Declared b vars p count i → count ≤ i → true ≡ declaredAll vars (bytesAt b p count)
+declared-ends {b} {vars} {p} {count} l h = left-ends (l .left) h ∙ declared-each vars (bytesAt b p count)
 
--- rule 5: each has its type
-types-each : (types : List ℕ) (codes : ℕ) (vs : List ℕ) → eachBy (λ s v. eqb (getD types v 0) (s % 4)) (λ s. s / 4) codes vs ≡ typesMatch types codes vs
-unfolding typesMatch
-types-each types codes [] = refl
-types-each types codes (v ∷ vs) = rw (types-each types (codes / 4) vs)
+-- rules 4, 5 and 8 together: each fits
+pub record Fits (b vars : List ℕ) (p count outs codes i rest : ℕ) : Type 0 where
+  pub left : operandsFit vars (outs - i) rest (bytesAt b (p + i) (count - i)) ≡ operandsFit vars outs codes (bytesAt b p count)
 
-pub record Types (b types : List ℕ) (p count codes i rest : ℕ) : Type 0 where
-  pub left : Left (λ s v. eqb (getD types v 0) (s % 4)) (λ s. s / 4) b p count codes i rest
+pub fits-start : (b vars : List ℕ) (p count outs codes : ℕ) → Fits b vars p count outs codes 0 codes
+fits-start b vars p count outs codes = record { left = rw (add-zero p, sub-zero count, sub-zero outs) }
 
-pub types-start : (b types : List ℕ) (p count codes : ℕ) → Types b types p count codes 0 codes
-types-start b types p count codes = record { left = left-start (λ s v. eqb (getD types v 0) (s % 4)) (λ s. s / 4) b p count codes }
+output-at : (i outs : ℕ) → ltb 0 (outs - i) ≡ ltb i outs
+output-at i outs = go (tell (ltb i outs))
+  where
+    go : (ltb i outs ≡ true) ⊎ (ltb i outs ≡ false) → ltb 0 (outs - i) ≡ ltb i outs
+    go (inl t) = lt-ltb 0 (outs - i) (omega (arith, ltb-true i outs t)) ∙ sym t
+    go (inr t) = le-ltb 0 (outs - i) (omega (arith, ltb-false i outs t)) ∙ sym t
 
-module _ {b types : List ℕ} {p count codes i rest t : ℕ} (l : Types b types p count codes i rest) (e : t ≡ getD types (at b (p + i)) 0) (h : i < count) where
-  pub types-next : eqb t (rest % 4) ≡ true → Types b types p count codes (i + 1) (rest / 4)
-  types-next q = record { left = left-next (l .left) h (sym (ap (λ (n : ℕ). eqb n (rest % 4)) e) ∙ q) }
+module _ {b vars : List ℕ} {p count outs codes i rest code : ℕ} {r : Bool} (l : Fits b vars p count outs codes i rest) (h : i < count) (e : code ≡ codesIn vars (at b (p + i)))
+    (f : r ≡ fitsAs (ltb i outs) code (rest % 4)) where
+  fit-turn : (r && operandsFit vars (outs - (i + 1)) (rest / 4) (bytesAt b (p + (i + 1)) (count - (i + 1)))) ≡ operandsFit vars outs codes (bytesAt b p count)
+  unfolding operandsFit
+  fit-turn =
+      let m : count - i ≡ suc (count - (i + 1)) = omega arith in
+      let q : suc (p + i) ≡ p + (i + 1) = omega arith in
+      let o : outs - i - 1 ≡ outs - (i + 1) = omega arith in
+      let t : fitsAs (ltb 0 (outs - i)) (codesIn vars (at b (p + i))) (rest % 4) ≡ r =
+      ap₂ (λ (k : Bool) (x : ℕ). fitsAs k x (rest % 4)) (output-at i outs) (sym e) ∙ sym f in
+      rw (← q, ← o, ← t) (rw m at (l .left))
 
-  pub types-stops : eqb t (rest % 4) ≡ false → false ≡ typesMatch types codes (bytesAt b p count)
-  types-stops q = left-stops (l .left) h (sym (ap (λ (n : ℕ). eqb n (rest % 4)) e) ∙ q) ∙ types-each types codes (bytesAt b p count)
+  pub fits-next : r ≡ true → Fits b vars p count outs codes (i + 1) (rest / 4)
+  fits-next t = record { left = rw t at fit-turn }
 
-pub types-ends : {b types : List ℕ} {p count codes i rest : ℕ} → Types b types p count codes i rest → count ≤ i → true ≡ typesMatch types codes (bytesAt b p count)
-types-ends {b} {types} {p} {count} {codes} l h = left-ends (l .left) h ∙ types-each types codes (bytesAt b p count)
+  pub fits-stops : r ≡ false → false ≡ operandsFit vars outs codes (bytesAt b p count)
+  fits-stops t = rw t at fit-turn
 
--- rule 8: each outlives the basic block, or is written in it
-may-each : (classes written vs : List ℕ) → eachBy (λ s v. readable (getD classes v 0) (getD written v 0)) same 0 vs ≡ mayReadAll classes written vs
-unfolding mayReadAll
-may-each classes written [] = refl
-may-each classes written (v ∷ vs) = rw (may-each classes written vs)
-
-pub record Readable (b classes written : List ℕ) (p count i : ℕ) : Type 0 where
-  pub left : Left (λ s v. readable (getD classes v 0) (getD written v 0)) same b p count 0 i 0
-
-pub readable-start : (b classes written : List ℕ) (p count : ℕ) → Readable b classes written p count 0
-readable-start b classes written p count = record { left = left-start (λ s v. readable (getD classes v 0) (getD written v 0)) same b p count 0 }
-
-module _ {b classes written : List ℕ} {p count i c w : ℕ} (l : Readable b classes written p count i) (e : c ≡ getD classes (at b (p + i)) 0)
-    (f : w ≡ getD written (at b (p + i)) 0) (h : i < count) where
-  pub readable-next : readable c w ≡ true → Readable b classes written p count (i + 1)
-  readable-next q = record { left = left-next (l .left) h (sym (ap₂ readable e f) ∙ q) }
-
-  pub readable-stops : readable c w ≡ false → false ≡ mayReadAll classes written (bytesAt b p count)
-  readable-stops q = left-stops (l .left) h (sym (ap₂ readable e f) ∙ q) ∙ may-each classes written (bytesAt b p count)
-
-pub readable-ends : {b classes written : List ℕ} {p count i : ℕ} → Readable b classes written p count i → count ≤ i
-    → true ≡ mayReadAll classes written (bytesAt b p count)
-readable-ends {b} {classes} {written} {p} {count} l h = left-ends (l .left) h ∙ may-each classes written (bytesAt b p count)
+pub fits-ends : {b vars : List ℕ} {p count outs codes i rest : ℕ} → Fits b vars p count outs codes i rest → count ≤ i → true ≡ operandsFit vars outs codes (bytesAt b p count)
+unfolding operandsFit
+fits-ends {count = count} {i = i} l h = let m : count - i ≡ 0 = omega arith in rw m at (l .left)

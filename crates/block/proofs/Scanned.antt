@@ -10,7 +10,7 @@ use Rattle.ops.specs.Ops.{kindOf}
 use Rattle.ops.specs.Rows.{Table}
 use Rattle.block.specs.Records.{recordsOf, declarations, opsFrom, classesOf, declaredTypes, globalCount}
 use Rattle.block.specs.Rules.{start}
-use Rattle.block.specs.Scan.{DeclaredBy, refuses, reads-on, placesFrom, labelsFrom, recordsAt, ScannedBy, refuses-op, accepts-ops, Begins, Approved}
+use Rattle.block.specs.Scan.{DeclaredBy, refuses, reads-on, placesFrom, labelsFrom, recordsAt, ScannedBy, refuses-op, accepts-ops, Declaring, Begins, Approved}
 use Rattle.block.specs.Scan.{Scanned, rejected, approved}
 use Rattle.block.proofs.Cut.{headOp, split-again}
 use Rattle.block.proofs.Fields.{kind-at}
@@ -28,7 +28,7 @@ no-declaration T b p k = go (recordsAt T b p) refl
         let s = standing T b p r rs e in
         ap not (ne-eqb (kindOf r) 0x01 (λ q. k (s .inside) (sym (kind-at T b p (s .whole-here)) ∙ ap kindOf (s .record-here) ∙ q)))
 
-module _ {T : Table} {b classes types : List ℕ} {p n : ℕ} (g : Begins T b classes types p n) where
+module _ {T : Table} {b base : List ℕ} {p : ℕ} (g : Begins T b base p) where
   ds : List (List ℕ)
   ds = g .after .before
 
@@ -39,7 +39,7 @@ module _ {T : Table} {b classes types : List ℕ} {p n : ℕ} (g : Begins T b cl
       (ap declarations (g .after .records-are) ∙ q .0, ap opsFrom (g .after .records-are) ∙ q .1)
 
   pub approve : (places₀ places labels : List ℕ) (ops : ℕ) → checkBy T b ≡ Accepted → ops ≡ length (recordsAt T b p) → places ≡ placesFrom p 0 places₀ (recordsAt T b p)
-      → labels ≡ labelsFrom T 0 (replicate 256 0) (recordsAt T b p) → Approved T b places₀ classes types places labels p n (g .globals) ops
+      → labels ≡ labelsFrom T 0 (replicate 256 0) (recordsAt T b p) → Approved T b places₀ (g .classes) (g .types) places labels p (g .n) (g .globals) ops
   unfolding ds
   approve places₀ places labels ops a c q l =
       record {
@@ -58,22 +58,24 @@ module _ {T : Table} {b classes types : List ℕ} {p n : ℕ} (g : Begins T b cl
       }
 
 -- what the first scan leaves to the second
-pub begins-by : {T : Table} {b classes types : List ℕ} {rule p n globals : ℕ} → DeclaredBy T b classes types rule p n globals → rule ≡ 0
-    → (g : Begins T b classes types p n) × (g .globals ≡ globals)
-begins-by (refuses z q) e = absurd (z e)
-begins-by {globals = globals} (reads-on d k) e = (record { globals = globals; after = d; no-more = k }, refl)
+begins-at : {T : Table} {b classes types vars : List ℕ} {p n globals : ℕ} → Declaring T b classes types vars p n globals → (p < length b → getD b p 0 ≡ 1 → ⊥) → Begins T b vars p
+begins-at {classes = classes} {types = types} {n = n} {globals = globals} d k = record { classes = classes; types = types; n = n; globals = globals; after = d; no-more = k }
 
-pub scan-refused : {T : Table} {b classes types : List ℕ} {rule p n globals : ℕ} (places₀ places labels : List ℕ) → DeclaredBy T b classes types rule p n globals → (rule ≡ 0 → ⊥)
+pub begins-by : {T : Table} {b classes types vars : List ℕ} {rule p n globals : ℕ} → DeclaredBy T b classes types vars rule p n globals → rule ≡ 0 → Begins T b vars p
+begins-by (refuses z q) e = absurd (z e)
+begins-by (reads-on d k) e = begins-at d k
+
+pub scan-refused : {T : Table} {b classes types vars : List ℕ} {rule p n globals : ℕ} (places₀ places labels : List ℕ) → DeclaredBy T b classes types vars rule p n globals → (rule ≡ 0 → ⊥)
     → Scanned T b places₀ classes types places labels rule p p n globals 0
 scan-refused places₀ places labels (refuses z q) k = rejected z q
 scan-refused places₀ places labels (reads-on d k) z = absurd (z refl)
 
-pub scan-done : {T : Table} {b classes types places₀ places labels : List ℕ} {rule₀ p n globals rule place ops : ℕ} → DeclaredBy T b classes types rule₀ p n globals → rule₀ ≡ 0
+pub scan-done : {T : Table} {b classes types vars places₀ places labels : List ℕ} {rule₀ p n globals rule place ops : ℕ} → DeclaredBy T b classes types vars rule₀ p n globals → rule₀ ≡ 0
     → ScannedBy T b p places₀ places labels rule place ops → Scanned T b places₀ classes types places labels rule place p n globals ops
+unfolding begins-at
 scan-done d e (refuses-op z q) = rejected z q
-scan-done {T = T} {b = b} {classes = classes} {types = types} {places₀ = places₀} {places = places} {labels = labels} {p = p} {n = n} d e (accepts-ops {ops = ops} a c q l) =
-    let g = begins-by d e in
-    approved (subst (λ (m : ℕ). Approved T b places₀ classes types places labels p n m ops) (g .1) (approve (g .0) places₀ places labels ops a c q l))
+scan-done (refuses z u) e (accepts-ops a c q l) = absurd (z e)
+scan-done {places₀ = places₀} {places = places} {labels = labels} (reads-on d k) e (accepts-ops {ops = ops} a c q l) = approved (approve (begins-at d k) places₀ places labels ops a c q l)
 
 -- the check's answer
 pub check-by : {T : Table} {b places₀ classes types places labels : List ℕ} {rule place start n globals ops : ℕ} → Scanned T b places₀ classes types places labels rule place start n globals ops

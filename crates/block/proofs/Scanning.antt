@@ -1,31 +1,34 @@
 -- One turn of the loop over the ops. Assumes nothing.
 use mathlib.Core.Path.{_≡_, refl, sym, ap, ap₂, _∙_, subst}
+use mathlib.Core.Logic.{_⊎_, inl, inr}
 use mathlib.Core.Bool.{Bool, true, false, cond, not, _&&_, _||_}
 use mathlib.Core.List.{List, [], _∷_}
 use Prim.Native.Nat.{ℕ, suc, _+_, _-_, _%_, _≤_, _<_}
 use native.Mathlib.Omega.{arith}
 use lib.Dec.{eqb, ltb, leb}
 use lib.ListN.{length, getD, drop, set, replicate}
-use borrow.Author.Tests.{ltb-true, ltb-false, eqb-true, eqb-false, lt-ltb, le-ltb, eq-eqb, ne-eqb}
+use borrow.Author.Tests.{ltb-true, ltb-false, eqb-true, eqb-false, eq-eqb, ne-eqb, leb-false, le-leb, lt-leb, not-true}
 use native.Mathlib.Nat.{zero-add}
 use native.Mathlib.Numerals.{add-one}
-use Rattle.theory.specs.Sets.{empty}
-use Rattle.theory.proofs.Sets.{and-l}
+use Rattle.theory.specs.Sets.{Vars, empty}
+use Rattle.theory.proofs.Sets.{tell, and-l, and-r}
 use Rattle.ops.specs.Rows.{known, bodyLength, Table}
-use Rattle.ops.specs.Rows.{outsIn, insIn, restIn, roleIn, rowIn, Row, roleNo, isSetting, isJumping}
-use Rattle.ops.specs.Ops.{kindOf, rowAt, bytesAt, outsBy, labelBy}
+use Rattle.ops.specs.Rows.{outsIn, insIn, restIn, roleIn, rowIn, Row, roleNo, numberOf, isKnown, isClosing, isSetting, isJumping}
+use Rattle.ops.specs.Ops.{kindOf, rowAt, bytesAt, outsBy, insBy, labelBy}
 use Rattle.ops.proofs.Entry.{Digits}
+use Rattle.block.proofs.Codes.{coded-next, codes-closed, codes-open}
+use Rattle.block.proofs.OpRules.{Op, tests-alike, stopped-not, no-op, no-fit, op-fits}
 use Rattle.block.proofs.Views.{row-at, output-bytes, label-byte}
 use Rattle.block.specs.Checks.{asks, firstBroken, opRules, rulesOf, endRules, answer, checkBy}
 use Rattle.block.specs.Records.{Cut, cons, cutOf, isDeclaration, classOf, typeOf}
-use Rattle.block.specs.Rules.{Seen, allGlobal, rule3, rule4, rule5, rule6, wroteBy, markedBy, rule7, rule8, rule9, rule10, allSet}
+use Rattle.block.specs.Rules.{Seen, allGlobal, allBelow, rule3, rule4, markedBy, rule9, rule10, allSet}
 use Rattle.block.specs.Rules.{rule7end, passed, next}
-use Rattle.block.specs.Scan.{Stands, LabelledAs, recordsAt, ScannedBy, refuses-op, accepts-ops, OpAt, Marks, Begins, RecordAt}
+use Rattle.block.specs.Scan.{recordAt, Stands, checkAt, codesIn, Coded, openAll, codesBy, marked, numbered, LabelledAs, declaredSeen, recordRule, opTests, operandsOk, entryRule, opStands, opOk}
+use Rattle.block.specs.Scan.{placesFrom, labelsFrom, recordsAt, ScannedBy, refuses-op, accepts-ops, Marks, Begins}
 use Rattle.block.proofs.Accepts.{allMet, none-broken, numbered-rules}
-use Rattle.block.proofs.Fields.{kind-at}
-use Rattle.block.proofs.MarkSets.{marked-none, numbered-none}
+use Rattle.block.proofs.Fields.{kind-at, below-left}
+use Rattle.block.proofs.MarkSets.{marked-none, numbered-none, labelled-not, target-not}
 use Rattle.block.proofs.Steps.{cut-record, record-length, at-unknown, at-short, at-record, cut-end, at-end}
-use Rattle.block.specs.Scan.{recordAt, checkAt, marked, numbered, seenOf, labelledBy, declaredSeen, Declaring, recordRule, placesFrom, labelsFrom}
 use Rattle.block.specs.declared.Verdict.the-variants.{Accepted, Refused}
 
 -- a place's answer by the rule that its record breaks
@@ -84,222 +87,233 @@ few-rule : (s : Seen) (r : List ℕ) → rule9 s r ≡ true → s .ops < 256
 unfolding rule9
 few-rule s r h = ltb-true (s .ops) 256 h
 
-pub op-here : (T : Table) (s : Seen) (b : List ℕ) (p : ℕ) → recordRule T s b p ≡ 0 → (getD b p 0 ≡ 1 → s .ops ≡ 0 → ⊥) → (getD b p 0 ≡ 1 → ⊥) × (s .ops < 256)
+-- the record breaks no rule: it is an op of declared variables, and not one too many
+pub record SoundOp (T : Table) (s : Seen) (b : List ℕ) (p : ℕ) : Type 0 where
+  pub is-op : getD b p 0 ≡ 1 → ⊥
+  pub few : s .ops < 256
+  pub declared : rule4 T s (recordAt T b p) ≡ true
+
+op-here : (T : Table) (s : Seen) (b : List ℕ) (p : ℕ) → recordRule T s b p ≡ 0 → (getD b p 0 ≡ 1 → s .ops ≡ 0 → ⊥) → SoundOp T s b p
 op-here T s b p z d = go (isDeclaration (recordAt T b p)) refl (sound-rule T s b p z)
   where
     w : p + suc (bodyLength T (getD b p 0)) ≤ length b
     w = rule-whole T s b p z .within
 
-    go : (t : Bool) → isDeclaration (recordAt T b p) ≡ t → allMet (cond t (asks 3 (rule3 s (recordAt T b p)) ∷ []) (opRules T s (recordAt T b p))) ≡ true → (getD b p 0 ≡ 1 → ⊥) × (s .ops < 256)
+    go : (t : Bool) → isDeclaration (recordAt T b p) ≡ t → allMet (cond t (asks 3 (rule3 s (recordAt T b p)) ∷ []) (opRules T s (recordAt T b p))) ≡ true → SoundOp T s b p
     go true e m =
         let k : getD b p 0 ≡ 1 = sym (kind-at T b p w) ∙ eqb-true (kindOf (recordAt T b p)) 0x01 e in
         absurd (d k (late-rule s (recordAt T b p) (and-l (rule3 s (recordAt T b p)) true m)))
-    go false e m = (λ k. eqb-false (kindOf (recordAt T b p)) 0x01 e (kind-at T b p w ∙ k), few-rule s (recordAt T b p) (and-l (rule9 s (recordAt T b p)) _ m))
+    go false e m =
+        record {
+          is-op = λ k. eqb-false (kindOf (recordAt T b p)) 0x01 e (kind-at T b p w ∙ k);
+          few = few-rule s (recordAt T b p) (and-l (rule9 s (recordAt T b p)) _ m);
+          declared = and-l (rule4 T s (recordAt T b p)) _ (and-r (rule9 s (recordAt T b p)) _ m);
+        }
 
--- the answers, test by test
-module _ (T : Table) (s : Seen) (b : List ℕ) (p : ℕ) where
-  pub rule-2 : {k : Bool} → k ≡ known T (getD b p 0) → k ≡ false → 2 ≡ recordRule T s b p
-  unfolding recordRule
-  rule-2 e t = rw (sym e ∙ t)
-
-  pub rule-1 : {k : Bool} {m : ℕ} → k ≡ known T (getD b p 0) → k ≡ true → m ≡ bodyLength T (getD b p 0) → length b - p ≤ m → 1 ≡ recordRule T s b p
-  unfolding recordRule
-  rule-1 e t l h = rw (sym e ∙ t, lt-ltb (length b) (p + suc (bodyLength T (getD b p 0))) (omega arith))
-
-  pub rule-3 : WholeAt T b p → getD b p 0 ≡ 1 → (s .ops ≡ 0 → ⊥) → 3 ≡ recordRule T s b p
-  unfolding recordRule firstBroken rule3
-  rule-3 w d l =
-      let long = le-ltb (length b) (p + suc (bodyLength T (getD b p 0))) (w .within) in
-      rw (w .is-known, long, eq-eqb (kindOf (recordAt T b p)) 0x01 (kind-at T b p (w .within) ∙ d), ne-eqb (s .ops) 0 l)
-
-  pub rule-op : {classes types : List ℕ} {n r : ℕ} → OpAt T b classes types p n → r ≡ firstBroken (opRules T s (recordAt T b p)) → r ≡ recordRule T s b p
-  unfolding recordRule
-  rule-op o q =
-      let long = le-ltb (length b) (p + suc (bodyLength T (getD b p 0))) (o .within) in
-      q ∙ rw (o .is-known, long, ne-eqb (kindOf (recordAt T b p)) 0x01 (λ z. o .is-op (sym (kind-at T b p (o .within)) ∙ z)))
-
-module _ (T : Table) {b classes types : List ℕ} {p n ops : ℕ} (o : RecordAt b classes types p n ops) where
-  pub whole-by : {k : Bool} {m : ℕ} → k ≡ known T (getD b p 0) → k ≡ true → m ≡ bodyLength T (getD b p 0) → m < length b - p → WholeAt T b p
-  whole-by e t l h = record { is-known = sym e ∙ t; within = omega (arith, o .inside) }
-
-  pub op-at : WholeAt T b p → (getD b p 0 ≡ 1 → ⊥) → OpAt T b classes types p n
-  op-at w d =
-      record {
-        within = w .within;
-        is-known = w .is-known;
-        is-op = d;
-        few-classes = omega (arith, o .few, o .long-classes);
-        few-types = omega (arith, o .few, o .long-types);
-      }
-
--- the labels jumped to and the last kind have no part in it
-pub same-rule : (T : Table) (b classes types written labels targets : List ℕ) (p n ops last : ℕ)
-    → recordRule T (seenOf classes types written labels [] n ops 0) b p ≡ recordRule T (seenOf classes types written labels targets n ops last) b p
-unfolding recordRule rule3 rule4 rule5 rule6 rule7 rule8 rule9
-same-rule T b classes types written labels targets p n ops last = refl
-
--- ops have been read up to a place, and the check goes on from there
-pub record Scanning (T : Table) (b : List ℕ) (start : ℕ) (places₀ classes types written labels targets places : List ℕ) (n p ops last : ℕ) : Type 0 where
-  pub goes-on : checkAt T (seenOf classes types written labels targets n ops last) b p ≡ checkBy T b
+-- ops have been read up to a place, and the check goes on from there: what has been seen, and that the arrays hold it
+pub record Reading (T : Table) (b : List ℕ) (start : ℕ) (places₀ base vars labels targets places : List ℕ) (p ops last : ℕ) : Type 0 where
+  pub seen : Seen
+  pub goes-on : checkAt T seen b p ≡ checkBy T b
+  pub coded : Coded vars (seen .classes) (seen .types) (seen .written)
+  pub based : Coded base (seen .classes) (seen .types) empty
+  pub labels-so : seen .labels ≡ numbered labels
+  pub targets-so : seen .targets ≡ marked targets
+  pub ops-so : seen .ops ≡ ops
+  pub last-so : seen .last ≡ last
   pub count : length (recordsAt T b start) ≡ ops + length (recordsAt T b p)
   pub places-are : placesFrom start 0 places₀ (recordsAt T b start) ≡ placesFrom p ops places (recordsAt T b p)
   pub labels-are : labelsFrom T 0 (replicate 256 0) (recordsAt T b start) ≡ labelsFrom T ops labels (recordsAt T b p)
   pub first-op : ops ≡ 0 → p < length b → getD b p 0 ≡ 1 → ⊥
   pub few : ops ≤ 256
 
-module _ {T : Table} {b : List ℕ} {start : ℕ} {places₀ classes types written labels targets places : List ℕ} {n p ops last : ℕ}
-    (s : Scanning T b start places₀ classes types written labels targets places n p ops last) where
-  abbrev seenHere : Seen
-  seenHere = seenOf classes types written labels targets n ops last
-
-  pub scanning-refused : {rule : ℕ} → p < length b → rule ≡ recordRule T seenHere b p → (rule ≡ 0 → ⊥) → ScannedBy T b start places₀ places labels rule p ops
-  scanning-refused {rule} h e z =
-      refuses-op z
-      (sym (ne-answer (recordRule T seenHere b p) (λ q. z (e ∙ q)) ∙ ap (λ (m : ℕ). Refused m p) (sym e)) ∙ sym (at-place T seenHere b p h) ∙ s .goes-on)
-    where
-      ne-answer : (m : ℕ) → (m ≡ 0 → ⊥) → answer m p (checkAt T (next T seenHere (recordAt T b p)) b (p + suc (bodyLength T (getD b p 0)))) ≡ Refused m p
-      ne-answer m q = rw (ne-eqb m 0 q)
-
-  -- the record there breaks no rule
+-- the record there breaks no rule
+module _ {T : Table} {b : List ℕ} {start : ℕ} {places₀ base vars labels targets places : List ℕ} {p ops last : ℕ}
+    (s : Reading T b start places₀ base vars labels targets places p ops last) where
   pub record Sound : Type 0 where
     pub here : p < length b
-    pub sound : recordRule T seenHere b p ≡ 0
+    pub sound : recordRule T (s .seen) b p ≡ 0
 
-  module _ (k : Sound) where
-    op : (getD b p 0 ≡ 1 → ⊥) × (ops < 256)
-    op = op-here T seenHere b p (k .sound) (λ d q. s .first-op q (k .here) d)
+module _ {T : Table} {b : List ℕ} {start : ℕ} {places₀ base vars labels targets places : List ℕ} {p ops last : ℕ}
+    (s : Reading T b start places₀ base vars labels targets places p ops last) (h : p < length b) where
+  -- the rule that the record there breaks, by the entry of its kind and the arrays
+  late : getD b p 0 ≡ 1 → rule3 (s .seen) (recordAt T b p) ≡ false
+  late k = go (tell (rule3 (s .seen) (recordAt T b p)))
+    where
+      go : (rule3 (s .seen) (recordAt T b p) ≡ true) ⊎ (rule3 (s .seen) (recordAt T b p) ≡ false) → rule3 (s .seen) (recordAt T b p) ≡ false
+      go (inl t) = absurd (s .first-op (sym (s .ops-so) ∙ late-rule (s .seen) (recordAt T b p) t) h k)
+      go (inr t) = t
 
-    whole-here : WholeAt T b p
-    whole-here = rule-whole T seenHere b p (k .sound)
+  module _ {e : ℕ} (d : Digits T e (getD b p 0)) where
+    whole-rule : p + suc (bodyLength T (getD b p 0)) ≤ length b
+        → firstBroken (rulesOf T (s .seen) (recordAt T b p)) ≡ cond (eqb (getD b p 0) 1) 3 (firstBroken (opTests e b p ops vars labels (operandsOk e b p vars)))
+    unfolding firstBroken
+    whole-rule l = rw (kind-at T b p l) (go (tell (eqb (getD b p 0) 1)))
+      where
+        go : (eqb (getD b p 0) 1 ≡ true) ⊎ (eqb (getD b p 0) 1 ≡ false)
+            → firstBroken (cond (eqb (getD b p 0) 1) (asks 3 (rule3 (s .seen) (recordAt T b p)) ∷ []) (opRules T (s .seen) (recordAt T b p)))
+            ≡ cond (eqb (getD b p 0) 1) 3 (firstBroken (opTests e b p ops vars labels (operandsOk e b p vars)))
+        go (inl z) = rw (z, late (eqb-true (getD b p 0) 1 z))
+        go (inr z) =
+            rw z
+            (sym
+            (tests-alike (record { e = e; b = b; p = p; ops = ops; vars = vars; labels = labels }) (s .seen) (record { its-kind = refl; whole = l }) d (s .coded) (s .labels-so)
+            (s .ops-so)))
 
-    cut-here : cutOf T (drop p b) ≡ cons (recordAt T b p) (cutOf T (drop (p + suc (bodyLength T (getD b p 0))) b))
-    cut-here = cut-record T b p (k .here) (whole-here .is-known) (whole-here .within)
+    entry-rule : recordRule T (s .seen) b p ≡ entryRule e b p ops vars labels (operandsOk e b p vars)
+    unfolding recordRule entryRule
+    entry-rule = go (tell (known T (getD b p 0))) (tell (ltb (length b) (p + suc (bodyLength T (getD b p 0)))))
+      where
+        go : (known T (getD b p 0) ≡ true) ⊎ (known T (getD b p 0) ≡ false)
+            → (ltb (length b) (p + suc (bodyLength T (getD b p 0))) ≡ true) ⊎ (ltb (length b) (p + suc (bodyLength T (getD b p 0))) ≡ false)
+            → cond (known T (getD b p 0)) (cond (ltb (length b) (p + suc (bodyLength T (getD b p 0)))) 1 (firstBroken (rulesOf T (s .seen) (recordAt T b p)))) 2
+            ≡ cond (isKnown (roleNo (roleIn e))) (cond (leb (length b - p) (outsIn e + insIn e + restIn e)) 1 (cond (eqb (getD b p 0) 1) 3 (firstBroken (opTests e b p ops vars labels (operandsOk e b p vars))))) 2
+        go (inr x) y = rw (x, sym (d .is-known) ∙ x)
+        go (inl x) (inl y) =
+            let l = ltb-true (length b) (p + suc (bodyLength T (getD b p 0))) y in
+            rw (x, sym (d .is-known) ∙ x, y, le-leb (length b - p) (outsIn e + insIn e + restIn e) (omega (arith, l, d .body)))
+        go (inl x) (inr y) =
+            let l = ltb-false (length b) (p + suc (bodyLength T (getD b p 0))) y in
+            rw (x, sym (d .is-known) ∙ x, y, lt-leb (length b - p) (outsIn e + insIn e + restIn e) (omega (arith, l, d .body))) (whole-rule l)
 
-    long-here : length (recordAt T b p) ≡ suc (bodyLength T (getD b p 0))
-    long-here = record-length T b p (k .here) (whole-here .within)
+    -- it is refused, or breaks no rule
+    abbrev here : Op
+    here = record { e = e; b = b; p = p; ops = ops; vars = vars; labels = labels }
 
-    kind-here : isDeclaration (recordAt T b p) ≡ false
-    kind-here = ne-eqb (kindOf (recordAt T b p)) 0x01 (λ q. op .0 (sym (kind-at T b p (whole-here .within)) ∙ q))
+    refused-at : {rule : ℕ} → rule ≡ entryRule e b p ops vars labels (operandsOk e b p vars) → (rule ≡ 0 → ⊥) → ScannedBy T b start places₀ places labels rule p ops
+    refused-at {rule} q z =
+        let a : rule ≡ recordRule T (s .seen) b p = q ∙ sym entry-rule in
+        refuses-op z (sym (ne-answer (recordRule T (s .seen) b p) (λ u. z (a ∙ u)) ∙ ap (λ (m : ℕ). Refused m p) (sym a)) ∙ sym (at-place T (s .seen) b p h) ∙ s .goes-on)
+      where
+        ne-answer : (m : ℕ) → (m ≡ 0 → ⊥) → answer m p (checkAt T (next T (s .seen) (recordAt T b p)) b (p + suc (bodyLength T (getD b p 0)))) ≡ Refused m p
+        ne-answer m u = rw (ne-eqb m 0 u)
 
-    seen-next : next T seenHere (recordAt T b p) ≡ passed T seenHere (recordAt T b p)
-    unfolding next
-    seen-next = rw kind-here
+    module _ {stands : Bool} (o : stands ≡ opStands e b p) where
+      pub stopped-at : {rule place n : ℕ} → stands ≡ false → (rule ≡ entryRule e b p ops vars labels false) × (place ≡ p) × (n ≡ ops) → ScannedBy T b start places₀ places labels rule place n
+      stopped-at t q = rw (q .1, q .2) (refused-at (q .0 ∙ sym (no-op here (sym o ∙ t))) (λ u. stopped-not here (sym (q .0) ∙ u)))
 
-    module _ (written′ labels′ targets′ : List ℕ) (w : marked written′ ≡ wroteBy (rowAt T (recordAt T b p)) (marked written) (outsBy (rowAt T (recordAt T b p)) (recordAt T b p)))
-        (ls : (numbered labels′ ≡ markedBy (isSetting ((rowAt T (recordAt T b p)) .role)) (numbered labels) (labelBy (rowAt T (recordAt T b p)) (recordAt T b p))) × (labels′ ≡ labelledBy (rowAt T (recordAt T b p)) (labelBy (rowAt T (recordAt T b p)) (recordAt T b p)) ops labels))
-        (ts : marked targets′ ≡ markedBy (isJumping ((rowAt T (recordAt T b p)) .role)) (marked targets) (labelBy (rowAt T (recordAt T b p)) (recordAt T b p))) where
-      seen-is : passed T seenHere (recordAt T b p) ≡ seenOf classes types written′ labels′ targets′ n (ops + 1) (getD b p 0)
-      seen-is = rw (w, ls .0, ts, kind-at T b p (whole-here .within), add-one ops)
+      module _ (t : stands ≡ true) {ok : Bool} (f : ok ≡ opOk e b p ops vars labels) where
+        pub unfit-at : {rule place n : ℕ} → ok ≡ false → (rule ≡ entryRule e b p ops vars labels false) × (place ≡ p) × (n ≡ ops) → ScannedBy T b start places₀ places labels rule place n
+        unfit-at k q = rw (q .1, q .2) (refused-at (q .0 ∙ sym (no-fit here (sym o ∙ t) (sym f ∙ k))) (λ u. stopped-not here (sym (q .0) ∙ u)))
 
-      pub scanning-next : Scanning T b start places₀ classes types written′ labels′ targets′ (set places ops (p % 65536)) n (p + (1 + bodyLength T (getD b p 0))) (ops + 1) (getD b p 0)
-      unfolding placesFrom labelsFrom
-      scanning-next =
-          let q : p + (1 + bodyLength T (getD b p 0)) ≡ p + suc (bodyLength T (getD b p 0)) = omega arith in
-          let long : p + length (recordAt T b p) ≡ p + suc (bodyLength T (getD b p 0)) = omega (arith, long-here) in
-          rw q
-          (record {
-            goes-on =
-                ap (λ (t : Seen). checkAt T t b (p + suc (bodyLength T (getD b p 0)))) (sym (seen-next ∙ seen-is))
-                ∙ sym (ap (λ (m : ℕ). answer m p (checkAt T (next T seenHere (recordAt T b p)) b (p + suc (bodyLength T (getD b p 0))))) (k .sound))
-                ∙ sym (at-place T seenHere b p (k .here)) ∙ s .goes-on;
-            count = s .count ∙ ap (λ (c : Cut). ops + length (c .records)) cut-here ∙ more ops (length (recordsAt T b (p + suc (bodyLength T (getD b p 0)))));
-            places-are =
-                s .places-are ∙ ap (λ (c : Cut). placesFrom p ops places (c .records)) cut-here
-                ∙ ap₂ (λ (x y : ℕ). placesFrom x y (set places ops (p % 65536)) (recordsAt T b (p + suc (bodyLength T (getD b p 0))))) long (sym (add-one ops));
-            labels-are =
-                s .labels-are ∙ ap (λ (c : Cut). labelsFrom T ops labels (c .records)) cut-here
-                ∙ ap₂ (λ (x : ℕ) (y : List ℕ). labelsFrom T x y (recordsAt T b (p + suc (bodyLength T (getD b p 0))))) (sym (add-one ops)) (sym (ls .1));
-            first-op = λ x. absurd (omega arith);
-            few = omega (arith, op .1);
-          })
-        where
-          more : (a m : ℕ) → a + suc m ≡ a + 1 + m
-          more a m = omega arith
+        pub sound-at : ok ≡ true → Sound s
+        sound-at k = record { here = h; sound = entry-rule ∙ op-fits here (sym o ∙ t) (sym f ∙ k) }
 
-  -- the end
-  module _ (h : length b ≤ p) where
-    end-answer : answer (firstBroken (endRules seenHere)) p Accepted ≡ checkBy T b
-    end-answer = sym (at-end T seenHere b p h) ∙ s .goes-on
+      pub op-inside : stands ≡ true → p + (outsIn e + insIn e + restIn e) < length b
+      op-inside t =
+          let k : (isKnown (roleNo (roleIn e)) && not (leb (length b - p) (outsIn e + insIn e + restIn e)) && not (eqb (getD b p 0) 1)) ≡ true = sym o ∙ t in
+          let l = and-r (isKnown (roleNo (roleIn e))) (not (leb (length b - p) (outsIn e + insIn e + restIn e))) (and-l (isKnown (roleNo (roleIn e)) && not (leb (length b - p) (outsIn e + insIn e + restIn e))) (not (eqb (getD b p 0) 1)) k) in
+          omega (arith, leb-false (length b - p) (outsIn e + insIn e + restIn e) (not-true (leb (length b - p) (outsIn e + insIn e + restIn e)) l))
 
-    pub scanning-10 : (last ≡ 4 → ⊥) → ScannedBy T b start places₀ places labels 10 p ops
-    unfolding firstBroken rule10
-    scanning-10 q = refuses-op {rule = 10} (λ e. omega arith) (rw (ne-eqb last 0x04 q) at end-answer)
+module _ {T : Table} {b : List ℕ} {start : ℕ} {places₀ base vars labels targets places : List ℕ} {p ops last : ℕ}
+    {s : Reading T b start places₀ base vars labels targets places p ops last} (k : Sound s) where
+  its-op : SoundOp T (s .seen) b p
+  its-op = op-here T (s .seen) b p (k .sound) (λ d q. s .first-op (sym (s .ops-so) ∙ q) (k .here) d)
 
-    module _ {r : Bool} (q : last ≡ 4) (e : r ≡ allSet (marked targets) (numbered labels) 32) where
-      pub scanning-7 : r ≡ false → ScannedBy T b start places₀ places labels 7 p ops
-      unfolding firstBroken rule10 rule7end
-      scanning-7 t = refuses-op {rule = 7} (λ z. omega arith) (rw (eq-eqb last 0x04 q, sym e ∙ t) at end-answer)
-
-      pub scanning-0 : r ≡ true → ScannedBy T b start places₀ places labels 0 p ops
-      unfolding firstBroken rule10 rule7end placesFrom labelsFrom
-      scanning-0 t =
-          let rest : recordsAt T b p ≡ [] = ap (λ (c : Cut). c .records) (cut-end T b p h) in
-          accepts-ops {place = p} {ops = ops} (sym (rw (eq-eqb last 0x04 q, sym e ∙ t) at end-answer))
-          (omega (arith, s .count, ap length rest))
-          (sym (s .places-are ∙ ap (placesFrom p ops places) rest))
-          (sym (s .labels-are ∙ ap (labelsFrom T ops labels) rest))
-
--- the start, after the declarations
-pub scanning-start : {T : Table} {b classes types : List ℕ} {p n globals : ℕ} (places₀ : List ℕ) → Declaring T b classes types p n globals → (p < length b → getD b p 0 ≡ 1 → ⊥)
-    → marked (replicate 256 0) ≡ empty → numbered (replicate 256 0) ≡ empty
-    → Scanning T b p places₀ classes types (replicate 256 0) (replicate 256 0) (replicate 256 0) places₀ n p 0 0
-scanning-start {T = T} {b} {classes} {types} {p} {n} places₀ d k m u =
-    record {
-      goes-on = ap (λ (s : Seen). checkAt T s b p) same ∙ d .goes-on;
-      count = sym (zero-add (length (recordsAt T b p)));
-      places-are = refl;
-      labels-are = refl;
-      first-op = λ e. k;
-      few = omega arith;
-    }
-  where
-    same : seenOf classes types (replicate 256 0) (replicate 256 0) (replicate 256 0) n 0 0 ≡ declaredSeen classes types n
-    same = rw (m, u)
-
--- the loop's turns, in the code's terms
-module _ {T : Table} {b : List ℕ} {start : ℕ} {places₀ classes types written labels targets places : List ℕ} {n p ops last rule : ℕ}
-    (s : Scanning T b start places₀ classes types written labels targets places n p ops last) (h : p < length b)
-    (e : rule ≡ recordRule T (seenOf classes types written labels [] n ops 0) b p) where
-  e′ : rule ≡ recordRule T (seenOf classes types written labels targets n ops last) b p
-  e′ = e ∙ same-rule T b classes types written labels targets p n ops last
-
-  pub refused-at : (rule ≡ 0 → ⊥) → ScannedBy T b start places₀ places labels rule p ops
-  refused-at z = scanning-refused s h e′ z
-
-  pub sound-at : rule ≡ 0 → Sound s
-  sound-at z = record { here = h; sound = sym e′ ∙ z }
-
-module _ {T : Table} {b : List ℕ} {start : ℕ} {places₀ classes types written labels targets places : List ℕ} {n p ops last : ℕ}
-    {s : Scanning T b start places₀ classes types written labels targets places n p ops last} (k : Sound s) where
   pub few-ops-here : ops < 256
-  few-ops-here = op s k .1
+  few-ops-here = omega (arith, its-op .few, s .ops-so)
+
+  whole-here : WholeAt T b p
+  whole-here = rule-whole T (s .seen) b p (k .sound)
 
   pub whole-op : p + suc (bodyLength T (getD b p 0)) ≤ length b
-  whole-op = whole-here s k .within
+  whole-op = whole-here .within
 
   pub stands-at : Stands T b p (getD b p 0)
   stands-at = record { its-kind = refl; whole = whole-op }
 
-  pub again-at : {m : ℕ} → m ≡ bodyLength T (getD b p 0) → (written′ labels′ targets′ : List ℕ) → Marks T (recordAt T b p) ops written written′ labels labels′ targets targets′
-      → Scanning T b start places₀ classes types written′ labels′ targets′ (set places ops (p % 65536)) n (p + (1 + m)) (ops + 1) (getD b p 0)
-  again-at q written′ labels′ targets′ m = rw q (scanning-next s k written′ labels′ targets′ (m .writes-so) (m .labelled .labels-so, m .labelled .numbers-so) (m .targets-so))
+  cut-here : cutOf T (drop p b) ≡ cons (recordAt T b p) (cutOf T (drop (p + suc (bodyLength T (getD b p 0))) b))
+  cut-here = cut-record T b p (k .here) (whole-here .is-known) (whole-here .within)
 
-pub record-asked : {T : Table} {b : List ℕ} {start : ℕ} {places₀ classes types written labels targets places : List ℕ} {n p ops last : ℕ}
-    → Begins T b classes types start n → Scanning T b start places₀ classes types written labels targets places n p ops last → p < length b → RecordAt b classes types p n ops
-record-asked g s h =
+  long-here : length (recordAt T b p) ≡ suc (bodyLength T (getD b p 0))
+  long-here = record-length T b p (k .here) (whole-here .within)
+
+  seen-next : next T (s .seen) (recordAt T b p) ≡ passed T (s .seen) (recordAt T b p)
+  unfolding next
+  seen-next = rw (ne-eqb (kindOf (recordAt T b p)) 0x01 (λ q. its-op .is-op (sym (kind-at T b p (whole-here .within)) ∙ q)))
+
+  outs-below : allBelow (length (s .seen .classes)) (outsBy (rowAt T (recordAt T b p)) (recordAt T b p)) ≡ true
+  unfolding rule4
+  outs-below = below-left (length (s .seen .classes)) (outsBy (rowAt T (recordAt T b p)) (recordAt T b p)) (insBy (rowAt T (recordAt T b p)) (recordAt T b p)) (its-op .declared)
+
+  pub again-at : {m : ℕ} → m ≡ bodyLength T (getD b p 0) → (vars′ labels′ targets′ : List ℕ) → Marks T (recordAt T b p) ops base vars vars′ labels labels′ targets targets′
+      → Reading T b start places₀ base vars′ labels′ targets′ (set places ops (p % 65536)) (p + (1 + m)) (ops + 1) (getD b p 0)
+  unfolding placesFrom labelsFrom
+  again-at {m} z vars′ labels′ targets′ w =
+      let q : p + (1 + m) ≡ p + suc (bodyLength T (getD b p 0)) = omega (arith, z) in
+      let long : p + length (recordAt T b p) ≡ p + suc (bodyLength T (getD b p 0)) = omega (arith, long-here) in
+      let row = rowAt T (recordAt T b p) in
+      rw q
+      (record {
+        seen = passed T (s .seen) (recordAt T b p);
+        goes-on =
+            ap (λ (t : Seen). checkAt T t b (p + suc (bodyLength T (getD b p 0)))) (sym seen-next)
+            ∙ sym (ap (λ (m : ℕ). answer m p (checkAt T (next T (s .seen) (recordAt T b p)) b (p + suc (bodyLength T (getD b p 0))))) (k .sound))
+            ∙ sym (at-place T (s .seen) b p (k .here)) ∙ s .goes-on;
+        coded = coded-next (s .based) (s .coded) row vars′ (outsBy row (recordAt T b p)) (w .codes-so) outs-below;
+        based = s .based;
+        labels-so = ap (λ (ls : Vars). markedBy (isSetting (row .role)) ls (labelBy row (recordAt T b p))) (s .labels-so) ∙ sym (w .labelled .labels-so);
+        targets-so = ap (λ (ts : Vars). markedBy (isJumping (row .role)) ts (labelBy row (recordAt T b p))) (s .targets-so) ∙ sym (w .targets-so);
+        ops-so = ap suc (s .ops-so) ∙ sym (add-one ops);
+        last-so = kind-at T b p (whole-here .within);
+        count = s .count ∙ ap (λ (c : Cut). ops + length (c .records)) cut-here ∙ more ops (length (recordsAt T b (p + suc (bodyLength T (getD b p 0)))));
+        places-are =
+            s .places-are ∙ ap (λ (c : Cut). placesFrom p ops places (c .records)) cut-here
+            ∙ ap₂ (λ (x y : ℕ). placesFrom x y (set places ops (p % 65536)) (recordsAt T b (p + suc (bodyLength T (getD b p 0))))) long (sym (add-one ops));
+        labels-are =
+            s .labels-are ∙ ap (λ (c : Cut). labelsFrom T ops labels (c .records)) cut-here
+            ∙ ap₂ (λ (x : ℕ) (y : List ℕ). labelsFrom T x y (recordsAt T b (p + suc (bodyLength T (getD b p 0))))) (sym (add-one ops)) (sym (w .labelled .numbers-so));
+        first-op = λ x. absurd (omega arith);
+        few = omega (arith, few-ops-here);
+      })
+    where
+      more : (a m : ℕ) → a + suc m ≡ a + 1 + m
+      more a m = omega arith
+
+-- the end
+module _ {T : Table} {b : List ℕ} {start : ℕ} {places₀ base vars labels targets places : List ℕ} {p ops last : ℕ}
+    (s : Reading T b start places₀ base vars labels targets places p ops last) (h : length b ≤ p) where
+  end-answer : answer (firstBroken (endRules (s .seen))) p Accepted ≡ checkBy T b
+  end-answer = sym (at-end T (s .seen) b p h) ∙ s .goes-on
+
+  pub scanning-10 : (last ≡ 4 → ⊥) → ScannedBy T b start places₀ places labels 10 p ops
+  unfolding firstBroken rule10
+  scanning-10 q = refuses-op {rule = 10} (λ e. omega arith) (rw (s .last-so, ne-eqb last 0x04 q) at end-answer)
+
+  module _ {r : Bool} (q : last ≡ 4) (e : r ≡ allSet (marked targets) (numbered labels) 32) where
+    pub scanning-7 : r ≡ false → ScannedBy T b start places₀ places labels 7 p ops
+    unfolding firstBroken rule10 rule7end
+    scanning-7 t = refuses-op {rule = 7} (λ z. omega arith) (rw (s .last-so, eq-eqb last 0x04 q, s .targets-so, s .labels-so, sym e ∙ t) at end-answer)
+
+    pub scanning-0 : r ≡ true → ScannedBy T b start places₀ places labels 0 p ops
+    unfolding firstBroken rule10 rule7end placesFrom labelsFrom
+    scanning-0 t =
+        let rest : recordsAt T b p ≡ [] = ap (λ (c : Cut). c .records) (cut-end T b p h) in
+        accepts-ops {place = p} {ops = ops} (sym (rw (s .last-so, eq-eqb last 0x04 q, s .targets-so, s .labels-so, sym e ∙ t) at end-answer))
+        (omega (arith, s .count, ap length rest))
+        (sym (s .places-are ∙ ap (placesFrom p ops places) rest))
+        (sym (s .labels-are ∙ ap (labelsFrom T ops labels) rest))
+
+-- the start, after the declarations
+pub begins-start : {T : Table} {b base : List ℕ} {p : ℕ} (places₀ : List ℕ) → Begins T b base p
+    → Reading T b p places₀ base base (replicate 256 0) (replicate 256 0) places₀ p 0 0
+begins-start {T = T} {b = b} {p = p} places₀ g =
     record {
-      inside = h;
-      late = λ k q. s .first-op q h k;
-      few = g .after .few;
-      long-classes = g .after .long-classes;
-      long-types = g .after .long-types;
+      seen = declaredSeen (g .classes) (g .types) (g .n);
+      goes-on = g .after .goes-on;
+      coded = g .after .coded;
+      based = g .after .coded;
+      labels-so = sym (numbered-none 256 refl);
+      targets-so = sym (marked-none 256 refl);
+      ops-so = refl;
+      last-so = refl;
+      count = sym (zero-add (length (recordsAt T b p)));
+      places-are = refl;
+      labels-are = refl;
+      first-op = λ e. g .no-more;
+      few = omega arith;
     }
 
-pub begins-start : {T : Table} {b classes types : List ℕ} {p n : ℕ} (places₀ : List ℕ) → Begins T b classes types p n
-    → Scanning T b p places₀ classes types (replicate 256 0) (replicate 256 0) (replicate 256 0) places₀ n p 0 0
-begins-start places₀ g = scanning-start places₀ (g .after) (g .no-more) (marked-none 256 refl) (numbered-none 256 refl)
-
-pub begins-inside : {T : Table} {b classes types : List ℕ} {p n : ℕ} → Begins T b classes types p n → p ≤ length b
+pub begins-inside : {T : Table} {b base : List ℕ} {p : ℕ} → Begins T b base p → p ≤ length b
 begins-inside g = g .after .reached
 
 -- what an op leaves in the arrays, from the digits of its entry
@@ -313,14 +327,37 @@ module _ {T : Table} {b : List ℕ} {p k e : ℕ} (s : Stands T b p k) (d : Digi
   pub last-inside : p + (outsIn e + insIn e + restIn e) < length b
   last-inside = omega (arith, s .whole, d .body)
 
-  pub marks-by : {op : ℕ} {written written′ labels labels′ targets targets′ : List ℕ} → marked written′ ≡ wroteBy (rowIn e) (marked written) (bytesAt b (p + 1) (outsIn e))
+  marks-by : {op : ℕ} {base vars vars′ labels labels′ targets targets′ : List ℕ} → codesIn vars′ ≡ codesBy (rowIn e) (codesIn base) (codesIn vars) (bytesAt b (p + 1) (outsIn e))
       → LabelledAs (rowIn e) (getD b (p + (outsIn e + insIn e + restIn e)) 0) op labels labels′
       → marked targets′ ≡ markedBy (isJumping (roleNo (roleIn e))) (marked targets) (getD b (p + (outsIn e + insIn e + restIn e)) 0)
-      → Marks T (recordAt T b p) op written written′ labels labels′ targets targets′
-  marks-by {op} {written} {written′} {labels} {labels′} {targets} w l t =
+      → Marks T (recordAt T b p) op base vars vars′ labels labels′ targets targets′
+  marks-by {op} {base} {vars} {vars′} {labels} {labels′} {targets} w l t =
       record {
-        writes-so = w ∙ sym (ap₂ (λ (row : Row) (os : List ℕ). wroteBy row (marked written) os) row-is (output-bytes s ∙ ap (bytesAt b (p + 1)) (d .outs)));
+        codes-so = w ∙ sym (ap₂ (λ (row : Row) (os : List ℕ). codesBy row (codesIn base) (codesIn vars) os) row-is (output-bytes s ∙ ap (bytesAt b (p + 1)) (d .outs)));
         labelled = subst (λ (row : Row). LabelledAs row (labelBy (rowAt T (recordAt T b p)) (recordAt T b p)) op labels labels′) (sym row-is)
             (subst (λ (n : ℕ). LabelledAs (rowIn e) n op labels labels′) (sym label-is) l);
         targets-so = t ∙ sym (ap₂ (λ (row : Row) (n : ℕ). markedBy (isJumping (row .role)) (marked targets) n) row-is label-is);
       }
+
+  -- the basic block goes on, or ends
+  straight-sets : isClosing (roleNo (roleIn e)) ≡ false → isSetting (roleNo (roleIn e)) ≡ false
+  straight-sets c = ne-eqb (numberOf (roleNo (roleIn e))) 2 (λ q. omega (arith, ltb-false (numberOf (roleNo (roleIn e))) 6 c))
+
+  straight-jumps : isClosing (roleNo (roleIn e)) ≡ false → isJumping (roleNo (roleIn e)) ≡ false
+  straight-jumps c =
+      let l = ltb-false (numberOf (roleNo (roleIn e))) 6 c in
+      rw (ne-eqb (numberOf (roleNo (roleIn e))) 3 (λ q. omega (arith, l)), ne-eqb (numberOf (roleNo (roleIn e))) 5 (λ q. omega (arith, l)))
+
+  module _ {op : ℕ} {base vars vars′ : List ℕ} {t : Bool} (z : t ≡ isClosing (roleNo (roleIn e))) where
+    pub marks-open : {n : ℕ} (labels targets : List ℕ) → t ≡ false → n ≡ outsIn e → codesIn vars′ ≡ openAll (codesIn vars) (bytesAt b (p + 1) n)
+        → Marks T (recordAt T b p) op base vars vars′ labels labels targets targets
+    marks-open labels targets c m w =
+        let f = sym z ∙ c in
+        marks-by (codes-open (rowIn e) (codesIn base) (codesIn vars) (bytesAt b (p + 1) (outsIn e)) z c (w ∙ ap (λ (n : ℕ). openAll (codesIn vars) (bytesAt b (p + 1) n)) m))
+        (labelled-not (rowIn e) (getD b (p + (outsIn e + insIn e + restIn e)) 0) op refl (straight-sets f))
+        (target-not (getD b (p + (outsIn e + insIn e + restIn e)) 0) targets refl (straight-jumps f))
+
+    pub marks-closed : {labels labels′ targets targets′ : List ℕ} → t ≡ true → vars′ ≡ base → LabelledAs (rowIn e) (getD b (p + (outsIn e + insIn e + restIn e)) 0) op labels labels′
+        → marked targets′ ≡ markedBy (isJumping (roleNo (roleIn e))) (marked targets) (getD b (p + (outsIn e + insIn e + restIn e)) 0)
+        → Marks T (recordAt T b p) op base vars vars′ labels labels′ targets targets′
+    marks-closed c w l u = marks-by (codes-closed (rowIn e) (codesIn base) (codesIn vars) (bytesAt b (p + 1) (outsIn e)) z c (ap codesIn w)) l u

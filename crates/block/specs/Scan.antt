@@ -1,18 +1,19 @@
 -- What the scan's arrays hold. Assumes nothing.
 use mathlib.Core.Path.{_≡_}
-use mathlib.Core.Bool.{Bool, true, cond, not, _&&_, _||_}
+use mathlib.Core.Bool.{Bool, true, false, cond, not, _&&_, _||_}
 use mathlib.Core.List.{List, [], _∷_, _++_}
-use Prim.Native.Nat.{ℕ, suc, _+_, _*_, _/_, _%_, _≤_, _<_}
+use Prim.Native.Nat.{ℕ, suc, _+_, _-_, _*_, _/_, _%_, _≤_, _<_}
 use lib.Dec.{eqb, ltb, leb}
 use lib.ListN.{length, getD, take, drop, set, replicate}
 use Rattle.theory.specs.Machine.{All}
-use Rattle.theory.specs.Sets.{Vars, empty, plus, without}
+use Rattle.theory.specs.Sets.{Vars, empty, has, plus, without}
 use Rattle.ops.specs.Rows.{known, bodyLength, Table}
-use Rattle.ops.specs.Rows.{Row, isSetting, isJumping}
-use Rattle.ops.specs.Ops.{rowAt, outsBy, labelBy}
-use Rattle.block.specs.Checks.{firstBroken, rulesOf, checkFrom, checkBy}
+use Rattle.ops.specs.Limits.{maxOps}
+use Rattle.ops.specs.Rows.{Row, outsIn, insIn, restIn, testIn, roleIn, typesIn, rowIn, roleNo, isKnown, isClosing, isSetting, isJumping, testOk}
+use Rattle.ops.specs.Ops.{rowAt, bytesAt, outsBy, labelBy}
+use Rattle.block.specs.Checks.{Finding, asks, firstBroken, rulesOf, checkFrom, checkBy}
 use Rattle.block.specs.Records.{cutOf, recordsOf, isDeclaration, declarations, opsFrom, classesOf, declaredTypes, globalCount}
-use Rattle.block.specs.Rules.{Seen, start, wroteBy, markedBy}
+use Rattle.block.specs.Rules.{Seen, start, keptIn, labelFree, markedBy}
 use Rattle.block.specs.declared.Verdict.{Verdict}
 use Rattle.block.specs.declared.Verdict.the-variants.{Accepted, Refused}
 
@@ -34,18 +35,41 @@ pub record SetAt (xs : List ℕ) (i x : ℕ) (ys : List ℕ) : Type 0 where
 unfoldable pub checkAt : Table → Seen → List ℕ → ℕ → Verdict
 checkAt T s block place = checkFrom T s place ((cutOf T (drop place block)) .records) ((cutOf T (drop place block)) .tail)
 
--- each variable has its type, two bits of the number, the first variable's lowest
-unfoldable pub typesMatch : List ℕ → ℕ → List ℕ → Bool
-typesMatch types codes [] = true
-typesMatch types codes (v ∷ vs) = eqb (getD types v 0) (codes % 4) && typesMatch types (codes / 4) vs
+-- the variables' bytes, and the byte of each, after its declaration: its type, and 4 more where it may be read; 8 where it is not declared
+abbrev pub codesIn : List ℕ → ℕ → ℕ
+codesIn vars v = getD vars v 8
 
--- a variable of this class, written in the basic block where the byte is 1, may be read
-abbrev pub readable : ℕ → ℕ → Bool
-readable class written = ltb class 2 || eqb written 1
+abbrev pub codeOf : List ℕ → List ℕ → Vars → ℕ → ℕ
+codeOf classes types written v = cond (ltb v (length classes)) (cond (keptIn classes v || written v) (getD types v 0 + 4) (getD types v 0)) 8
 
-unfoldable pub mayReadAll : List ℕ → List ℕ → List ℕ → Bool
-mayReadAll classes written [] = true
-mayReadAll classes written (v ∷ vs) = readable (getD classes v 0) (getD written v 0) && mayReadAll classes written vs
+pub record Coded (vars classes types : List ℕ) (written : Vars) : Type 0 where
+  pub codes-are : codesIn vars ≡ codeOf classes types written
+  pub types-small : (v : ℕ) → getD types v 0 < 4
+  pub inside : (v : ℕ) → length classes ≤ v → written v ≡ false
+
+abbrev pub readableIn : List ℕ → Vars
+readableIn vars v = eqb (codesIn vars v / 4) 1
+
+-- a variable with this byte may be read at a type, or, where it is an output, only has it
+abbrev pub fitsAs : Bool → ℕ → ℕ → Bool
+fitsAs output code type = eqb code (type + 4) || (output && eqb code type)
+
+-- each operand fits, outputs first; the types are two bits of the number each, the first operand's lowest
+unfoldable pub operandsFit : List ℕ → ℕ → ℕ → List ℕ → Bool
+operandsFit vars outs codes [] = true
+operandsFit vars outs codes (v ∷ vs) = fitsAs (ltb 0 outs) (codesIn vars v) (codes % 4) && operandsFit vars (outs - 1) (codes / 4) vs
+
+-- each is declared
+abbrev pub declaredAll : List ℕ → List ℕ → Bool
+declaredAll vars [] = true
+declaredAll vars (v ∷ vs) = ltb (codesIn vars v) 8 && declaredAll vars vs
+
+-- the bytes once some variables are written: they may be read
+abbrev pub opened : ℕ → ℕ
+opened code = cond (ltb code 4) (code + 4) code
+
+abbrev pub openAll : (ℕ → ℕ) → List ℕ → ℕ → ℕ
+openAll codes vs v = cond (has vs v) (opened (codes v)) (codes v)
 
 -- the variables whose byte is 1; the labels whose number is not 0
 abbrev pub marked : List ℕ → Vars
@@ -57,20 +81,6 @@ markedAs x l vs = cond (eqb x 1) (plus l vs) (without l vs)
 
 abbrev pub numbered : List ℕ → Vars
 numbered numbers l = not (eqb (getD numbers l 0) 0)
-
--- what n variables' classes and types, the variables written, the labels set and jumped to, the number of ops and the last kind come to.
--- A variable is written, and a label jumped to, where its byte is 1; a label is set where its number is not 0
-abbrev pub seenOf : List ℕ → List ℕ → List ℕ → List ℕ → List ℕ → ℕ → ℕ → ℕ → Seen
-seenOf classes types written labels targets n ops last =
-    record {
-      classes = take n classes;
-      types = take n types;
-      written = marked written;
-      labels = numbered labels;
-      targets = marked targets;
-      ops = ops;
-      last = last;
-    }
 
 -- the labels' numbers once an op has been read: a label's is one more than its op's
 abbrev pub labelledBy : Row → ℕ → ℕ → List ℕ → List ℕ
@@ -86,7 +96,7 @@ declaredSeen classes types n =
     record { classes = take n classes; types = take n types; written = empty; labels = empty; targets = empty; ops = 0; last = 0 }
 
 -- n declarations have been read up to a place, and the check goes on from there
-pub record Declaring (T : Table) (block classes types : List ℕ) (place n globals : ℕ) : Type 0 where
+pub record Declaring (T : Table) (block classes types vars : List ℕ) (place n globals : ℕ) : Type 0 where
   pub before : List (List ℕ)
   pub goes-on : checkAt T (declaredSeen classes types n) block place ≡ checkBy T block
   pub records-are : recordsOf T block ≡ before ++ (cutOf T (drop place block)) .records
@@ -99,22 +109,55 @@ pub record Declaring (T : Table) (block classes types : List ℕ) (place n globa
   pub few : n ≤ 64
   pub long-classes : length classes ≡ 256
   pub long-types : length types ≡ 256
+  pub coded : Coded vars (take n classes) (take n types) empty
+  pub long-vars : length vars ≡ 256
+
+-- the byte of a variable of this class and type
+abbrev pub codeFor : ℕ → ℕ → ℕ
+codeFor class type = cond (ltb class 2) (type % 4 + 4) (type % 4)
 
 -- rule 3 of the n-th variable's declaration, where so many are globals
 unfoldable pub declarationOk : ℕ → ℕ → ℕ → ℕ → Bool
 declarationOk class type globals n = leb class 2 && leb type 1 && (not (eqb class 0) || eqb globals n) && ltb n 64
 
 -- what the scan of the declarations answers: a refusal; or the place of the first record that is none
-pub data DeclaredBy (T : Table) (block classes types : List ℕ) : ℕ → ℕ → ℕ → ℕ → Type 0 where
-  refuses : {rule place n globals : ℕ} → (rule ≡ 0 → ⊥) → Refused rule place ≡ checkBy T block → DeclaredBy T block classes types rule place n globals
-  reads-on : {place n globals : ℕ} → Declaring T block classes types place n globals → (place < length block → getD block place 0 ≡ 1 → ⊥)
-      → DeclaredBy T block classes types 0 place n globals
+pub data DeclaredBy (T : Table) (block classes types vars : List ℕ) : ℕ → ℕ → ℕ → ℕ → Type 0 where
+  refuses : {rule place n globals : ℕ} → (rule ≡ 0 → ⊥) → Refused rule place ≡ checkBy T block → DeclaredBy T block classes types vars rule place n globals
+  reads-on : {place n globals : ℕ} → Declaring T block classes types vars place n globals → (place < length block → getD block place 0 ≡ 1 → ⊥)
+      → DeclaredBy T block classes types vars 0 place n globals
 
 -- the rule that the record at a place breaks, 2 and 1 first; 0 if none
 unfoldable pub recordRule : Table → Seen → List ℕ → ℕ → ℕ
 recordRule T s block place =
     let k = getD block place 0 in
     cond (known T k) (cond (ltb (length block) (place + suc (bodyLength T k))) 1 (firstBroken (rulesOf T s (recordAt T block place)))) 2
+
+-- the same from the entry of its kind and the arrays: the tests of an op in the order in which they are asked; the last is whether its operands fit
+abbrev pub opTests : ℕ → List ℕ → ℕ → ℕ → List ℕ → List ℕ → Bool → List Finding
+opTests e block place ops vars labels fit =
+    let count : ℕ = outsIn e + insIn e in
+    let vs = bytesAt block (place + 1) count in
+    asks 9 (ltb ops maxOps) ∷ asks 4 (declaredAll vars vs) ∷ asks 5 (operandsFit vars count (typesIn e) vs)
+    ∷ asks 6 (testOk (testIn e) (take (restIn e) (drop (place + 1 + count) block)))
+    ∷ asks 7 (labelFree (rowIn e) (numbered labels) (getD block (place + (count + restIn e)) 0)) ∷ asks 8 fit ∷ []
+
+abbrev pub operandsOk : ℕ → List ℕ → ℕ → List ℕ → Bool
+operandsOk e block place vars = operandsFit vars (outsIn e) (typesIn e) (bytesAt block (place + 1) (outsIn e + insIn e))
+
+unfoldable pub entryRule : ℕ → List ℕ → ℕ → ℕ → List ℕ → List ℕ → Bool → ℕ
+entryRule e block place ops vars labels fit =
+    cond (isKnown (roleNo (roleIn e)))
+    (cond (leb (length block - place) (outsIn e + insIn e + restIn e)) 1
+    (cond (eqb (getD block place 0) 1) 3 (firstBroken (opTests e block place ops vars labels fit)))) 2
+
+-- an op stands there, whole; it meets every rule
+abbrev pub opStands : ℕ → List ℕ → ℕ → Bool
+opStands e block place = isKnown (roleNo (roleIn e)) && not (leb (length block - place) (outsIn e + insIn e + restIn e)) && not (eqb (getD block place 0) 1)
+
+abbrev pub opOk : ℕ → List ℕ → ℕ → ℕ → List ℕ → List ℕ → Bool
+opOk e block place ops vars labels =
+    ltb ops maxOps && operandsOk e block place vars && testOk (testIn e) (take (restIn e) (drop (place + 1 + (outsIn e + insIn e)) block))
+    && labelFree (rowIn e) (numbered labels) (getD block (place + (outsIn e + insIn e + restIn e)) 0)
 
 -- the places of ops that start at a place, the first of them the i-th; and the labels' numbers
 unfoldable pub placesFrom : ℕ → ℕ → List ℕ → List (List ℕ) → List ℕ
@@ -135,33 +178,24 @@ pub data ScannedBy (T : Table) (block : List ℕ) (start : ℕ) (places₀ place
   accepts-ops : {place ops : ℕ} → checkBy T block ≡ Accepted → ops ≡ length (recordsAt T block start) → places ≡ placesFrom start 0 places₀ (recordsAt T block start)
       → labels ≡ labelsFrom T 0 (replicate 256 0) (recordsAt T block start) → ScannedBy T block start places₀ places labels 0 place ops
 
--- an op stands at the place, whole; n variables are declared
-pub record OpAt (T : Table) (b classes types : List ℕ) (p n : ℕ) : Type 0 where
-  pub within : p + suc (bodyLength T (getD b p 0)) ≤ length b
-  pub is-known : known T (getD b p 0) ≡ true
-  pub is-op : getD b p 0 ≡ 1 → ⊥
-  pub few-classes : n ≤ length classes
-  pub few-types : n ≤ length types
+-- the variables' bytes after an op, from those at the start of a basic block
+abbrev pub codesBy : Row → (ℕ → ℕ) → (ℕ → ℕ) → List ℕ → ℕ → ℕ
+codesBy row base codes outs = cond (isClosing (row .role)) base (openAll codes outs)
 
--- what an op leaves in the arrays: the variables written, the labels set and their numbers, the labels jumped to
-pub record Marks (T : Table) (r : List ℕ) (op : ℕ) (written written′ labels labels′ targets targets′ : List ℕ) : Type 0 where
-  pub writes-so : marked written′ ≡ wroteBy (rowAt T r) (marked written) (outsBy (rowAt T r) r)
+-- what an op leaves in the arrays: the variables' bytes, the labels set and their numbers, the labels jumped to
+pub record Marks (T : Table) (r : List ℕ) (op : ℕ) (base vars vars′ labels labels′ targets targets′ : List ℕ) : Type 0 where
+  pub codes-so : codesIn vars′ ≡ codesBy (rowAt T r) (codesIn base) (codesIn vars) (outsBy (rowAt T r) r)
   pub labelled : LabelledAs (rowAt T r) (labelBy (rowAt T r) r) op labels labels′
   pub targets-so : marked targets′ ≡ markedBy (isJumping ((rowAt T r) .role)) (marked targets) (labelBy (rowAt T r) r)
 
--- the ops begin at a place, after n declarations
-pub record Begins (T : Table) (block classes types : List ℕ) (place n : ℕ) : Type 0 where
+-- the ops begin at a place, after the declarations
+pub record Begins (T : Table) (block base : List ℕ) (place : ℕ) : Type 0 where
+  pub classes : List ℕ
+  pub types : List ℕ
+  pub n : ℕ
   pub globals : ℕ
-  pub after : Declaring T block classes types place n globals
+  pub after : Declaring T block classes types base place n globals
   pub no-more : place < length block → getD block place 0 ≡ 1 → ⊥
-
--- a record stands at the place, after ops ops and n declarations; a declaration only after an op
-pub record RecordAt (block classes types : List ℕ) (place n ops : ℕ) : Type 0 where
-  pub inside : place < length block
-  pub late : getD block place 0 ≡ 1 → ops ≡ 0 → ⊥
-  pub few : n ≤ 64
-  pub long-classes : length classes ≡ 256
-  pub long-types : length types ≡ 256
 
 -- what the scan tells of an accepted block, with the declarations and ops as the definitions have them
 pub record Approved (T : Table) (block places₀ classes types places labels : List ℕ) (start n globals ops : ℕ) : Type 0 where

@@ -1,7 +1,7 @@
 // The declarations of a block.
 ghost use mathlib.Core.Path.{_≡_};
-ghost use lib.ListN.{length};
-ghost use Rattle.block.specs.Scan.{declarationOk, DeclaredBy};
+ghost use lib.ListN.{length, replicate};
+ghost use Rattle.block.specs.Scan.{codeFor, declarationOk, DeclaredBy};
 use ops::MAX_VARIABLES;
 ghost use Rattle.ops.specs.Rows.{Table};
 ghost use Rattle.ops.specs.Lawful.{LawfulTable};
@@ -33,10 +33,22 @@ fn declaration_ok(class: u8, ty: u8, globals: usize, n: usize) -> bool
     globals == n
 }
 
+// The byte of a variable: its type, and 4 more where it outlives a basic block.
+fn code(class: u8, ty: u8) -> u8
+    ensures { λ r. ⌜ r ≡ codeFor class ty ⌝ }
+{
+    if class < 2 { ty % 4 + 4 } else { ty % 4 }
+}
+
 // Reads the declarations, up to the first record that is none or the first that is refused.
-pub fn scan_declarations(block: &[u8], classes: &mut [u8; 256], types: &mut [u8; 256]) -> Declared
-    requires { ⌜ (length (now classes) ≡ 256) × (length (now types) ≡ 256) ⌝ }
-    ensures { λ r. ⌜ ((T : Table) → LawfulTable T → DeclaredBy T (now (block .entry)) (now (classes .exit)) (now (types .exit)) (r .rule) (r .place) (r .variables) (r .globals)) ⌝ }
+pub fn scan_declarations(
+    block: &[u8],
+    classes: &mut [u8; 256],
+    types: &mut [u8; 256],
+    vars: &mut [u8; 256],
+) -> Declared
+    requires { ⌜ (length (now classes) ≡ 256) × (length (now types) ≡ 256) × (now vars ≡ replicate 256 8) ⌝ }
+    ensures { λ r. ⌜ ((T : Table) → LawfulTable T → DeclaredBy T (now (block .entry)) (now (classes .exit)) (now (types .exit)) (now (vars .exit)) (r .rule) (r .place) (r .variables) (r .globals)) ⌝ }
 {
     let mut n: usize = 0;
     let mut globals: usize = 0;
@@ -65,6 +77,7 @@ pub fn scan_declarations(block: &[u8], classes: &mut [u8; 256], types: &mut [u8;
         }
         classes[n] = class;
         types[n] = ty;
+        vars[n] = code(class, ty);
         if class == 0 {
             globals += 1;
         }

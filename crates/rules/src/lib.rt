@@ -7,26 +7,32 @@ ghost use lib.ListN.{length, getD, take, drop};
 ghost use Rattle.memory.specs.Bytes.{lowFirst};
 ghost use Rattle.ops.specs.Rows.{outsIn, insIn, restIn, testIn, rowIn, condOk, labelOk, asksFor, testOk};
 ghost use Rattle.ops.specs.Ops.{bytesAt};
-ghost use Rattle.block.specs.Rules.{allBelow, labelFree, allSet};
-ghost use Rattle.block.specs.Scan.{typesMatch, mayReadAll, readable, marked, numbered};
+ghost use Rattle.block.specs.Rules.{labelFree, allSet};
+ghost use Rattle.block.specs.Scan.{codesIn, declaredAll, fitsAs, operandsFit, marked, numbered};
 use kinds::body_length;
 use kinds::is_jumping;
 use kinds::is_setting;
 use kinds::test;
-use marks::get;
-use marks::index;
 use memory::flags_ok;
 use memory::low_first;
 use ops::LABELS;
 
-// Rule 4: each of count variables named from p on is below n.
-pub fn all_below(block: &[u8], p: usize, count: usize, n: usize) -> bool
+// A variable's byte.
+pub fn code(vars: &[u8; 256], v: u8) -> u8
+    ensures { λ r. ⌜ r ≡ codesIn (now (vars .entry)) v ⌝ }
+{
+    let bytes: &[u8] = vars;
+    bytes[v as usize]
+}
+
+// Rule 4: each of count variables named from p on is declared.
+pub fn all_declared(block: &[u8], p: usize, count: usize, vars: &[u8; 256]) -> bool
     requires { ⌜ p + count ≤ length (now block) ⌝ }
-    ensures { λ r. ⌜ r ≡ allBelow n (bytesAt (now (block .entry)) p count) ⌝ }
+    ensures { λ r. ⌜ r ≡ declaredAll (now (vars .entry)) (bytesAt (now (block .entry)) p count) ⌝ }
 {
     let mut i = 0;
     while i < count {
-        if n <= index(block[p + i]) {
+        if 8 <= code(vars, block[p + i]) {
             return false;
         }
         i += 1;
@@ -34,21 +40,24 @@ pub fn all_below(block: &[u8], p: usize, count: usize, n: usize) -> bool
     true
 }
 
-fn same_type(ty: u8, codes: u32) -> bool
-    ensures { λ r. ⌜ r ≡ eqb ty (codes % 4) ⌝ }
+// Whether a variable with this byte may be read at the lowest type of codes, or, as an output, only has it.
+fn fits(code: u8, codes: u32, output: bool) -> bool
+    ensures { λ r. ⌜ r ≡ fitsAs output code (codes % 4) ⌝ }
 {
-    ty as u32 == codes % 4
+    let x = code as u32;
+    let ty = codes % 4;
+    (x == ty + 4) | (output & (x == ty))
 }
 
 // Rule 5: each of count variables named from p on has its type, two bits of codes.
-pub fn types_match(block: &[u8], p: usize, count: usize, codes: u32, types: &[u8; 256]) -> bool
+pub fn all_typed(block: &[u8], p: usize, count: usize, codes: u32, vars: &[u8; 256]) -> bool
     requires { ⌜ p + count ≤ length (now block) ⌝ }
-    ensures { λ r. ⌜ r ≡ typesMatch (now (types .entry)) codes (bytesAt (now (block .entry)) p count) ⌝ }
+    ensures { λ r. ⌜ r ≡ operandsFit (now (vars .entry)) count codes (bytesAt (now (block .entry)) p count) ⌝ }
 {
     let mut i = 0;
     let mut rest = codes;
     while i < count {
-        if !same_type(get(types, block[p + i]), rest) {
+        if !fits(code(vars, block[p + i]), rest, true) {
             return false;
         }
         i += 1;
@@ -57,32 +66,28 @@ pub fn types_match(block: &[u8], p: usize, count: usize, codes: u32, types: &[u8
     true
 }
 
-// Rule 8: each of count variables named from p on outlives the basic block, or is written in it.
-pub fn may_read(
+// Rules 4, 5 and 8 together: each of count variables named from p on fits its type, two bits of codes; the first outs are outputs.
+pub fn operands_fit(
     block: &[u8],
     p: usize,
+    outs: usize,
     count: usize,
-    classes: &[u8; 256],
-    written: &[u8; 256],
+    codes: u32,
+    vars: &[u8; 256],
 ) -> bool
     requires { ⌜ p + count ≤ length (now block) ⌝ }
-    ensures { λ r. ⌜ r ≡ mayReadAll (now (classes .entry)) (now (written .entry)) (bytesAt (now (block .entry)) p count) ⌝ }
+    ensures { λ r. ⌜ r ≡ operandsFit (now (vars .entry)) outs codes (bytesAt (now (block .entry)) p count) ⌝ }
 {
     let mut i = 0;
+    let mut rest = codes;
     while i < count {
-        let v = block[p + i];
-        if !readable(get(classes, v), get(written, v)) {
+        if !fits(code(vars, block[p + i]), rest, i < outs) {
             return false;
         }
         i += 1;
+        rest = rest / 4;
     }
     true
-}
-
-fn readable(class: u8, written: u8) -> bool
-    ensures { λ r. ⌜ r ≡ readable class written ⌝ }
-{
-    class < 2 || written == 1
 }
 
 // A constant is below 2^32.

@@ -1,31 +1,39 @@
-// What an op leaves: the variables written in the basic block, the labels set and jumped to. e is the entry of its kind; its label is its last byte.
+// What an op leaves: the variables that may be read in the basic block, the labels set and jumped to. e is the entry of its kind; its label is its last byte.
 ghost use mathlib.Core.Path.{_≡_};
-ghost use Prim.Native.Nat.{_+_, _<_};
+ghost use mathlib.Core.List.{[], _∷_};
+ghost use Prim.Native.Nat.{_+_, _≤_, _<_};
 ghost use lib.ListN.{length, getD};
 ghost use Rattle.ops.specs.Rows.{outsIn, insIn, restIn, roleIn, rowIn, roleNo, isJumping};
 ghost use Rattle.ops.specs.Ops.{bytesAt};
-ghost use Rattle.block.specs.Rules.{wroteBy, markedBy};
-ghost use Rattle.block.specs.Scan.{marked, LabelledAs};
+ghost use Rattle.block.specs.Rules.{markedBy};
+ghost use Rattle.block.specs.Scan.{codesIn, openAll, marked, LabelledAs};
 use kinds::body_length;
-use kinds::is_closing;
 use kinds::is_jumping;
 use kinds::is_setting;
-use kinds::outs;
-use marks::clear;
-use marks::mark_all;
 use marks::put;
 use marks::put_number;
+use rules::code;
 
-// The variables written in the basic block once the op that starts at a place has run.
-pub fn mark_written(e: u32, block: &[u8], at: usize, written: &mut [u8; 256])
-    requires { ⌜ at + (outsIn e + insIn e + restIn e) < length (now block) ⌝ }
-    ensures { λ _. ⌜ marked (now (written .exit)) ≡ wroteBy (rowIn e) (marked (now (written .entry))) (bytesAt (now (block .entry)) (at + 1) (outsIn e)) ⌝ }
+// A variable is written: it may be read from now on.
+fn open(vars: &mut [u8; 256], v: u8)
+    ensures { λ _. ⌜ codesIn (now (vars .exit)) ≡ openAll (codesIn (now (vars .entry))) (v ∷ []) ⌝ }
 {
-    if is_closing(e) {
-        clear(written);
-        return;
+    let x = code(vars, v);
+    if x < 4 {
+        put(vars, v, x + 4);
     }
-    mark_all(block, at + 1, outs(e), written);
+}
+
+// And each of count variables named from a place on.
+pub fn open_all(block: &[u8], from: usize, count: usize, vars: &mut [u8; 256])
+    requires { ⌜ from + count ≤ length (now block) ⌝ }
+    ensures { λ _. ⌜ codesIn (now (vars .exit)) ≡ openAll (codesIn (now (vars .entry))) (bytesAt (now (block .entry)) from count) ⌝ }
+{
+    let mut j: usize = 0;
+    while j < count {
+        open(vars, block[from + j]);
+        j += 1;
+    }
 }
 
 // The labels set once the op has been read: a label's number is one more than its op's.

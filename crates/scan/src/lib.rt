@@ -1,55 +1,80 @@
 // Reads a block: the rules in order, and where each op and label is.
 ghost use mathlib.Core.Path.{_≡_};
-ghost use mathlib.Core.List.{[]};
-ghost use Prim.Native.Nat.{_<_};
+ghost use mathlib.Core.Bool.{false};
+ghost use Prim.Native.Nat.{_+_, _≤_, _<_};
 ghost use lib.ListN.{length, getD};
-ghost use Rattle.ops.specs.Kinds.{kindTable, rowOf};
-ghost use Rattle.block.specs.Checks.{firstBroken, opRules};
-ghost use Rattle.block.specs.Scan.{recordAt, recordRule, seenOf, Stands, OpAt, RecordAt, Marks, Begins, ScannedBy, Scanned};
+ghost use Rattle.ops.specs.Rows.{outsIn, insIn, restIn, testIn, asksFor};
+ghost use Rattle.ops.specs.Kinds.{rowOf, kindTable};
+ghost use Rattle.block.specs.Checks.{firstBroken};
+ghost use Rattle.block.specs.Scan.{recordAt, Stands, opTests, entryRule, opStands, opOk, Marks, Begins, ScannedBy, Scanned};
 use declarations::scan_declarations;
 use kinds::body_length;
 use kinds::entry;
-use kinds::ins;
+use kinds::is_closing;
 use kinds::is_known;
 use kinds::operand_count;
 use kinds::outs;
+use kinds::types;
 use leaves::mark_label;
 use leaves::mark_target;
-use leaves::mark_written;
+use leaves::open_all;
 use ops::LABELS;
 use ops::MAX_OPS;
-use rules::all_below;
+use rules::all_declared;
 use rules::all_set;
+use rules::all_typed;
 use rules::label_free;
-use rules::may_read;
+use rules::operands_fit;
 use rules::rest_ok;
-use rules::types_match;
 
 mod leaves;
 
-// The rule from 9 on that the op at a place breaks, or 0. e is the entry of its kind.
-fn op_rule(
+// Whether an op stands at a place, whole. e is the entry of its kind.
+fn op_stands(e: u32, block: &[u8], at: usize) -> bool
+    requires { ⌜ at < length (now block) ⌝ }
+    ensures { λ r. ⌜ r ≡ opStands e (now (block .entry)) at ⌝ }
+{
+    is_known(e) & !(block.len() - at <= body_length(e)) & !(block[at] == 1)
+}
+
+// Whether the op, the op-th, meets every rule from 9 on: the fast test.
+fn op_ok(e: u32, block: &[u8], at: usize, op: usize, vars: &[u8; 256], labels: &[u16; 256]) -> bool
+    requires { ⌜ (at + (outsIn e + insIn e + restIn e) < length (now block)) × (asksFor (testIn e) ≤ restIn e) ⌝ }
+    ensures { λ r. ⌜ r ≡ opOk e (now (block .entry)) at op (now (vars .entry)) (now (labels .entry)) ⌝ }
+{
+    if MAX_OPS <= op {
+        return false;
+    }
+    let count = operand_count(e);
+    if !operands_fit(block, at + 1, outs(e), count, types(e), vars) {
+        return false;
+    }
+    if !rest_ok(e, block, at + 1 + count) {
+        return false;
+    }
+    label_free(e, block, at, labels)
+}
+
+// The rule from 9 on that it breaks, where the fast test fails: 8 if no other.
+fn broken_rule(
     e: u32,
     block: &[u8],
     at: usize,
-    n: usize,
     ops: usize,
-    classes: &[u8; 256],
-    types: &[u8; 256],
-    written: &[u8; 256],
+    vars: &[u8; 256],
     labels: &[u16; 256],
 ) -> u8
-    requires { ⌜ OpAt rowOf (now block) (now classes) (now types) at n × (e ≡ getD kindTable (getD (now block) at 0) 0) ⌝ }
-    ensures { λ r. ⌜ r ≡ firstBroken (opRules rowOf (seenOf (now (classes .entry)) (now (types .entry)) (now (written .entry)) (now (labels .entry)) [] n ops 0) (recordAt rowOf (now (block .entry)) at)) ⌝ }
+    requires { ⌜ (at + (outsIn e + insIn e + restIn e) < length (now block)) × (asksFor (testIn e) ≤ restIn e) ⌝ }
+    ensures { λ r. ⌜ r ≡ firstBroken (opTests e (now (block .entry)) at ops (now (vars .entry)) (now (labels .entry)) false) ⌝ }
 {
     if MAX_OPS <= ops {
         return 9;
     }
     let count = operand_count(e);
-    if !all_below(block, at + 1, count, n) {
+    if !all_declared(block, at + 1, count, vars) {
         return 4;
     }
-    if !types_match(block, at + 1, count, kinds::types(e), types) {
+    if !all_typed(block, at + 1, count, types(e), vars) {
         return 5;
     }
     if !rest_ok(e, block, at + 1 + count) {
@@ -58,26 +83,20 @@ fn op_rule(
     if !label_free(e, block, at, labels) {
         return 7;
     }
-    if !may_read(block, at + 1 + outs(e), ins(e), classes, written) {
-        return 8;
-    }
-    0
+    8
 }
 
-// The rule that the record at a place breaks, after ops ops; 0 if none.
+// The rule that the record at a place breaks, after ops ops, where a test fails.
 fn record_rule(
     e: u32,
     block: &[u8],
     at: usize,
-    n: usize,
     ops: usize,
-    classes: &[u8; 256],
-    types: &[u8; 256],
-    written: &[u8; 256],
+    vars: &[u8; 256],
     labels: &[u16; 256],
 ) -> u8
-    requires { ⌜ RecordAt (now block) (now classes) (now types) at n ops × (e ≡ getD kindTable (getD (now block) at 0) 0) ⌝ }
-    ensures { λ r. ⌜ r ≡ recordRule rowOf (seenOf (now (classes .entry)) (now (types .entry)) (now (written .entry)) (now (labels .entry)) [] n ops 0) (now (block .entry)) at ⌝ }
+    requires { ⌜ (at < length (now block)) × (asksFor (testIn e) ≤ restIn e) ⌝ }
+    ensures { λ r. ⌜ r ≡ entryRule e (now (block .entry)) at ops (now (vars .entry)) (now (labels .entry)) false ⌝ }
 {
     if !is_known(e) {
         return 2;
@@ -88,23 +107,28 @@ fn record_rule(
     if block[at] == 1 {
         return 3;
     }
-    op_rule(e, block, at, n, ops, classes, types, written, labels)
+    broken_rule(e, block, at, ops, vars, labels)
 }
 
-// What the op at a place leaves in the arrays.
+// What the op at a place leaves in the arrays; base: the variables' bytes at the start of a basic block.
 fn mark_op(
     e: u32,
     block: &[u8],
     at: usize,
     op: usize,
-    written: &mut [u8; 256],
+    base: &[u8; 256],
+    vars: &mut [u8; 256],
     labels: &mut [u16; 256],
     targets: &mut [u8; 256],
 )
     requires { ⌜ Stands rowOf (now block) at (getD (now block) at 0) × (op < 1024) × (e ≡ getD kindTable (getD (now block) at 0) 0) ⌝ }
-    ensures { λ r. ⌜ Marks rowOf (recordAt rowOf (now (block .entry)) at) op (now (written .entry)) (now (written .exit)) (now (labels .entry)) (now (labels .exit)) (now (targets .entry)) (now (targets .exit)) ⌝ }
+    ensures { λ r. ⌜ Marks rowOf (recordAt rowOf (now (block .entry)) at) op (now (base .entry)) (now (vars .entry)) (now (vars .exit)) (now (labels .entry)) (now (labels .exit)) (now (targets .entry)) (now (targets .exit)) ⌝ }
 {
-    mark_written(e, block, at, written);
+    if !is_closing(e) {
+        open_all(block, at + 1, outs(e), vars);
+        return;
+    }
+    *vars = *base;
     mark_label(e, block, at, op, labels);
     mark_target(e, block, at, targets);
 }
@@ -116,21 +140,38 @@ pub struct Ops {
     pub ops: usize,
 }
 
-// Reads the ops from a place on; places and labels then hold where each op and label is.
+// The answer at a record that fails a test.
+fn stopped(
+    e: u32,
+    block: &[u8],
+    at: usize,
+    ops: usize,
+    vars: &[u8; 256],
+    labels: &[u16; 256],
+) -> Ops
+    requires { ⌜ (at < length (now block)) × (asksFor (testIn e) ≤ restIn e) ⌝ }
+    ensures { λ r. ⌜ ((r .rule) ≡ entryRule e (now (block .entry)) at ops (now (vars .entry)) (now (labels .entry)) false) × ((r .place) ≡ at) × ((r .ops) ≡ ops) ⌝ }
+{
+    Ops {
+        rule: record_rule(e, block, at, ops, vars, labels),
+        place: at,
+        ops,
+    }
+}
+
+// Reads the ops from a place on; places and labels then hold where each op and label is. base: the variables' bytes at the start of a basic block.
 pub fn scan_ops(
     kinds: &[u32; 256],
     block: &[u8],
     start: usize,
-    n: usize,
-    classes: &[u8; 256],
-    types: &[u8; 256],
+    base: &[u8; 256],
     places: &mut [u16; 256],
     labels: &mut [u16; 256],
 ) -> Ops
-    requires { ⌜ Begins rowOf (now block) (now classes) (now types) start n × (now kinds ≡ kindTable) ⌝ }
+    requires { ⌜ Begins rowOf (now block) (now base) start × (now kinds ≡ kindTable) ⌝ }
     ensures { λ r. ⌜ ScannedBy rowOf (now (block .entry)) start (now (places .entry)) (now (places .exit)) (now (labels .exit)) (r .rule) (r .place) (r .ops) ⌝ }
 {
-    let mut written = [0u8; 256];
+    let mut vars = *base;
     let mut targets = [0u8; 256];
     *labels = [0u16; 256];
     let mut at = start;
@@ -139,15 +180,13 @@ pub fn scan_ops(
     while at < block.len() {
         let kind = block[at];
         let e = entry(kinds, kind);
-        let rule = record_rule(e, block, at, n, ops, classes, types, &written, labels);
-        if rule != 0 {
-            return Ops {
-                rule,
-                place: at,
-                ops,
-            };
+        if !op_stands(e, block, at) {
+            return stopped(e, block, at, ops, &vars, labels);
         }
-        mark_op(e, block, at, ops, &mut written, labels, &mut targets);
+        if !op_ok(e, block, at, ops, &vars, labels) {
+            return stopped(e, block, at, ops, &vars, labels);
+        }
+        mark_op(e, block, at, ops, base, &mut vars, labels, &mut targets);
         places[ops] = (at % 65536) as u16;
         ops += 1;
         last = kind;
@@ -197,7 +236,8 @@ pub fn scan(
     requires { ⌜ (length (now classes) ≡ 256) × (length (now types) ≡ 256) × (now kinds ≡ kindTable) ⌝ }
     ensures { λ r. ⌜ Scanned rowOf (now (block .entry)) (now (places .entry)) (now (classes .exit)) (now (types .exit)) (now (places .exit)) (now (labels .exit)) (r .rule) (r .place) (r .start) (r .variables) (r .globals) (r .ops) ⌝ }
 {
-    let d = scan_declarations(block, classes, types);
+    let mut vars = [8u8; 256];
+    let d = scan_declarations(block, classes, types, &mut vars);
     let start = d.place;
     let n = d.variables;
     let rule = d.rule;
@@ -211,7 +251,7 @@ pub fn scan(
             ops: 0,
         };
     }
-    let o = scan_ops(kinds, block, start, n, classes, types, places, labels);
+    let o = scan_ops(kinds, block, start, &vars, places, labels);
     Found {
         rule: o.rule,
         place: o.place,

@@ -15,13 +15,13 @@ use Rattle.ops.specs.Kinds.{rowOf}
 use Rattle.ops.proofs.Document01.{table-lawful}
 
 abbrev Inv-loop : tie.InvT-loop
-Inv-loop block classes₀ types₀ n₀ globals₀ at₀ classes types n globals at = (at ≤ length block) × (n ≤ 64) × ((T : Table) → LawfulTable T → Declaring T block classes types at n globals)
+Inv-loop block classes₀ types₀ vars₀ n₀ globals₀ at₀ classes types vars n globals at = (at ≤ length block) × (n ≤ 64) × ((T : Table) → LawfulTable T → Declaring T block classes types vars at n globals)
 
 abbrev μ-loop : tie.MeasureT-loop
-μ-loop block classes₀ types₀ n₀ globals₀ at₀ classes types n globals at = length block - at
+μ-loop block classes₀ types₀ vars₀ n₀ globals₀ at₀ classes types vars n globals at = length block - at
 
 loop-holds : tie.Need-loop-holds Inv-loop μ-loop
-loop-holds c = (omega arith, omega arith, λ T law. declaring-start T _ _ _ (c .before .pre .0) (c .before .pre .1))
+loop-holds c = (omega arith, omega arith, λ T law. declaring-start T _ _ _ _ (c .before .pre .0) (c .before .pre .1) (c .before .pre .2))
 
 -- the test that leaves a whole declaration, and what is then known
 abbrev turn : tie.Else2 Inv-loop μ-loop → tie.In-loop Inv-loop μ-loop
@@ -63,9 +63,15 @@ element-write-classes c = search needs
 element-write-types : tie.Need-element-write-types Inv-loop μ-loop
 element-write-types c = search needs
 
+code-requires : tie.Need-code-requires Inv-loop μ-loop
+code-requires c κs = search needs
+
+element-write-vars : tie.Need-element-write-vars Inv-loop μ-loop
+element-write-vars c = search needs
+
 add-globals : tie.Need-add-globals Inv-loop μ-loop
 add-globals c =
-    let d = turn (c .before .before .before .before .before) .before .loop .inv .2 rowOf table-lawful in
+    let d = turn (c .before .before .before .before .before .before) .before .loop .inv .2 rowOf table-lawful in
     omega (arith, declaring-few d, d .few)
 
 add-n : tie.Need-add-n Inv-loop μ-loop
@@ -79,11 +85,12 @@ loop-less c = search needs
 
 loop-again : tie.Need-loop-again Inv-loop μ-loop
 loop-again c =
-    let ok = c .before .before .declaration-ok .ensures in
-    let t = not-false (c .before .before .declaration-ok .result) (c .before .if3 .left) in
+    let k = c .before in
+    let ok = k .before .before .declaration-ok .ensures in
+    let t = not-false (k .before .before .declaration-ok .result) (k .before .if3 .left) in
     let more : (T : Table) → LawfulTable T → _ =
-    λ T law. let h = here (c .before .before .before .before .before) T law in
-    ⊎-elim (λ w. again-global law h ok t (w .0 .taken) (w .1)) (λ w. again-other law h ok t (w .0 .left) (w .1)) (c .if4 .came) in
+    λ T law. let h = here (k .before .before .before .before .before) T law in
+    ⊎-elim (λ w. again-global law h ok t (k .code .ensures) (w .0 .taken) (w .1)) (λ w. again-other law h ok t (k .code .ensures) (w .0 .left) (w .1)) (c .if4 .came) in
     (omega arith, more rowOf table-lawful .few, more)
 
 returns-3 : tie.Need-returns-3 Inv-loop μ-loop
@@ -110,6 +117,8 @@ scan-declarations-spec =
     returns-2
     element-write-classes
     element-write-types
+    code-requires
+    element-write-vars
     add-globals
     add-n
     add-at

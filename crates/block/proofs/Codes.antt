@@ -1,0 +1,270 @@
+-- The variables' bytes: which operands fit, and what writing changes. Assumes nothing.
+use mathlib.Core.Path.{_≡_, refl, sym, ap, ap₂, _∙_, fun-ext}
+use mathlib.Core.Logic.{_⊎_, inl, inr}
+use mathlib.Core.Bool.{Bool, true, false, cond, _&&_, _||_}
+use mathlib.Core.List.{List, [], _∷_, _++_}
+use Prim.Native.Nat.{ℕ, zero, suc, _+_, _-_, _/_, _%_, _≤_, _<_}
+use native.Mathlib.Omega.{arith}
+use native.Mathlib.Nat.{sub-zero, add-zero, mod-eq-of-lt}
+use lib.Dec.{eqb, ltb, eqb·suc-suc}
+use lib.ListN.{length, getD, drop, set, length-append}
+use lib.Seq.{getD-set-same, getD-set-other}
+use borrow.Author.Tests.{eqb-true, eqb-false, ltb-true, ltb-false, lt-ltb, le-ltb, eq-eqb, ne-eqb}
+use Rattle.theory.specs.Sets.{Vars, empty, has, plus, allIn}
+use Rattle.theory.proofs.Sets.{tell, and-l, and-r}
+use Rattle.ops.specs.Rows.{Row, isClosing, typesOf}
+use Rattle.ops.specs.Ops.{bytesAt}
+use Rattle.block.specs.Rules.{keptIn, allBelow, haveTypes, wroteBy}
+use Rattle.block.specs.Scan.{SetAt, codesIn, codeOf, Coded, readableIn, fitsAs, operandsFit, opened, openAll, codesBy, codeFor}
+
+and-none : (a : Bool) → (a && false) ≡ false
+and-none true = refl
+and-none false = refl
+
+or-none : (a : Bool) → (a || false) ≡ a
+or-none true = refl
+or-none false = refl
+
+or-all : (a : Bool) → (a || true) ≡ true
+or-all true = refl
+or-all false = refl
+
+and-all : (a : Bool) → (a && true) ≡ a
+and-all true = refl
+and-all false = refl
+
+-- a byte fits a type exactly when the variable is declared, has the type and, if it is read, may be read
+fits-code : (output below kept : Bool) (x t : ℕ) → x < 4 → t < 4 → fitsAs output (cond below (cond kept (x + 4) x) 8) t ≡ (below && eqb x t && (output || kept))
+fits-code output false kept x t h l = rw (ne-eqb 8 (t + 4) (λ e. omega arith), ne-eqb 8 t (λ e. omega arith)) (and-none output)
+fits-code output true true x t h l = rw (ne-eqb (x + 4) t (λ e. omega arith), or-all output, and-none output) (or-none (eqb (x + 4) (t + 4)) ∙ same ∙ sym (and-all (eqb x t)))
+  where
+    same : eqb (x + 4) (t + 4) ≡ eqb x t
+    same = go (tell (eqb x t))
+      where
+        go : (eqb x t ≡ true) ⊎ (eqb x t ≡ false) → eqb (x + 4) (t + 4) ≡ eqb x t
+        go (inl e) = eq-eqb (x + 4) (t + 4) (ap (λ (n : ℕ). n + 4) (eqb-true x t e)) ∙ sym e
+        go (inr e) = ne-eqb (x + 4) (t + 4) (λ q. eqb-false x t e (omega arith)) ∙ sym e
+fits-code true true false x t h l = rw (ne-eqb x (t + 4) (λ e. omega arith)) (sym (and-all (eqb x t)))
+fits-code false true false x t h l = rw (ne-eqb x (t + 4) (λ e. omega arith)) (sym (and-none (eqb x t)))
+
+-- so all operands fit exactly when rules 4, 5 and 8 are met
+shuffle : (a b c d e f : Bool) → ((a && b && c) && (d && e && f)) ≡ ((a && d) && (b && e) && (c && f))
+shuffle false b c d e f = refl
+shuffle true false c false e f = refl
+shuffle true false c true e f = refl
+shuffle true true false false e f = refl
+shuffle true true false true false f = refl
+shuffle true true false true true f = refl
+shuffle true true true false e f = refl
+shuffle true true true true e f = refl
+
+module _ {vars classes types : List ℕ} {written : Vars} (c : Coded vars classes types written) where
+  fits-at : (output : Bool) (v t : ℕ) → t < 4 → fitsAs output (codesIn vars v) t ≡ (ltb v (length classes) && eqb (getD types v 0) t && (output || (keptIn classes v || written v)))
+  fits-at output v t l =
+      ap (λ (codes : ℕ → ℕ). fitsAs output (codes v) t) (c .codes-are)
+      ∙ fits-code output (ltb v (length classes)) (keptIn classes v || written v) (getD types v 0) t (c .types-small v) l
+
+  pub fit-all : (outs codes m : ℕ) (vs : List ℕ) → length vs ≡ m
+      → operandsFit vars outs codes vs ≡ (allBelow (length classes) vs && haveTypes types vs (typesOf m codes) && allIn (keptIn classes) (drop outs vs) written)
+  unfolding operandsFit typesOf
+  fit-all zero codes m [] e = refl
+  fit-all (suc outs) codes m [] e = refl
+  fit-all outs codes zero (v ∷ vs) e = absurd (omega arith)
+  fit-all zero codes (suc m) (v ∷ vs) e =
+      ap₂ (λ (x y : Bool). x && y) (fits-at false v (codes % 4) (omega arith)) (fit-all zero (codes / 4) m vs (omega arith))
+      ∙ shuffle (ltb v (length classes)) (eqb (getD types v 0) (codes % 4)) (keptIn classes v || written v) (allBelow (length classes) vs) (haveTypes types vs (typesOf m (codes / 4))) (allIn (keptIn classes) vs written)
+  fit-all (suc outs) codes (suc m) (v ∷ vs) e =
+      let q : suc outs - 1 ≡ outs = omega arith in
+      rw (q, lt-ltb 0 (suc outs) (omega arith))
+      (ap₂ (λ (x y : Bool). x && y) (fits-at true v (codes % 4) (omega arith)) (fit-all outs (codes / 4) m vs (omega arith))
+      ∙ shuffle (ltb v (length classes)) (eqb (getD types v 0) (codes % 4)) true (allBelow (length classes) vs) (haveTypes types vs (typesOf m (codes / 4))) (allIn (keptIn classes) (drop outs vs) written))
+
+  -- what may be read, as the bytes tell it
+  readable-at : (v : ℕ) → (keptIn classes v || readableIn vars v) ≡ (keptIn classes v || written v)
+  readable-at v = ap (λ (codes : ℕ → ℕ). keptIn classes v || eqb (codes v / 4) 1) (c .codes-are) ∙ go (keptIn classes v) (written v) refl (tell (ltb v (length classes)))
+    where
+      x : ℕ
+      x = getD types v 0
+
+      go : (k w : Bool) → written v ≡ w → (ltb v (length classes) ≡ true) ⊎ (ltb v (length classes) ≡ false) → (k || eqb (cond (ltb v (length classes)) (cond (k || w) (x + 4) x) 8 / 4) 1) ≡ (k || w)
+      go true w q t = refl
+      go false true q (inl t) = rw t (eq-eqb ((x + 4) / 4) 1 (omega (arith, c .types-small v)))
+      go false false q (inl t) = rw t (ne-eqb (x / 4) 1 (λ z. omega (arith, c .types-small v)))
+      go false w q (inr t) = rw t (sym (c .inside v (ltb-false v (length classes) t)) ∙ q)
+
+  pub reads-alike : (vs : List ℕ) → allIn (keptIn classes) vs (readableIn vars) ≡ allIn (keptIn classes) vs written
+  reads-alike [] = refl
+  reads-alike (v ∷ vs) = ap₂ (λ (x y : Bool). x && y) (readable-at v) (reads-alike vs)
+
+  pub coded-readable : Coded vars classes types (readableIn vars)
+  coded-readable =
+      record {
+        codes-are = c .codes-are ∙ fun-ext (λ v. ap (λ (k : Bool). cond (ltb v (length classes)) (cond k (getD types v 0 + 4) (getD types v 0)) 8) (sym (readable-at v)));
+        types-small = c .types-small;
+        inside = λ v h. ap (λ (codes : ℕ → ℕ). eqb (codes v / 4) 1) (c .codes-are) ∙ rw (le-ltb v (length classes) h);
+      }
+
+-- an entry of an array that one store changes
+getD-set : (xs : List ℕ) (i x v d : ℕ) → i < length xs → getD (set xs i x) v d ≡ cond (eqb v i) x (getD xs v d)
+getD-set xs i x v d h = go (tell (eqb v i))
+  where
+    go : (eqb v i ≡ true) ⊎ (eqb v i ≡ false) → getD (set xs i x) v d ≡ cond (eqb v i) x (getD xs v d)
+    go (inl e) = rw e (ap (λ (n : ℕ). getD (set xs i x) n d) (eqb-true v i e) ∙ getD-set-same xs i x d h)
+    go (inr e) = rw e (getD-set-other xs i v x d (eqb-false v i e))
+
+-- writing: bytes opened one after the other
+opened-again : (x : ℕ) → opened (opened x) ≡ opened x
+opened-again x = go (tell (ltb x 4))
+  where
+    go : (ltb x 4 ≡ true) ⊎ (ltb x 4 ≡ false) → opened (opened x) ≡ opened x
+    go (inl t) = let q : opened x ≡ x + 4 = rw t in ap opened q ∙ (rw (le-ltb (x + 4) 4 (omega arith))) ∙ sym q
+    go (inr t) = let q : opened x ≡ x = rw t in ap opened q
+
+open-each : (codes : ℕ → ℕ) (x : ℕ) (xs : List ℕ) → openAll (openAll codes (x ∷ [])) xs ≡ openAll codes (x ∷ xs)
+open-each codes x xs = fun-ext (λ v. go (eqb x v) (has xs v) (codes v))
+  where
+    go : (e h : Bool) (y : ℕ) → cond h (opened (cond (e || false) (opened y) y)) (cond (e || false) (opened y) y) ≡ cond (e || h) (opened y) y
+    go true true y = opened-again y
+    go true false y = refl
+    go false true y = refl
+    go false false y = refl
+
+module _ (vars : List ℕ) (v : ℕ) {x : ℕ} (e : x ≡ codesIn vars v) where
+  pub opened-here : {vars′ : List ℕ} → x < 4 → SetAt vars v (x + 4) vars′ → codesIn vars′ ≡ openAll (codesIn vars) (v ∷ [])
+  opened-here {vars′} l s = fun-ext (λ u. ap (λ (xs : List ℕ). getD xs u 8) (s .becomes) ∙ getD-set vars v (x + 4) u 8 (s .inside) ∙ go u (tell (eqb u v)))
+    where
+      go : (u : ℕ) → (eqb u v ≡ true) ⊎ (eqb u v ≡ false) → cond (eqb u v) (x + 4) (codesIn vars u) ≡ openAll (codesIn vars) (v ∷ []) u
+      go u (inl t) =
+          let q = eqb-true u v t in
+          let c : codesIn vars u ≡ x = ap (codesIn vars) q ∙ sym e in
+          rw (t, eq-eqb v u (sym q), c, lt-ltb x 4 l)
+      go u (inr t) = rw (t, ne-eqb v u (λ q. eqb-false u v t (sym q)))
+
+  pub opened-not : 4 ≤ x → codesIn vars ≡ openAll (codesIn vars) (v ∷ [])
+  opened-not l = fun-ext (λ u. go u (tell (eqb v u)))
+    where
+      go : (u : ℕ) → (eqb v u ≡ true) ⊎ (eqb v u ≡ false) → codesIn vars u ≡ openAll (codesIn vars) (v ∷ []) u
+      go u (inl t) =
+          let c : codesIn vars u ≡ x = ap (codesIn vars) (sym (eqb-true v u t)) ∙ sym e in
+          rw (t, c, le-ltb x 4 l)
+      go u (inr t) = rw t
+
+-- the bytes after an op, by the column of its role
+module _ (row : Row) (base codes : ℕ → ℕ) (outs : List ℕ) {c : Bool} (e : c ≡ isClosing (row .role)) {x : ℕ → ℕ} where
+  pub codes-closed : c ≡ true → x ≡ base → x ≡ codesBy row base codes outs
+  codes-closed t q = q ∙ ap (λ (b : Bool). cond b base (openAll codes outs)) (sym (sym e ∙ t))
+
+  pub codes-open : c ≡ false → x ≡ openAll codes outs → x ≡ codesBy row base codes outs
+  codes-open t q = q ∙ ap (λ (b : Bool). cond b base (openAll codes outs)) (sym (sym e ∙ t))
+
+-- a byte of an array of 256
+pub code-at : (vars : List ℕ) (v : ℕ) {x : ℕ} → v < length vars → x ≡ getD vars v 0 → x ≡ codesIn vars v
+code-at vars v h e = e ∙ go vars v h
+  where
+    go : (xs : List ℕ) (v : ℕ) → v < length xs → getD xs v 0 ≡ getD xs v 8
+    go [] v h = absurd (omega arith)
+    go (x ∷ xs) zero h = refl
+    go (x ∷ xs) (suc v) h = go xs v (omega arith)
+
+-- the first j of count bytes have been opened
+pub record Opening (b vars₀ vars : List ℕ) (start count j : ℕ) : Type 0 where
+  pub so-far : openAll (codesIn vars) (bytesAt b (start + j) (count - j)) ≡ openAll (codesIn vars₀) (bytesAt b start count)
+
+pub opening-start : (b vars : List ℕ) (start count : ℕ) → Opening b vars vars start count 0
+opening-start b vars start count = record { so-far = ap₂ (λ (n m : ℕ). openAll (codesIn vars) (bytesAt b n m)) (add-zero start) (sub-zero count) }
+
+module _ {b vars₀ vars : List ℕ} {start count j : ℕ} (r : Opening b vars₀ vars start count j) where
+  pub opening-next : {vars′ : List ℕ} {v : ℕ} → j < count → v ≡ getD b (start + j) 0 → codesIn vars′ ≡ openAll (codesIn vars) (v ∷ []) → Opening b vars₀ vars′ start count (j + 1)
+  opening-next {vars′} {v} h z w =
+      let e : count - j ≡ suc (count - (j + 1)) = omega arith in
+      let q : start + (j + 1) ≡ suc (start + j) = omega arith in
+      record {
+        so-far =
+            ap₂ (λ (codes : ℕ → ℕ) (n : ℕ). openAll codes (bytesAt b n (count - (j + 1)))) (w ∙ ap (λ (n : ℕ). openAll (codesIn vars) (n ∷ [])) z) q
+            ∙ open-each (codesIn vars) (getD b (start + j) 0) (bytesAt b (suc (start + j)) (count - (j + 1)))
+            ∙ ap (λ (n : ℕ). openAll (codesIn vars) (bytesAt b (start + j) n)) (sym e) ∙ r .so-far;
+      }
+
+  pub opening-end : count ≤ j → codesIn vars ≡ openAll (codesIn vars₀) (bytesAt b start count)
+  opening-end h = let e : count - j ≡ 0 = omega arith in sym (ap (λ (n : ℕ). openAll (codesIn vars) (bytesAt b (start + j) n)) e) ∙ r .so-far
+
+-- one more declaration
+getD-append : (xs : List ℕ) (x v d : ℕ) → getD (xs ++ (x ∷ [])) v d ≡ cond (eqb v (length xs)) x (getD xs v d)
+getD-append [] x zero d = refl
+getD-append [] x (suc v) d = rw (ne-eqb (suc v) 0 (λ e. omega arith))
+getD-append (y ∷ xs) x zero d = rw (ne-eqb 0 (suc (length xs)) (λ e. omega arith))
+getD-append (y ∷ xs) x (suc v) d = getD-append xs x v d ∙ ap (λ (t : Bool). cond t x (getD xs v d)) (sym (eqb·suc-suc v (length xs)))
+
+module _ {vars classes types : List ℕ} {n : ℕ} (c : Coded vars classes types empty) (lc : length classes ≡ n) (lt : length types ≡ n) (h : n < length vars) (class type : ℕ)
+    (small : type < 4) where
+  abbrev classes′ : List ℕ
+  classes′ = classes ++ (class ∷ [])
+
+  abbrev types′ : List ℕ
+  types′ = types ++ (type ∷ [])
+
+  long : length classes′ ≡ suc n
+  long = length-append classes (class ∷ []) ∙ omega (arith, lc)
+
+  more-code : (v : ℕ) → (eqb v n ≡ true) ⊎ (eqb v n ≡ false) → cond (eqb v n) (codeFor class type) (codeOf classes types empty v) ≡ codeOf classes′ types′ empty v
+  more-code v (inl e) =
+      let q = eqb-true v n e in
+      let m : type % 4 ≡ type = mod-eq-of-lt small in
+      rw (getD-append classes class v 2, getD-append types type v 0, lc, lt, e, long, lt-ltb v (suc n) (omega arith), m) (tail (ltb class 2))
+    where
+      tail : (k : Bool) → cond k (type + 4) type ≡ cond (k || false) (type + 4) type
+      tail true = refl
+      tail false = refl
+  more-code v (inr e) =
+      rw (getD-append classes class v 2, getD-append types type v 0, lc, lt, e, long) (ap (λ (t : Bool). cond t (cond (keptIn classes v || false) (getD types v 0 + 4) (getD types v 0)) 8) same)
+    where
+      same : ltb v n ≡ ltb v (suc n)
+      same = go (tell (ltb v n))
+        where
+          go : (ltb v n ≡ true) ⊎ (ltb v n ≡ false) → ltb v n ≡ ltb v (suc n)
+          go (inl t) = t ∙ sym (lt-ltb v (suc n) (omega (arith, ltb-true v n t)))
+          go (inr t) = t ∙ sym (le-ltb v (suc n) (omega (arith, ltb-false v n t, eqb-false v n e)))
+
+  small′ : (v : ℕ) → getD types′ v 0 < 4
+  small′ v = ap-lt (eqb v (length types)) refl
+    where
+      ap-lt : (t : Bool) → eqb v (length types) ≡ t → getD types′ v 0 < 4
+      ap-lt true e = let q : getD types′ v 0 ≡ type = getD-append types type v 0 ∙ rw e in omega (arith, q, small)
+      ap-lt false e = let q : getD types′ v 0 ≡ getD types v 0 = getD-append types type v 0 ∙ rw e in omega (arith, q, c .types-small v)
+
+  pub coded-more : Coded (set vars n (codeFor class type)) classes′ types′ empty
+  coded-more =
+      record {
+        codes-are = fun-ext (λ v. getD-set vars n (codeFor class type) v 8 h ∙ ap (λ (codes : ℕ → ℕ). cond (eqb v n) (codeFor class type) (codes v)) (c .codes-are) ∙ more-code v (tell (eqb v n)));
+        types-small = small′;
+        inside = λ v l. refl;
+      }
+
+-- what is written may be read afterwards
+module _ {base vars classes types : List ℕ} {written : Vars} (z : Coded base classes types empty) (c : Coded vars classes types written) where
+  below-has : (outs : List ℕ) → allBelow (length classes) outs ≡ true → (v : ℕ) → length classes ≤ v → has outs v ≡ false
+  below-has [] h v l = refl
+  below-has (x ∷ xs) h v l =
+      let b : x < length classes = ltb-true x (length classes) (and-l (ltb x (length classes)) (allBelow (length classes) xs) h) in
+      rw (ne-eqb x v (λ q. omega arith)) (below-has xs (and-r (ltb x (length classes)) (allBelow (length classes) xs) h) v l)
+
+  open-code : (h below k w : Bool) (x : ℕ) → x < 4 → cond h (opened (cond below (cond (k || w) (x + 4) x) 8)) (cond below (cond (k || w) (x + 4) x) 8) ≡ cond below (cond (k || (h || w)) (x + 4) x) 8
+  open-code false below k w x l = refl
+  open-code true false k w x l = refl
+  open-code true true true w x l = rw (le-ltb (x + 4) 4 (omega arith))
+  open-code true true false true x l = rw (le-ltb (x + 4) 4 (omega arith))
+  open-code true true false false x l = rw (lt-ltb x 4 l)
+
+  pub coded-next : (row : Row) (vars′ outs : List ℕ) → codesIn vars′ ≡ codesBy row (codesIn base) (codesIn vars) outs → allBelow (length classes) outs ≡ true
+      → Coded vars′ classes types (wroteBy row written outs)
+  coded-next row vars′ outs e h = go (isClosing (row .role)) e
+    where
+      go : (closing : Bool) → codesIn vars′ ≡ cond closing (codesIn base) (openAll (codesIn vars) outs) → Coded vars′ classes types (cond closing empty (plus written outs))
+      go true e = record { codes-are = e ∙ z .codes-are; types-small = c .types-small; inside = z .inside }
+      go false e =
+          record {
+            codes-are = e ∙ ap (λ (codes : ℕ → ℕ). openAll codes outs) (c .codes-are)
+                ∙ fun-ext (λ v. open-code (has outs v) (ltb v (length classes)) (keptIn classes v) (written v) (getD types v 0) (c .types-small v));
+            types-small = c .types-small;
+            inside = λ v l. rw (below-has outs h v l) (c .inside v l);
+          }

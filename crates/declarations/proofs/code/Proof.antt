@@ -1,0 +1,17 @@
+-- The byte of a variable, by its class. Assumes nothing.
+use borrow.Author.Needs.{needs}
+use borrow.Author.Tests.{lt-ltb, le-ltb}
+use Rattle.declarations.proofs.code.Statement.{statement}
+use Rattle.declarations.proofs.code.Tie as tie
+
+add-result : tie.Need-add-result
+add-result c = search needs
+
+returns : tie.Need-returns
+returns c = rw (lt-ltb _ _ (c .if1 .taken))
+
+returns-2 : tie.Need-returns-2
+returns-2 c = rw (le-ltb _ _ (c .if1 .left))
+
+pub code-spec : {M : Type 1} → statement M
+code-spec = tie.close (tie.spec add-result returns returns-2)
