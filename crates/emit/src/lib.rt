@@ -1,18 +1,18 @@
-// The result's bytes: declarations and ops one after the other in the lent buffer.
+// Records written one after the other, in runs: those between two places are copied in one go.
 ghost use mathlib.Core.Path.{_≡_};
-ghost use mathlib.Core.List.{List, _∷_};
-ghost use Prim.Native.Nat.{ℕ, _+_, _%_, _≤_};
+ghost use mathlib.Core.Bool.{cond};
+ghost use mathlib.Core.List.{_∷_, _++_};
+ghost use Prim.Native.Nat.{_+_, _-_, _%_, _≤_};
+ghost use lib.Dec.{ltb};
 ghost use lib.ListN.{length, getD, take, drop};
 ghost use lib.Seq.{sets};
 ghost use Rattle.memory.specs.Bytes.{bytesOf};
-ghost use Rattle.ops.specs.Rows.{typesIn};
-ghost use Rattle.ops.specs.Kinds.{kindTable, rowOf};
-ghost use Rattle.ops.specs.Kinds.{moviKind};
-ghost use Rattle.block.specs.Records.{recordsOf, opsFrom};
-ghost use Rattle.block.specs.Scan.{recordAt};
-ghost use Rattle.passes.specs.Choose.{pickOp, bytesFrom, sizeBy, Chosen, Emittable, EmitsAt};
-use kinds::body_length;
-use kinds::entry;
+ghost use Rattle.ops.specs.Rows.{computing, roleOf, typesIn};
+ghost use Rattle.ops.specs.Ops.{folding};
+ghost use Rattle.ops.specs.Kinds.{kindTable, rowOf, document01, moviKind};
+ghost use Rattle.block.specs.Records.{recordsOf, concat};
+ghost use Rattle.block.specs.Scan.{recordAt, Stands};
+ghost use Rattle.passes.specs.Laid.{Laid, keptFrom};
 use kinds::types;
 use memory::put_low;
 
@@ -45,105 +45,55 @@ fn movi_kind(e: u32) -> u8
     if types(e) % 4 == 0 { 0x10 } else { 0x90 }
 }
 
-// The op that starts at a place, or the constant in its place; where the next goes.
-fn emit_op(
+// The records from a place up to an op, and the constant in the op's place; where the next goes.
+pub fn put_constant(
     e: u32,
     block: &[u8],
+    from: usize,
     at: usize,
-    folded: u8,
     value: u64,
     out: &mut [u8],
     to: usize,
 ) -> usize
-    requires { ⌜ Emittable (now block) at folded value (now out) to × (e ≡ getD kindTable (getD (now block) at 0) 0) ⌝ }
-    ensures { λ r. ⌜ (r ≡ to + length (pickOp folded value (recordAt rowOf (now (block .entry)) at))) × (now (out .exit) ≡ sets (now (out .entry)) to (pickOp folded value (recordAt rowOf (now (block .entry)) at))) ⌝ }
+    requires { ⌜ Stands rowOf (now block) at (getD (now block) at 0) × (roleOf rowOf (getD (now block) at 0) ≡ computing) × (e ≡ getD kindTable (getD (now block) at 0) 0) × (from ≤ at) × (to + (at - from) + 10 ≤ length (now out)) ⌝ }
+    ensures { λ r. ⌜ (r ≡ to + (at - from) + 10) × (now (out .exit) ≡ sets (now (out .entry)) to (take (at - from) (drop from (now (block .entry))) ++ folding document01 .const (recordAt rowOf (now (block .entry)) at) value)) ⌝ }
 {
-    if folded == 1 {
-        put_movi(out, to, movi_kind(e), block[at + 1], value);
-        return to + 10;
-    }
-    let n = 1 + body_length(e);
-    copy(block, at, n, out, to);
-    to + n
+    let n = at - from;
+    copy(block, from, n, out, to);
+    put_movi(out, to + n, movi_kind(e), block[at + 1], value);
+    to + n + 10
 }
 
-// How many bytes emit_at stores.
-fn size_at(e: u32, folded: u8, keep: u8) -> usize
-    ensures { λ r. ⌜ r ≡ sizeBy e folded keep ⌝ }
+// The place of the i-th record, or the end if there is none.
+fn place_at(places: &[u16], i: usize, count: usize, end: usize) -> usize
+    requires { ⌜ count ≤ length (now places) ⌝ }
+    ensures { λ r. ⌜ r ≡ cond (ltb i count) (getD (now (places .entry)) i 0) end ⌝ }
 {
-    if keep != 1 {
-        return 0;
+    if i < count {
+        return places[i] as usize;
     }
-    if folded == 1 {
-        return 10;
-    }
-    1 + body_length(e)
+    end
 }
 
-// How many bytes the kept ops have.
-pub fn kept_size(
-    kinds: &[u32; 256],
-    block: &[u8],
-    ops: usize,
-    places: &[u16; 256],
-    folded: &[u8; 256],
-    keep: &[u8; 256],
-) -> usize
-    requires { ⌜ Chosen (now block) (now places) (now folded) ops × (now kinds ≡ kindTable) ⌝ }
-    ensures { λ r. ⌜ ((values : List ℕ) → r ≡ length (bytesFrom 0 (now (folded .entry)) values (now (keep .entry)) (opsFrom (recordsOf rowOf (now (block .entry)))))) ⌝ }
+// The records that are kept, from start on in out.
+pub fn emit(block: &[u8], count: usize, places: &[u16], keep: &[u8], out: &mut [u8], start: usize)
+    requires { ⌜ Laid (now block) (now places) (recordsOf rowOf (now block)) count × (count ≤ length (now places)) × (count ≤ length (now keep)) × (start + length (concat (keptFrom 0 (now keep) (recordsOf rowOf (now block)))) ≤ length (now out)) ⌝ }
+    ensures { λ _. ⌜ now (out .exit) ≡ sets (now (out .entry)) start (concat (keptFrom 0 (now (keep .entry)) (recordsOf rowOf (now (block .entry))))) ⌝ }
 {
+    let end = block.len();
+    let mut from: usize = 0;
+    let mut at: usize = 0;
+    let mut to = start;
     let mut i: usize = 0;
-    let mut size: usize = 0;
-    while i < ops {
-        let e = entry(kinds, block[places[i] as usize]);
-        size += size_at(e, folded[i], keep[i]);
+    while i < count {
+        let next = place_at(places, i + 1, count, end);
+        if keep[i] != 1 {
+            copy(block, from, at - from, out, to);
+            to += at - from;
+            from = next;
+        }
+        at = next;
         i += 1;
     }
-    size
-}
-
-// The op that starts at a place, if it is kept; where the next byte goes.
-fn emit_at(
-    e: u32,
-    block: &[u8],
-    at: usize,
-    folded: u8,
-    value: u64,
-    keep: u8,
-    out: &mut [u8],
-    to: usize,
-) -> usize
-    requires { ⌜ (keep ≡ 1 → Emittable (now block) at folded value (now out) to) × (e ≡ getD kindTable (getD (now block) at 0) 0) ⌝ }
-    ensures { λ r. ⌜ EmitsAt keep (pickOp folded value (recordAt rowOf (now (block .entry)) at)) (now (out .entry)) (now (out .exit)) to r ⌝ }
-{
-    if keep != 1 {
-        return to;
-    }
-    emit_op(e, block, at, folded, value, out, to)
-}
-
-// The kept ops, one after the other; where the next byte goes.
-pub fn emit_ops(
-    kinds: &[u32; 256],
-    block: &[u8],
-    ops: usize,
-    places: &[u16; 256],
-    folded: &[u8; 256],
-    values: &[u64; 256],
-    keep: &[u8; 256],
-    out: &mut [u8],
-    to: usize,
-) -> usize
-    requires { ⌜ Chosen (now block) (now places) (now folded) ops × (to + length (bytesFrom 0 (now folded) (now values) (now keep) (opsFrom (recordsOf rowOf (now block)))) ≤ length (now out)) × (now kinds ≡ kindTable) ⌝ }
-    ensures { λ r. ⌜ (r ≡ to + length (bytesFrom 0 (now (folded .entry)) (now (values .entry)) (now (keep .entry)) (opsFrom (recordsOf rowOf (now (block .entry)))))) × (now (out .exit) ≡ sets (now (out .entry)) to (bytesFrom 0 (now (folded .entry)) (now (values .entry)) (now (keep .entry)) (opsFrom (recordsOf rowOf (now (block .entry)))))) ⌝ }
-{
-    let mut op: usize = 0;
-    let mut p = to;
-    while op < ops {
-        let at = places[op] as usize;
-        let e = entry(kinds, block[at]);
-        p = emit_at(e, block, at, folded[op], values[op], keep[op], out, p);
-        op += 1;
-    }
-    p
+    copy(block, from, at - from, out, to);
 }

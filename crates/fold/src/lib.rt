@@ -1,52 +1,49 @@
-// Fold: the values known in a basic block, and the constants that take ops' places.
+// Fold: the values known in a basic block, and the records that it leaves.
 ghost use mathlib.Core.Path.{_≡_};
 ghost use mathlib.Core.Option.{some};
-ghost use Prim.Native.Nat.{_+_, _≤_, _<_};
-ghost use lib.ListN.{length, getD};
+ghost use Prim.Native.Nat.{_+_, _*_, _≤_};
+ghost use lib.ListN.{length, getD, take};
 ghost use Rattle.theory.specs.Machine.{upd};
 ghost use Rattle.ops.specs.Kinds.{kindTable, rowOf};
 ghost use Rattle.ops.specs.Ops.{bytesAt};
-ghost use Rattle.block.specs.Records.{recordsOf, opsFrom};
-ghost use Rattle.block.specs.Scan.{Stands, marked};
-ghost use Rattle.passes.specs.Choose.{OpsHere};
-ghost use Rattle.passes.specs.Knows.{knownOf, allMarked, StatesKnown, Stays, Folds, FoldsAt, FoldsAll};
+ghost use Rattle.sets.specs.Words.{members};
+ghost use Rattle.block.specs.Scan.{Stands, recordsAt};
+ghost use Rattle.passes.specs.Knows.{knownOf, everyIn, StatesKnown, Stays, Folds, foldedOps};
+ghost use Rattle.passes.specs.Laid.{Laid};
+use emit::copy;
+use emit::put_constant;
+use kinds::body_length;
 use kinds::entry;
 use kinds::ins;
 use kinds::is_computing;
 use kinds::outs;
 use kinds::role;
-use marks::clear;
-use marks::put;
-use marks::unmark_all;
 use memory::low_first;
 use ops::CONSTANT;
 use ops::LOADS;
+use sets::add;
+use sets::empty;
+use sets::has;
+use sets::remove_all;
 use values::evaluate;
 use word::Stated;
 
 // A variable's value is known.
-fn learn(known: &mut [u8; 256], values: &mut [u64; 256], v: u8, x: u64)
-    ensures { λ _. ⌜ knownOf (now (known .exit)) (now (values .exit)) ≡ upd (knownOf (now (known .entry)) (now (values .entry))) v (some x) ⌝ }
+fn learn(known: &mut [u64; 4], values: &mut [u64; 256], v: u8, x: u64)
+    ensures { λ _. ⌜ knownOf (members (now (known .exit))) (now (values .exit)) ≡ upd (knownOf (members (now (known .entry))) (now (values .entry))) v (some x) ⌝ }
 {
-    put(known, v, 1);
+    add(known, v);
     values::put(values, v, x);
 }
 
-// Whether a variable's value is known.
-fn is_known(known: &[u8; 256], v: u8) -> bool
-    ensures { λ r. ⌜ r ≡ marked (now (known .entry)) v ⌝ }
-{
-    known[v as usize] == 1
-}
-
 // Whether the variables that the bytes from a place on name are known.
-fn all_known(block: &[u8], from: usize, count: usize, known: &[u8; 256]) -> bool
+fn all_known(block: &[u8], from: usize, count: usize, known: &[u64; 4]) -> bool
     requires { ⌜ from + count ≤ length (now block) ⌝ }
-    ensures { λ r. ⌜ r ≡ allMarked (marked (now (known .entry))) (bytesAt (now (block .entry)) from count) ⌝ }
+    ensures { λ r. ⌜ r ≡ everyIn (bytesAt (now (block .entry)) from count) (members (now (known .entry))) ⌝ }
 {
     let mut j: usize = 0;
     while j < count {
-        if !is_known(known, block[from + j]) {
+        if !has(known, block[from + j]) {
             return false;
         }
         j += 1;
@@ -55,9 +52,9 @@ fn all_known(block: &[u8], from: usize, count: usize, known: &[u8; 256]) -> bool
 }
 
 // What an op that may fold states, where all its inputs are known.
-fn stated_by(e: u32, block: &[u8], at: usize, known: &[u8; 256], values: &[u64; 256]) -> Stated
+fn stated_by(e: u32, block: &[u8], at: usize, known: &[u64; 4], values: &[u64; 256]) -> Stated
     requires { ⌜ Stands rowOf (now block) at (getD (now block) at 0) × (e ≡ getD kindTable (getD (now block) at 0) 0) ⌝ }
-    ensures { λ r. ⌜ StatesKnown (now (block .entry)) at (now (known .entry)) (now (values .entry)) r ⌝ }
+    ensures { λ r. ⌜ StatesKnown (now (block .entry)) at (members (now (known .entry))) (now (values .entry)) r ⌝ }
 {
     if !is_computing(e) {
         return Stated::NoResult;
@@ -69,9 +66,9 @@ fn stated_by(e: u32, block: &[u8], at: usize, known: &[u8; 256], values: &[u64; 
 }
 
 // What is known after an op that stays as it is.
-fn pass_over(e: u32, block: &[u8], at: usize, known: &mut [u8; 256], values: &mut [u64; 256])
-    requires { ⌜ Stands rowOf (now block) at (getD (now block) at 0) × (e ≡ getD kindTable (getD (now block) at 0) 0) × StatesKnown (now block) at (now known) (now values) Stated.NoResult ⌝ }
-    ensures { λ _. ⌜ Stays (now (block .entry)) at (now (known .entry)) (now (values .entry)) (now (known .exit)) (now (values .exit)) ⌝ }
+fn pass_over(e: u32, block: &[u8], at: usize, known: &mut [u64; 4], values: &mut [u64; 256])
+    requires { ⌜ Stands rowOf (now block) at (getD (now block) at 0) × (e ≡ getD kindTable (getD (now block) at 0) 0) × StatesKnown (now block) at (members (now known)) (now values) Stated.NoResult ⌝ }
+    ensures { λ _. ⌜ Stays (now (block .entry)) at (members (now (known .entry))) (now (values .entry)) (members (now (known .exit))) (now (values .exit)) ⌝ }
 {
     let r = role(e);
     if r == CONSTANT {
@@ -79,22 +76,16 @@ fn pass_over(e: u32, block: &[u8], at: usize, known: &mut [u8; 256], values: &mu
         return;
     }
     if r < LOADS {
-        clear(known);
+        *known = empty();
         return;
     }
-    unmark_all(block, at + 1, outs(e), known);
+    remove_all(block, at + 1, outs(e), known);
 }
 
 // Fold at one op: the constant's value if one takes its place.
-fn fold_op(
-    e: u32,
-    block: &[u8],
-    at: usize,
-    known: &mut [u8; 256],
-    values: &mut [u64; 256],
-) -> Stated
+fn fold_op(e: u32, block: &[u8], at: usize, known: &mut [u64; 4], values: &mut [u64; 256]) -> Stated
     requires { ⌜ Stands rowOf (now block) at (getD (now block) at 0) × (e ≡ getD kindTable (getD (now block) at 0) 0) ⌝ }
-    ensures { λ r. ⌜ Folds (now (block .entry)) at (now (known .entry)) (now (values .entry)) (now (known .exit)) (now (values .exit)) r ⌝ }
+    ensures { λ r. ⌜ Folds (now (block .entry)) at (members (now (known .entry))) (now (values .entry)) (members (now (known .exit))) (now (values .exit)) r ⌝ }
 {
     let stated = stated_by(e, block, at, known, values);
     match stated {
@@ -109,49 +100,40 @@ fn fold_op(
     }
 }
 
-// Fold at the i-th op: its byte, and its constant if it has one.
-fn fold_at(
-    e: u32,
-    block: &[u8],
-    at: usize,
-    i: usize,
-    known: &mut [u8; 256],
-    values: &mut [u64; 256],
-    folded: &mut [u8],
-    consts: &mut [u64],
-)
-    requires { ⌜ Stands rowOf (now block) at (getD (now block) at 0) × (i < length (now folded)) × (i < length (now consts)) × (e ≡ getD kindTable (getD (now block) at 0) 0) ⌝ }
-    ensures { λ _. ⌜ FoldsAt (now (block .entry)) at i (now (known .entry)) (now (values .entry)) (now (known .exit)) (now (values .exit)) (now (folded .entry)) (now (consts .entry)) (now (folded .exit)) (now (consts .exit)) ⌝ }
-{
-    let stated = fold_op(e, block, at, known, values);
-    match stated {
-        Stated::Value(x) => {
-            folded[i] = 1;
-            consts[i] = x;
-        }
-        Stated::NoResult => folded[i] = 0,
-    }
-}
-
-// Which ops fold replaces, read forward, and the constants that take their places.
+// The records that fold leaves of so many ops, one after the other in out, and the place of each; where they end. Those
+// that stay are copied in runs.
 pub fn fold(
     kinds: &[u32; 256],
     block: &[u8],
+    start: usize,
     ops: usize,
-    places: &[u16; 256],
-    folded: &mut [u8],
-    consts: &mut [u64],
-)
-    requires { ⌜ OpsHere (now block) (now places) (opsFrom (recordsOf rowOf (now block))) ops × (length (now folded) ≡ 256) × (length (now consts) ≡ 256) × (now kinds ≡ kindTable) ⌝ }
-    ensures { λ _. ⌜ FoldsAll (now (block .entry)) (now (folded .exit)) (now (consts .exit)) ⌝ }
+    out: &mut [u8],
+    places: &mut [u16],
+) -> usize
+    requires { ⌜ (start ≤ length (now block)) × (ops ≡ length (recordsAt rowOf (now block) start)) × (ops ≤ 256) × (ops ≤ length (now places)) × (10 * ops ≤ length (now out)) × (now kinds ≡ kindTable) ⌝ }
+    ensures { λ r. ⌜ (r ≤ length (now (out .exit))) × Laid (take r (now (out .exit))) (now (places .exit)) (foldedOps (recordsAt rowOf (now (block .entry)) start)) ops ⌝ }
 {
-    let mut known = [0u8; 256];
+    let mut known = empty();
     let mut values = [0u64; 256];
+    let mut from = start;
+    let mut at = start;
+    let mut to: usize = 0;
     let mut i: usize = 0;
     while i < ops {
-        let at = places[i] as usize;
         let e = entry(kinds, block[at]);
-        fold_at(e, block, at, i, &mut known, &mut values, folded, consts);
+        let next = at + 1 + body_length(e);
+        places[i] = (to + at - from) as u16;
+        let stated = fold_op(e, block, at, &mut known, &mut values);
+        match stated {
+            Stated::Value(x) => {
+                to = put_constant(e, block, from, at, x, out, to);
+                from = next;
+            }
+            Stated::NoResult => {}
+        }
+        at = next;
         i += 1;
     }
+    copy(block, from, at - from, out, to);
+    to + at - from
 }

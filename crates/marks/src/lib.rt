@@ -2,7 +2,7 @@
 ghost use mathlib.Core.Path.{_≡_};
 ghost use lib.ListN.{length, getD, set, replicate};
 ghost use Prim.Native.Nat.{_+_, _≤_, _<_};
-ghost use Rattle.theory.specs.Sets.{plus, without};
+ghost use Rattle.theory.specs.Sets.{plus};
 ghost use Rattle.ops.specs.Ops.{bytesAt};
 ghost use Rattle.block.specs.Scan.{SetAt, marked, markedAs};
 
@@ -72,12 +72,4 @@ pub fn mark_all(block: &[u8], from: usize, count: usize, marks: &mut [u8; 256])
     ensures { λ _. ⌜ marked (now (marks .exit)) ≡ plus (marked (now (marks .entry))) (bytesAt (now (block .entry)) from count) ⌝ }
 {
     put_all(block, from, count, 1, marks);
-}
-
-// And unmarked.
-pub fn unmark_all(block: &[u8], from: usize, count: usize, marks: &mut [u8; 256])
-    requires { ⌜ from + count ≤ length (now block) ⌝ }
-    ensures { λ _. ⌜ marked (now (marks .exit)) ≡ without (marked (now (marks .entry))) (bytesAt (now (block .entry)) from count) ⌝ }
-{
-    put_all(block, from, count, 0, marks);
 }

@@ -1,51 +1,120 @@
 // The pass: fold, prune and the result in the lent buffer.
 ghost use mathlib.Core.Path.{_≡_};
+ghost use Prim.Native.Nat.{_*_, _≤_};
+ghost use lib.ListN.{length, take};
 ghost use Rattle.ops.specs.Kinds.{kindTable};
+ghost use Rattle.sets.specs.Words.{members};
+ghost use Rattle.block.specs.Rules.{keptIn};
 ghost use Rattle.passes.specs.Passes.{passOf};
 ghost use Rattle.passes.specs.Ready.{Ready};
+use emit::copy;
 use kinds::table;
 use passes::Written;
 use scan::scan;
 
-// The pass of an accepted block with n variables.
+// The variables that outlive a basic block, of n with these classes.
+fn outliving(classes: &[u8], n: usize) -> [u64; 4]
+    requires { ⌜ (n ≤ 256) × (n ≤ length (now classes)) ⌝ }
+    ensures { λ r. ⌜ members r ≡ keptIn (take n (now (classes .entry))) ⌝ }
+{
+    let mut kept = sets::empty();
+    let mut i: usize = 0;
+    while i < n {
+        if classes[i] < 2 {
+            sets::add(&mut kept, i as u8);
+        }
+        i += 1;
+    }
+    kept
+}
+
+// The pass of an accepted block, with room for its ops: their places, a byte for each, and ten bytes for each.
 fn write_result(
     kinds: &[u32; 256],
     block: &[u8],
+    start: usize,
     ops: usize,
-    places: &[u16; 256],
-    classes: &[u8; 256],
-    n: usize,
+    globals: &[u64; 4],
+    kept: &[u64; 4],
+    places: &mut [u16],
+    keep: &mut [u8],
+    buf: &mut [u8],
     out: &mut [u8],
 ) -> Written
-    requires { ⌜ Ready (now block) (now places) (now classes) ops n × (now kinds ≡ kindTable) ⌝ }
+    requires { ⌜ Ready (now block) (members (now globals)) (members (now kept)) start ops × (ops ≤ length (now places)) × (ops ≤ length (now keep)) × (10 * ops ≤ length (now buf)) × (now kinds ≡ kindTable) ⌝ }
     ensures { λ r. ⌜ (r ≡ (passOf (now (block .entry)) (now (out .entry))) .answer) × (now (out .exit) ≡ (passOf (now (block .entry)) (now (out .entry))) .out) ⌝ }
 {
-    let mut folded = [0u8; 256];
-    let mut consts = [0u64; 256];
-    fold::fold(kinds, block, ops, places, &mut folded, &mut consts);
-    let mut keep = [0u8; 256];
-    prune::prune(kinds, block, ops, places, &folded, classes, n, &mut keep);
-    let start = 3 * n;
-    let size = start + emit::kept_size(kinds, block, ops, places, &folded, &keep);
+    let end = fold::fold(kinds, block, start, ops, buf, places);
+    let size = start + prune::prune(kinds, &buf[..end], ops, places, globals, kept, keep);
     if out.len() < size {
         return Written::Refused {
             number: 12,
             place: 0,
         };
     }
-    emit::copy(block, 0, start, out, 0);
-    emit::emit_ops(
+    copy(block, 0, start, out, 0);
+    emit::emit(&buf[..end], ops, places, keep, out, start);
+    Written::Length(size)
+}
+
+// With room for 64 ops.
+fn write_short(
+    kinds: &[u32; 256],
+    block: &[u8],
+    start: usize,
+    ops: usize,
+    globals: &[u64; 4],
+    kept: &[u64; 4],
+    out: &mut [u8],
+) -> Written
+    requires { ⌜ Ready (now block) (members (now globals)) (members (now kept)) start ops × (ops ≤ 64) × (now kinds ≡ kindTable) ⌝ }
+    ensures { λ r. ⌜ (r ≡ (passOf (now (block .entry)) (now (out .entry))) .answer) × (now (out .exit) ≡ (passOf (now (block .entry)) (now (out .entry))) .out) ⌝ }
+{
+    let mut places = [0u16; 64];
+    let mut keep = [0u8; 64];
+    let mut buf = [0u8; 640];
+    write_result(
         kinds,
         block,
-        ops,
-        places,
-        &folded,
-        &consts,
-        &keep,
-        out,
         start,
-    );
-    Written::Length(size)
+        ops,
+        globals,
+        kept,
+        &mut places,
+        &mut keep,
+        &mut buf,
+        out,
+    )
+}
+
+// With room for as many as a block may have.
+fn write_long(
+    kinds: &[u32; 256],
+    block: &[u8],
+    start: usize,
+    ops: usize,
+    globals: &[u64; 4],
+    kept: &[u64; 4],
+    out: &mut [u8],
+) -> Written
+    requires { ⌜ Ready (now block) (members (now globals)) (members (now kept)) start ops × (now kinds ≡ kindTable) ⌝ }
+    ensures { λ r. ⌜ (r ≡ (passOf (now (block .entry)) (now (out .entry))) .answer) × (now (out .exit) ≡ (passOf (now (block .entry)) (now (out .entry))) .out) ⌝ }
+{
+    let mut places = [0u16; 256];
+    let mut keep = [0u8; 256];
+    let mut buf = [0u8; 2560];
+    write_result(
+        kinds,
+        block,
+        start,
+        ops,
+        globals,
+        kept,
+        &mut places,
+        &mut keep,
+        &mut buf,
+        out,
+    )
 }
 
 // The pass of a block: its result's length, the result in out; or the rule that is broken.
@@ -72,5 +141,10 @@ pub fn pass(block: &[u8], out: &mut [u8]) -> Written
             place: s.place,
         };
     }
-    write_result(&kinds, block, s.ops, &places, &classes, s.variables, out)
+    let kept = outliving(&classes, s.variables);
+    let globals = sets::below(s.globals);
+    if s.ops <= 64 {
+        return write_short(&kinds, block, s.start, s.ops, &globals, &kept, out);
+    }
+    write_long(&kinds, block, s.start, s.ops, &globals, &kept, out)
 }

@@ -8,7 +8,6 @@ use native.Mathlib.Omega.{arith}
 use native.Mathlib.Nat.{add-assoc}
 use lib.ListN.{length, getD}
 use borrow.Author.Tests.{ltb-true, lt-ltb, le-ltb}
-use Rattle.word.proofs.Tests.{cond-all}
 use Rattle.theory.specs.Prune.{dead, before}
 use Rattle.theory.specs.Sets.{Vars, without, plus, both, noneIn}
 use Rattle.theory.proofs.Sets.{tell}
@@ -19,22 +18,19 @@ use Rattle.ops.specs.Ops.{kindOf, rowAt, bytesAt, outsBy, insBy, viewFor, viewO
 use Rattle.ops.proofs.Entry.{Digits, digits}
 use Rattle.ops.proofs.Table.{row-of}
 use Rattle.ops.proofs.Traits.{pure-at, outputs-at}
-use Rattle.block.specs.Rules.{globalsIn, keptIn}
 use Rattle.block.specs.Scan.{recordAt, Stands}
 use Rattle.block.proofs.Operands.{eachBy}
 use Rattle.block.proofs.Views.{row-at, output-bytes, input-bytes}
-use Rattle.passes.specs.Live.{belowIn, liveBefore, beforeBy}
-use Rattle.passes.proofs.Liveness.{below-one}
+use Rattle.passes.specs.Live.{liveBefore, beforeBy}
 
-module _ (classes : List ℕ) (l : Vars) (row : Row) (r : List ℕ) where
-  before-by : (x : Role) → (x ≡ setsLabel → insBy row r ≡ [])
-      → before (globalsIn classes) (keptIn classes) (viewFor document01 x row r) l ≡ plus (beforeBy x classes (outsBy row r) l) (insBy row r)
+module _ (glob kept l : Vars) (row : Row) (r : List ℕ) where
+  before-by : (x : Role) → (x ≡ setsLabel → insBy row r ≡ []) → before glob kept (viewFor document01 x row r) l ≡ plus (beforeBy x glob kept (outsBy row r) l) (insBy row r)
   before-by unknown h = refl
   before-by declares h = refl
-  before-by setsLabel h = ap (plus (keptIn classes)) (sym (h refl))
+  before-by setsLabel h = ap (plus kept) (sym (h refl))
   before-by jumpsTo h = refl
   before-by exits h = refl
-  before-by branches h = ap (λ (m : Vars). plus m (insBy row r)) (fun-ext (λ v. or-self (keptIn classes v)))
+  before-by branches h = ap (λ (m : Vars). plus m (insBy row r)) (fun-ext (λ v. or-self (kept v)))
     where
       or-self : (t : Bool) → (t || t) ≡ t
       or-self true = refl
@@ -56,22 +52,17 @@ dead-by x outs l = go (tell (isPure x))
     go (inr h) = rw h
 
 -- from the number of the role
-module _ (x : Role) (classes outs : List ℕ) (l : Vars) {m : Vars} {n : ℕ} (q : n ≡ numberOf x) where
-  pub ends-before : {limit : ℕ} → n < 6 → limit ≡ cond (isSetting x || isJumping x) 2 1 → m ≡ belowIn classes limit → m ≡ beforeBy x classes outs l
-  ends-before h e w = rw (lt-ltb (numberOf x) 6 (omega arith)) (w ∙ ap (belowIn classes) e ∙ go (isSetting x || isJumping x))
-    where
-      go : (t : Bool) → belowIn classes (cond t 2 1) ≡ cond t (keptIn classes) (globalsIn classes)
-      go true = refl
-      go false = below-one classes
+module _ (x : Role) (glob kept : Vars) (outs : List ℕ) (l : Vars) {m : Vars} {n : ℕ} (q : n ≡ numberOf x) where
+  pub ends-before : {s j t : Bool} → n < 6 → s ≡ isSetting x → j ≡ isJumping x → (s || j) ≡ t → m ≡ cond t kept glob → m ≡ beforeBy x glob kept outs l
+  ends-before h e f g w =
+      let z : cond (isSetting x || isJumping x) kept glob ≡ m = ap₂ (λ (a b : Bool). cond (a || b) kept glob) (sym e) (sym f) ∙ ap (λ (b : Bool). cond b kept glob) g ∙ sym w in
+      rw (lt-ltb (numberOf x) 6 (omega arith)) (sym z)
 
-  pub pure-before : 7 < n → m ≡ without l outs → m ≡ beforeBy x classes outs l
+  pub pure-before : 7 < n → m ≡ without l outs → m ≡ beforeBy x glob kept outs l
   pure-before h w = rw (le-ltb (numberOf x) 6 (omega arith), lt-ltb 7 (numberOf x) (omega arith)) w
 
-  pub access-before : {l′ : Vars} → 6 ≤ n → n ≤ 7 → m ≡ both (belowIn classes 1) l′ → l′ ≡ without l outs → m ≡ beforeBy x classes outs l
-  access-before h k w e = rw (le-ltb (numberOf x) 6 (omega arith), le-ltb 7 (numberOf x) (omega arith)) (w ∙ ap₂ both (below-one classes) e)
-
-pub limit-small : (t : Bool) {limit : ℕ} → limit ≡ cond t 2 1 → limit ≤ 2
-limit-small t e = rw e (cond-all (λ (n : ℕ). n ≤ 2) t (omega arith) (omega arith))
+  pub access-before : {l′ : Vars} → 6 ≤ n → n ≤ 7 → m ≡ both glob l′ → l′ ≡ without l outs → m ≡ beforeBy x glob kept outs l
+  access-before h k w e = rw (le-ltb (numberOf x) 6 (omega arith), le-ltb 7 (numberOf x) (omega arith)) (w ∙ ap (both glob) e)
 
 -- the op that stands at a place, by the digits of its kind's entry
 module _ {b : List ℕ} {p k e : ℕ} (s : Stands rowOf b p k) (q : e ≡ getD kindTable k 0) where
@@ -91,18 +82,18 @@ module _ {b : List ℕ} {p k e : ℕ} (s : Stands rowOf b p k) (q : e ≡ getD k
   pub operands-inside : p + 1 + outsIn e + insIn e ≤ length b
   operands-inside = omega (arith, d .body, s .whole)
 
-  module _ (classes : List ℕ) (l : Vars) where
-    live-is : liveBefore classes (recordAt rowOf b p) l
-        ≡ plus (beforeBy (roleNo (roleIn e)) classes (bytesAt b (p + 1) (outsIn e)) l) (bytesAt b (p + 1 + outsIn e) (insIn e))
+  module _ (glob kept l : Vars) where
+    live-is : liveBefore glob kept (recordAt rowOf b p) l
+        ≡ plus (beforeBy (roleNo (roleIn e)) glob kept (bytesAt b (p + 1) (outsIn e)) l) (bytesAt b (p + 1 + outsIn e) (insIn e))
     unfolding viewOf
     live-is =
         let r = recordAt rowOf b p in
-        before-by classes l (rowAt rowOf r) r ((rowAt rowOf r) .role) (λ z. ap (λ (row : Row). insBy row r) (row-of setsLabel (kindOf r) z))
+        before-by glob kept l (rowAt rowOf r) r ((rowAt rowOf r) .role) (λ z. ap (λ (row : Row). insBy row r) (row-of setsLabel (kindOf r) z))
         ∙ rw (its-role, its-outputs, its-inputs)
 
     -- then the inputs
-    pub live-before-is : {m m′ : Vars} → m ≡ beforeBy (roleNo (roleIn e)) classes (bytesAt b (p + 1) (outsIn e)) l → m′ ≡ plus m (bytesAt b (p + 1 + outsIn e) (insIn e))
-        → m′ ≡ liveBefore classes (recordAt rowOf b p) l
+    pub live-before-is : {m m′ : Vars} → m ≡ beforeBy (roleNo (roleIn e)) glob kept (bytesAt b (p + 1) (outsIn e)) l → m′ ≡ plus m (bytesAt b (p + 1 + outsIn e) (insIn e))
+        → m′ ≡ liveBefore glob kept (recordAt rowOf b p) l
     live-before-is w w′ = w′ ∙ ap (λ (m : Vars). plus m (bytesAt b (p + 1 + outsIn e) (insIn e))) w ∙ sym live-is
 
   dead-is : (l : Vars) → dead (viewOf document01 (recordAt rowOf b p)) l ≡ (isPure (roleNo (roleIn e)) && noneIn (bytesAt b (p + 1) (outsIn e)) l)

@@ -1,115 +1,103 @@
--- What is stored of an op. Assumes nothing.
-use mathlib.Core.Path.{_≡_, refl, sym, ap, ap₂, _∙_}
+-- The kept records, copied in runs. Assumes nothing.
+use mathlib.Core.Path.{_≡_, refl, sym, ap, _∙_, subst}
 use mathlib.Core.Bool.{Bool, true, false, cond}
-use mathlib.Core.List.{List, _∷_}
-use Prim.Native.Nat.{ℕ, suc, _+_, _%_, _≤_, _<_}
+use mathlib.Core.List.{List, [], _∷_, _++_, append-nil}
+use mathlib.Core.Logic.{_⊎_, inl, inr}
+use Prim.Native.Nat.{ℕ, suc, _+_, _-_, _≤_, _<_}
 use native.Mathlib.Omega.{arith}
-use lib.Dec.{eqb}
-use lib.ListN.{length, getD, take, drop, length-drop}
-use lib.Seq.{length-take-le, sets}
-use borrow.Author.Tests.{eq-eqb, ne-eqb}
-use Rattle.word.proofs.Tests.{cond-all}
-use Rattle.theory.specs.Machine.{headOr}
-use Rattle.memory.specs.Bytes.{bytesOf}
-use Rattle.memory.proofs.Numbers.{length-bytes}
-use Rattle.ops.specs.Rows.{computing, Row, outsIn, insIn, restIn, typesIn, typesOf}
-use Rattle.ops.specs.Kinds.{kindTable, rowOf, document01}
-use Rattle.ops.specs.Rows.{roleOf, bodyLength}
-use Rattle.ops.specs.Ops.{foldableRow, folding}
-use Rattle.ops.specs.Kinds.{moviKind}
-use Rattle.ops.proofs.Entry.{digits}
-use Rattle.ops.proofs.Table.{row-of, body-short}
-use Rattle.block.specs.Scan.{recordAt}
-use Rattle.block.proofs.Views.{body-from, byte, row-at, inside}
-use Rattle.passes.specs.Choose.{pickOp, Foldable, Emittable, sizeBy}
+use native.Mathlib.Nat.{add-zero}
+use native.Mathlib.Numerals.{add-one}
+use lib.Dec.{ltb}
+use lib.ListN.{length, getD, take, drop, length-append}
+use lib.Seq.{sets, take-all, take-at}
+use borrow.Author.Tests.{ltb-true, ltb-false}
+use Rattle.theory.proofs.Sets.{tell}
+use Rattle.ops.specs.Kinds.{rowOf}
+use Rattle.block.specs.Records.{recordsOf, concat}
+use Rattle.passes.specs.Laid.{Laid, keptFrom}
+use Rattle.passes.proofs.Bytes.{cut-op, bytes-from, concat-split, kept-more, kept-less, kept-none}
+use Rattle.passes.proofs.Stores.{Copying, copying-start, copying-over, copying-put, copying-ends, copying-room}
 
--- an op that computes may fold, and has one output
-pub computing-folds : (k : ℕ) → roleOf rowOf k ≡ computing → foldableRow (rowOf k) ≡ true
-computing-folds k r = rw (r, (row-of computing k r) .one-out)
+-- the records before the i-th are stored, or wait
+pub record EmittingSo (b keep out₀ out : List ℕ) (os : List (List ℕ)) (start from at to i : ℕ) : Type 0 where
+  pub at-is : at ≡ length (concat (take i os))
+  pub copied : Copying b out₀ out start from at to (concat (keptFrom 0 keep os)) (concat (keptFrom i keep (drop i os)))
 
-module _ {e : ℕ} (k : ℕ) (q : e ≡ getD kindTable k 0) (r : roleOf rowOf k ≡ computing) where
-  pub one-output : outsIn e ≡ 1
-  one-output = sym ((digits kindTable q) .outs) ∙ ap length ((row-of computing k r) .one-out)
+pub emitting-start : {b keep out : List ℕ} {os : List (List ℕ)} {start : ℕ} → EmittingSo b keep out out os start 0 0 start 0
+emitting-start = record { at-is = refl; copied = copying-start (omega arith) }
 
-  -- whose type is the first of the entry's
-  pub movi-kind : {kind : ℕ} → kind ≡ moviKind (typesIn e % 4) → kind ≡ moviKind (headOr 0 ((rowOf k) .outs))
-  unfolding typesOf
-  movi-kind m =
-      m ∙ sym (ap (λ (row : Row). moviKind (headOr 0 (row .outs))) ((digits kindTable q) .row) ∙ ap (λ (n : ℕ). moviKind (headOr 0 (typesOf n (typesIn e)))) one-output)
+module _ {b places keep out₀ out : List ℕ} {ops start from at to i : ℕ} (l : Laid b places (recordsOf rowOf b) ops) (s : EmittingSo b keep out₀ out (recordsOf rowOf b) start from at to i) where
+  abbrev os : List (List ℕ)
+  os = recordsOf rowOf b
 
--- the bytes of an op, or of the constant in its place
-module _ {b out : List ℕ} {p folded value to : ℕ} (g : Emittable b p folded value out to) where
-  e : Foldable b p folded
-  e = g .op
+  module _ (h : i < ops) where
+    abbrev o : List ℕ
+    o = getD (recordsOf rowOf b) i []
 
-  module _ (f : folded ≡ 1) where
-    pub computes-here : roleOf rowOf (getD b p 0) ≡ computing
-    computes-here = e .folds-only f
+    -- the place after the i-th
+    pub record After (next : ℕ) : Type 0 where
+      pub next-is : next ≡ length (concat (take (i + 1) (recordsOf rowOf b)))
 
-    pub output-inside : p + 1 < length b
-    output-inside = inside (e .stands) computes-here 1 (omega arith)
+    pub after-op : {next : ℕ} → next ≡ cond (ltb (i + 1) ops) (getD places (i + 1) 0) (length b) → After next
+    after-op {next} e = record { next-is = e ∙ go (tell (ltb (i + 1) ops)) }
+      where
+        go : (ltb (i + 1) ops ≡ true) ⊎ (ltb (i + 1) ops ≡ false) → cond (ltb (i + 1) ops) (getD places (i + 1) 0) (length b) ≡ length (concat (take (i + 1) (recordsOf rowOf b)))
+        go (inl q) = rw q (l .place-is (i + 1) (ltb-true (i + 1) ops q))
+        go (inr q) =
+            rw q (ap length (l .bytes-are) ∙ ap (λ (xs : List (List ℕ)). length (concat xs)) (sym (take-all (i + 1) (recordsOf rowOf b) (omega (arith, l .count-is, ltb-false (i + 1) ops q)))))
 
-    movi-bytes : {kind : ℕ} → kind ≡ moviKind (headOr 0 ((rowOf (getD b p 0)) .outs))
-        → pickOp folded value (recordAt rowOf b p) ≡ kind ∷ getD b (p + 1) 0 ∷ bytesOf 8 value
-    movi-bytes {kind} q =
-        ap (λ (t : Bool). cond t (folding document01 .const (recordAt rowOf b p) value) (recordAt rowOf b p)) (eq-eqb folded 1 f)
-        ∙ ap₂ (λ (w : ℕ) (d : ℕ). w ∷ d ∷ bytesOf 8 value)
-        (ap (λ (row : Row). moviKind (headOr 0 (row .outs))) (row-at (e .stands)) ∙ sym q)
-        (byte (e .stands) 1 (body-from computing (getD b p 0) computes-here))
+    module _ {next : ℕ} (a : After next) where
+      cut : drop i os ≡ o ∷ drop (i + 1) os
+      cut = cut-op l h ∙ ap (λ (n : ℕ). o ∷ drop n os) (sym (add-one i))
 
-    movi-long : length (pickOp folded value (recordAt rowOf b p)) ≡ 10
-    movi-long = ap length (movi-bytes refl) ∙ ap (λ (n : ℕ). suc (suc n)) (length-bytes 8 value)
+      next-long : next ≡ at + length o
+      next-long =
+          omega (
+            arith,
+            a .next-is,
+            s .at-is,
+            length-append (concat (take i os)) (concat (drop i os)),
+            ap length (concat-split i os),
+            length-append (concat (take (i + 1) os)) (concat (drop (i + 1) os)),
+            ap length (concat-split (i + 1) os),
+            ap (λ (xs : List (List ℕ)). length (concat xs)) cut,
+            length-append o (concat (drop (i + 1) os)),
+          )
 
-    pub movi-room : to + 10 ≤ length out
-    movi-room = omega (arith, movi-long, g .room)
+      pub next-inside : next ≤ length b
+      next-inside = omega (arith, a .next-is, length-append (concat (take (i + 1) os)) (concat (drop (i + 1) os)), ap length (concat-split (i + 1) os), ap length (l .bytes-are))
 
-    pub movi-next : to + 10 ≡ to + length (pickOp folded value (recordAt rowOf b p))
-    movi-next = omega (arith, movi-long)
+      bytes-here : take (length o) (drop at b) ≡ o
+      bytes-here =
+          ap (λ (n : ℕ). take (length o) (drop n b)) (s .at-is) ∙ ap (take (length o)) (bytes-from l i ∙ ap concat cut) ∙ take-at o (concat (drop (i + 1) os)) (length o) refl
 
-    pub movi-stored : {kind : ℕ} {out′ : List ℕ} → kind ≡ moviKind (headOr 0 ((rowOf (getD b p 0)) .outs)) → out′ ≡ sets out to (kind ∷ getD b (p + 1) 0 ∷ bytesOf 8 value)
-        → out′ ≡ sets out to (pickOp folded value (recordAt rowOf b p))
-    movi-stored q s = s ∙ ap (sets out to) (sym (movi-bytes q))
+      -- it waits
+      pub emitting-kept : getD keep i 0 ≡ 1 → EmittingSo b keep out₀ out (recordsOf rowOf b) start from next to (i + 1)
+      emitting-kept k =
+          let e : concat (keptFrom i keep (drop i os)) ≡ take (length o) (drop at b) ++ concat (keptFrom (i + 1) keep (drop (i + 1) os)) =
+          ap (λ (xs : List (List ℕ)). concat (keptFrom i keep xs)) cut ∙ ap concat (kept-more i keep o (drop (i + 1) os) k)
+          ∙ ap (λ (n : ℕ). o ++ concat (keptFrom n keep (drop (i + 1) os))) (sym (add-one i))
+          ∙ ap (λ (x : List ℕ). x ++ concat (keptFrom (i + 1) keep (drop (i + 1) os))) (sym bytes-here) in
+          record {
+            at-is = a .next-is;
+            copied =
+                subst (λ (m : ℕ). Copying b out₀ out start from m to (concat (keptFrom 0 keep os)) (concat (keptFrom (i + 1) keep (drop (i + 1) os)))) (sym next-long)
+                (copying-over (s .copied) (length o) e (omega (arith, next-long, next-inside)));
+          }
 
-  module _ (f : folded ≡ 1 → ⊥) {entry n : ℕ} (z : entry ≡ getD kindTable (getD b p 0) 0) (m : n ≡ outsIn entry + insIn entry + restIn entry) where
-    long-op : suc (bodyLength rowOf (getD b p 0)) ≡ 1 + n
-    long-op = omega (arith, (digits kindTable z) .body)
+      -- it is left out, and those that wait are stored
+      pub emitting-dropped : {out′ : List ℕ} {to′ : ℕ} → (getD keep i 0 ≡ 1 → ⊥) → out′ ≡ sets out to (take (at - from) (drop from b)) → to′ ≡ to + (at - from)
+          → EmittingSo b keep out₀ out′ (recordsOf rowOf b) start next next to′ (i + 1)
+      emitting-dropped k q t =
+          let e : concat (keptFrom i keep (drop i os)) ≡ concat (keptFrom (i + 1) keep (drop (i + 1) os)) =
+          ap (λ (xs : List (List ℕ)). concat (keptFrom i keep xs)) cut ∙ ap concat (kept-less i keep o (drop (i + 1) os) k) ∙ ap (λ (n : ℕ). concat (keptFrom n keep (drop (i + 1) os))) (sym (add-one i)) in
+          record {
+            at-is = a .next-is;
+            copied = copying-put (s .copied) [] e (q ∙ ap (sets out to) (sym (append-nil (take (at - from) (drop from b))))) (t ∙ sym (add-zero (to + (at - from)))) next-inside;
+          }
 
-    plain-bytes : pickOp folded value (recordAt rowOf b p) ≡ take (1 + n) (drop p b)
-    plain-bytes =
-        ap (λ (t : Bool). cond t (folding document01 .const (recordAt rowOf b p) value) (recordAt rowOf b p)) (ne-eqb folded 1 f) ∙ ap (λ (k : ℕ). take k (drop p b)) long-op
+  pub emitting-room : start + length (concat (keptFrom 0 keep (recordsOf rowOf b))) ≤ length out₀ → to + (at - from) ≤ length out
+  emitting-room r = omega (arith, copying-room (s .copied) r)
 
-    plain-long : length (pickOp folded value (recordAt rowOf b p)) ≡ 1 + n
-    plain-long = ap length plain-bytes ∙ length-take-le (1 + n) (drop p b) (omega (arith, length-drop p b, long-op, e .stands .whole))
-
-    pub plain-room : (p + (1 + n) ≤ length b) × (to + (1 + n) ≤ length out)
-    plain-room = (omega (arith, long-op, e .stands .whole), omega (arith, plain-long, g .room))
-
-    pub plain-next : to + (1 + n) ≡ to + length (pickOp folded value (recordAt rowOf b p))
-    plain-next = omega (arith, plain-long)
-
-    pub plain-stored : {out′ : List ℕ} → out′ ≡ sets out to (take (1 + n) (drop p b)) → out′ ≡ sets out to (pickOp folded value (recordAt rowOf b p))
-    plain-stored s = s ∙ ap (sets out to) (sym plain-bytes)
-
--- the sizes alone
-pub place-inside : {b : List ℕ} {p folded : ℕ} → Foldable b p folded → p < length b
-place-inside f = omega (arith, f .stands .whole)
-
-module _ {b : List ℕ} {p folded entry : ℕ} (f : Foldable b p folded) (z : entry ≡ getD kindTable (getD b p 0) 0) where
-  size-op : (value : ℕ) → cond (eqb folded 1) 10 (1 + (outsIn entry + insIn entry + restIn entry)) ≡ length (pickOp folded value (recordAt rowOf b p))
-  size-op value = go (eqb folded 1)
-    where
-      whole : suc (bodyLength rowOf (getD b p 0)) ≡ 1 + (outsIn entry + insIn entry + restIn entry)
-      whole = omega (arith, (digits kindTable z) .body)
-
-      go : (t : Bool) → cond t 10 (1 + (outsIn entry + insIn entry + restIn entry)) ≡ length (cond t (folding document01 .const (recordAt rowOf b p) value) (recordAt rowOf b p))
-      go true = sym (ap (λ (n : ℕ). suc (suc n)) (length-bytes 8 value))
-      go false = sym (length-take-le (suc (bodyLength rowOf (getD b p 0))) (drop p b) (omega (arith, length-drop p b, f .stands .whole)) ∙ whole)
-
-  pub size-is : {n : ℕ} (keep : ℕ) → n ≡ sizeBy entry folded keep → (value : ℕ) → n ≡ cond (eqb keep 1) (length (pickOp folded value (recordAt rowOf b p))) 0
-  size-is keep e value = e ∙ ap (λ (n : ℕ). cond (eqb keep 1) n 0) (size-op value)
-
-  pub size-small : {n : ℕ} (keep : ℕ) → n ≡ sizeBy entry folded keep → n ≤ 10
-  size-small keep e =
-      rw e
-      (cond-all (λ (n : ℕ). n ≤ 10) (eqb keep 1)
-      (cond-all (λ (n : ℕ). n ≤ 10) (eqb folded 1) (omega arith) (omega (arith, (digits kindTable z) .body, body-short (getD b p 0)))) (omega arith))
+  pub emitting-ends : {out′ : List ℕ} → ops ≤ i → out′ ≡ sets out to (take (at - from) (drop from b)) → out′ ≡ sets out₀ start (concat (keptFrom 0 keep (recordsOf rowOf b)))
+  emitting-ends h q = copying-ends (s .copied) (ap concat (kept-none i keep os (omega (arith, l .count-is)))) q .0

@@ -8,11 +8,11 @@ use Prim.Native.Nat.{ℕ, _+_, _≤_, _<_}
 use native.Mathlib.Omega.{arith}
 use lib.Arith.{lt-of-le-ne}
 use lib.Dec.{eqb, ltb}
-use lib.ListN.{getD, replicate}
+use lib.ListN.{getD}
 use borrow.Author.Tests.{ltb-true, lt-ltb, le-ltb}
 use Rattle.theory.specs.Fold.{Known, nothing, put, learned, given, gain, consO, allKnown, bindO, tried, baseRule}
 use Rattle.theory.specs.Machine.{View, calc, access, label, flow, computes as stated, inputs, outputs, pure, closes, upd, reads, writes}
-use Rattle.theory.specs.Sets.{Vars, has, without}
+use Rattle.theory.specs.Sets.{Vars, empty, has, plus, without}
 use Rattle.theory.proofs.Sets.{and-l, and-r, tell, clash}
 use Rattle.theory.proofs.Views.{no-some}
 use Rattle.memory.specs.Bytes.{lowFirst}
@@ -23,34 +23,34 @@ use Rattle.ops.specs.Ops.{rowAt, bytesAt, Fault, viewOf, tcg, foldableRow, fold
 use Rattle.ops.proofs.Entry.{digits}
 use Rattle.ops.proofs.Folding.{const-view, computing-role}
 use Rattle.ops.proofs.Traits.{closes-at, pure-at, outputs-at}
-use Rattle.block.specs.Scan.{recordAt, Stands, SetAt, marked}
-use Rattle.block.proofs.MarkSets.{at-place, marked-none}
+use Rattle.block.specs.Scan.{recordAt, Stands, SetAt}
+use Rattle.block.proofs.MarkSets.{at-place}
 use Rattle.block.proofs.Operands.{eachBy}
 use Rattle.block.proofs.Views.{body-from, byte, row-at, constant-view, pure-view}
 use Rattle.runs.specs.Evaluates.{Computed, inputsAt, statesAt, valuesOf, envOf}
 use Rattle.runs.proofs.Roles.{role-by}
 use Rattle.ops.proofs.Table.{number-of}
 use Rattle.ops.proofs.Document01.{lawful}
-use Rattle.passes.specs.Knows.{knownOf, allMarked, statedBy, StatesKnown, Stays, Folds}
+use Rattle.passes.specs.Knows.{knownOf, everyIn, statedBy, StatesKnown, Stays, Folds}
 use Rattle.passes.proofs.Before.{its-role, its-outputs}
-use Rattle.passes.proofs.Emitting.{computing-folds, one-output}
+use Rattle.passes.proofs.Constants.{computing-folds, one-output}
 use Rattle.word.specs.declared.Stated.the-variants.{Value, NoResult}
 use Rattle.word.specs.declared.Stated.{Stated}
 
--- stores in the arrays
-pub put-known : {known known′ values values′ : List ℕ} {v x : ℕ} → SetAt known v 1 known′ → SetAt values v x values′
+-- a variable that is known, with its value
+pub put-known : (known : Vars) {known′ : Vars} {values values′ : List ℕ} {v x : ℕ} → known′ ≡ plus known (v ∷ []) → SetAt values v x values′
     → knownOf known′ values′ ≡ upd (knownOf known values) v (some x)
-put-known {known} {known′} {values} {values′} {v} {x} s t =
-    fun-ext (λ u. ap₂ (λ (n m : ℕ). cond (eqb n 1) (some m) none) (at-place s u) (at-place t u) ∙ go (eqb v u) u)
+put-known known {known′} {values} {values′} {v} {x} s t =
+    fun-ext (λ u. ap₂ (λ (l : Vars) (m : ℕ). cond (l u) (some m) none) s (at-place t u) ∙ go (eqb v u) u)
   where
-    go : (b : Bool) (u : ℕ) → cond (eqb (cond b 1 (getD known u 0)) 1) (some (cond b x (getD values u 0))) none ≡ cond b (some x) (knownOf known values u)
+    go : (b : Bool) (u : ℕ) → cond ((b || false) || known u) (some (cond b x (getD values u 0))) none ≡ cond b (some x) (knownOf known values u)
     go true u = refl
     go false u = refl
 
-pub none-known : {known : List ℕ} (values : List ℕ) → known ≡ replicate 256 0 → knownOf known values ≡ nothing
-none-known values e = fun-ext (λ v. ap (λ (l : Vars). cond (l v) (some (getD values v 0)) none) (marked-none 256 e))
+pub none-known : {known : Vars} (values : List ℕ) → known ≡ empty → knownOf known values ≡ nothing
+none-known values e = ap (λ (l : Vars). knownOf l values) e
 
--- variables that are unmarked become unknown
+-- variables that leave the set become unknown
 writes-none : (k : Known ℕ) (outs : List ℕ) (v : ℕ) → writes none k outs [] v ≡ cond (has outs v) none (k v)
 writes-none k [] v = refl
 writes-none k (o ∷ outs) v = writes-none (upd k o none) outs v ∙ go (eqb o v) (has outs v)
@@ -60,31 +60,31 @@ writes-none k (o ∷ outs) v = writes-none (upd k o none) outs v ∙ go (eqb o v
     go true false = refl
     go false h = refl
 
-forgets : (known known′ values outs : List ℕ) → marked known′ ≡ without (marked known) outs → knownOf known′ values ≡ writes none (knownOf known values) outs []
+forgets : (known known′ : Vars) (values outs : List ℕ) → known′ ≡ without known outs → knownOf known′ values ≡ writes none (knownOf known values) outs []
 forgets known known′ values outs e =
-    fun-ext (λ v. ap (λ (l : Vars). cond (l v) (some (getD values v 0)) none) e ∙ go (has outs v) (marked known v) (getD values v 0) ∙ sym (writes-none (knownOf known values) outs v))
+    fun-ext (λ v. ap (λ (l : Vars). cond (l v) (some (getD values v 0)) none) e ∙ go (has outs v) (known v) (getD values v 0) ∙ sym (writes-none (knownOf known values) outs v))
   where
     go : (h m : Bool) (x : ℕ) → cond (not h && m) (some x) none ≡ cond h none (cond m (some x) none)
     go true m x = refl
     go false m x = refl
 
 -- the loop over the inputs
-pub all-each : (l : Vars) (vs : List ℕ) → eachBy (λ s v. l v) (λ s. s) 0 vs ≡ allMarked l vs
+pub all-each : (l : Vars) (vs : List ℕ) → eachBy (λ s v. l v) (λ s. s) 0 vs ≡ everyIn vs l
 all-each l [] = refl
 all-each l (v ∷ vs) = rw (all-each l vs)
 
 -- the values of inputs that are all known
-inputs-known : (known values xs : List ℕ) → allMarked (marked known) xs ≡ true → allKnown (reads (knownOf known values) xs) ≡ some (reads (envOf values) xs)
+inputs-known : (known : Vars) (values xs : List ℕ) → everyIn xs known ≡ true → allKnown (reads (knownOf known values) xs) ≡ some (reads (envOf values) xs)
 inputs-known known values [] h = refl
 inputs-known known values (x ∷ xs) h =
-    ap (λ (t : Bool). allKnown (cond t (some (getD values x 0)) none ∷ reads (knownOf known values) xs)) (and-l (marked known x) (allMarked (marked known) xs) h)
-    ∙ ap (consO (getD values x 0)) (inputs-known known values xs (and-r (marked known x) (allMarked (marked known) xs) h))
+    ap (λ (t : Bool). allKnown (cond t (some (getD values x 0)) none ∷ reads (knownOf known values) xs)) (and-l (known x) (everyIn xs known) h)
+    ∙ ap (consO (getD values x 0)) (inputs-known known values xs (and-r (known x) (everyIn xs known) h))
 
-inputs-unknown : (known values xs : List ℕ) → allMarked (marked known) xs ≡ false → allKnown (reads (knownOf known values) xs) ≡ none
+inputs-unknown : (known : Vars) (values xs : List ℕ) → everyIn xs known ≡ false → allKnown (reads (knownOf known values) xs) ≡ none
 inputs-unknown known values [] h = absurd (true≢false h)
-inputs-unknown known values (x ∷ xs) h = go (marked known x) h (inputs-unknown known values xs)
+inputs-unknown known values (x ∷ xs) h = go (known x) h (inputs-unknown known values xs)
   where
-    go : (t : Bool) → (t && allMarked (marked known) xs) ≡ false → (allMarked (marked known) xs ≡ false → allKnown (reads (knownOf known values) xs) ≡ none)
+    go : (t : Bool) → (t && everyIn xs known) ≡ false → (everyIn xs known ≡ false → allKnown (reads (knownOf known values) xs) ≡ none)
         → allKnown (cond t (some (getD values x 0)) none ∷ reads (knownOf known values) xs) ≡ none
     go true e ih = ap (consO (getD values x 0)) (ih e)
     go false e ih = refl
@@ -94,12 +94,12 @@ pub computed-at : {b : List ℕ} {p k e : ℕ} → Stands rowOf b p k → e ≡ 
 computed-at {e = e} s q h = record { stands = s; role-is = ap (λ (row : Row). row .role) ((digits kindTable q) .row) ∙ computing-role (roleNo (roleIn e)) h }
 
 -- what it is known to state
-module _ {b : List ℕ} {p k : ℕ} (c : Computed b p k) {e : ℕ} (q : e ≡ getD kindTable k 0) (known values : List ℕ) {n m : ℕ} {t : Bool}
-    (en : n ≡ outsIn e) (em : m ≡ insIn e) (w : t ≡ allMarked (marked known) (bytesAt b (p + 1 + n) m)) where
-  these : t ≡ allMarked (marked known) (inputsAt b p k)
+module _ {b : List ℕ} {p k : ℕ} (c : Computed b p k) {e : ℕ} (q : e ≡ getD kindTable k 0) (known : Vars) (values : List ℕ) {n m : ℕ} {t : Bool}
+    (en : n ≡ outsIn e) (em : m ≡ insIn e) (w : t ≡ everyIn (bytesAt b (p + 1 + n) m) known) where
+  these : t ≡ everyIn (inputsAt b p k) known
   these =
       let z : p + 1 + n ≡ p + 2 = omega (arith, one-output k q (c .role-is)) in
-      w ∙ ap₂ (λ (i j : ℕ). allMarked (marked known) (bytesAt b i j)) z (em ∙ sym ((digits kindTable q) .ins))
+      w ∙ ap₂ (λ (i j : ℕ). everyIn (bytesAt b i j) known) z (em ∙ sym ((digits kindTable q) .ins))
 
   stated-is : statedBy (knownOf known values) (recordAt rowOf b p) ≡ bindO (statesAt b p k) (allKnown (reads (knownOf known values) (inputsAt b p k)))
   stated-is = rw (ap foldableRow (row-at (c .stands)) ∙ computing-folds k (c .role-is), pure-view (c .stands) (c .role-is))
@@ -111,7 +111,7 @@ module _ {b : List ℕ} {p k : ℕ} (c : Computed b p k) {e : ℕ} (q : e ≡ ge
   unknown-states h = record { states-so = stated-is ∙ ap (bindO (statesAt b p k)) (inputs-unknown known values (inputsAt b p k) (sym these ∙ h)) }
 
 -- no other op is known to state anything
-pub others-state : {b : List ℕ} {p k e : ℕ} → Stands rowOf b p k → e ≡ getD kindTable k 0 → (known values : List ℕ) → isComputing (roleNo (roleIn e)) ≡ false
+pub others-state : {b : List ℕ} {p k e : ℕ} → Stands rowOf b p k → e ≡ getD kindTable k 0 → (known : Vars) (values : List ℕ) → isComputing (roleNo (roleIn e)) ≡ false
     → StatesKnown b p known values NoResult
 others-state {b} {p} s q known values h = record { states-so = rw (its-role s q, h) }
 
@@ -124,7 +124,7 @@ rule-is k o = go (foldableRow (rowAt rowOf o)) (bindO (stated (viewOf document01
     go false x = refl
 
 -- an op that is known to state a value
-module _ {b : List ℕ} {p : ℕ} (s : Stands rowOf b p (getD b p 0)) {known values : List ℕ} {r : Stated} {x : ℕ} (w : StatesKnown b p known values r) (e : r ≡ Value x) where
+module _ {b : List ℕ} {p : ℕ} (s : Stands rowOf b p (getD b p 0)) {known : Vars} {values : List ℕ} {r : Stated} {x : ℕ} (w : StatesKnown b p known values r) (e : r ≡ Value x) where
   value-so : statedBy (knownOf known values) (recordAt rowOf b p) ≡ some (x ∷ [])
   value-so = w .states-so ∙ ap valuesOf e
 
@@ -147,7 +147,7 @@ module _ {b : List ℕ} {p : ℕ} (s : Stands rowOf b p (getD b p 0)) {known val
       go (some xs) h =
           const-view lawful (recordAt rowOf b p) xs (x ∷ []) may-fold h ∙ ap (λ (n : ℕ). calc (n ∷ []) [] (λ ys. some (x ∷ []))) (byte s 1 (body-from computing (getD b p 0) computes-so))
 
-  pub folds-value : {known′ values′ : List ℕ} → knownOf known′ values′ ≡ upd (knownOf known values) (at b (p + 1)) (some x) → Folds b p known values known′ values′ (Value x)
+  pub folds-value : {known′ : Vars} {values′ : List ℕ} → knownOf known′ values′ ≡ upd (knownOf known values) (at b (p + 1)) (some x) → Folds b p known values known′ values′ (Value x)
   folds-value u =
       record {
         rule-so = rule-is (knownOf known values) (recordAt rowOf b p) ∙ ap (tried (tcg document01) (folding document01) (recordAt rowOf b p)) value-so;
@@ -159,9 +159,9 @@ no-value : (x : ℕ) → NoResult ≡ Value x → ⊥
 no-value x e = let z : _≡_ {A = ℕ} 0 1 = cc in omega arith
 
 -- any other op stays
-pub folds-none : {b : List ℕ} {p : ℕ} {known values known′ values′ : List ℕ} → StatesKnown b p known values NoResult
+pub folds-none : {b : List ℕ} {p : ℕ} {known known′ : Vars} {values values′ : List ℕ} → StatesKnown b p known values NoResult
     → Stays b p known values known′ values′ → Folds b p known values known′ values′ NoResult
-folds-none {b} {p} {known} {values} w u =
+folds-none {b} {p} {known} {values = values} w u =
     record {
       rule-so = rule-is (knownOf known values) (recordAt rowOf b p) ∙ ap (tried (tcg document01) (folding document01) (recordAt rowOf b p)) (w .states-so);
       known-so = u .known-after;
@@ -184,11 +184,11 @@ impure (flow ins c y) h none = refl
 impure (flow ins c y) h (some xs) = refl
 
 -- what is known after an op that stays, by the number of its role
-module _ {b : List ℕ} {p k : ℕ} (s : Stands rowOf b p k) {e n : ℕ} (q : e ≡ getD kindTable k 0) (m : n ≡ numberOf (roleNo (roleIn e))) (known values : List ℕ) where
+module _ {b : List ℕ} {p k : ℕ} (s : Stands rowOf b p k) {e n : ℕ} (q : e ≡ getD kindTable k 0) (m : n ≡ numberOf (roleNo (roleIn e))) (known : Vars) (values : List ℕ) where
   pub is-constant : n ≡ 8 → roleOf rowOf k ≡ constant
   is-constant h = role-by constant k q m h
 
-  pub over-constant : {known′ values′ : List ℕ} {x : ℕ} → n ≡ 8 → x ≡ lowFirst b (p + 2) 8 → knownOf known′ values′ ≡ upd (knownOf known values) (at b (p + 1)) (some x)
+  pub over-constant : {known′ : Vars} {values′ : List ℕ} {x : ℕ} → n ≡ 8 → x ≡ lowFirst b (p + 2) 8 → knownOf known′ values′ ≡ upd (knownOf known values) (at b (p + 1)) (some x)
       → Stays b p known values known′ values′
   over-constant h y u =
       record { known-after = u ∙ ap (λ (z : ℕ). upd (knownOf known values) (at b (p + 1)) (some z)) y ∙ sym (ap (learned (knownOf known values)) (constant-view s (is-constant h))) }
@@ -196,7 +196,7 @@ module _ {b : List ℕ} {p k : ℕ} (s : Stands rowOf b p k) {e n : ℕ} (q : e 
   closing : closes (viewOf document01 (recordAt rowOf b p)) ≡ isClosing (roleNo (roleIn e))
   closing = closes-at document01 (recordAt rowOf b p) ∙ ap isClosing (its-role s q)
 
-  pub over-end : {known′ : List ℕ} → n < 6 → known′ ≡ replicate 256 0 → Stays b p known values known′ values
+  pub over-end : {known′ : Vars} → n < 6 → known′ ≡ empty → Stays b p known values known′ values
   over-end h z = record { known-after = none-known values z ∙ rw (closing ∙ lt-ltb (numberOf (roleNo (roleIn e))) 6 (omega arith)) }
 
   module _ (h : 6 ≤ n) (i : n ≡ 8 → ⊥) (w : StatesKnown b p known values NoResult) where
@@ -213,7 +213,7 @@ module _ {b : List ℕ} {p k : ℕ} (s : Stands rowOf b p k) {e n : ℕ} (q : e 
             rw (ap foldableRow (row-at s) ∙ computing-folds k (role-by computing k q m nine)) at (w .states-so)
         go (inr t) = impure (viewOf document01 o) (pure-at document01 o ∙ ap isPure (its-role s q) ∙ t) (allKnown (reads (knownOf known values) (inputs (viewOf document01 o))))
 
-    pub over-others : {known′ : List ℕ} → marked known′ ≡ without (marked known) (bytesAt b (p + 1) (outsIn e)) → Stays b p known values known′ values
+    pub over-others : {known′ : Vars} → known′ ≡ without known (bytesAt b (p + 1) (outsIn e)) → Stays b p known values known′ values
     over-others {known′} u =
         let stays : isClosing (roleNo (roleIn e)) ≡ false = le-ltb (numberOf (roleNo (roleIn e))) 6 (omega arith) in
         let outs : outputs (viewOf document01 o) ≡ bytesAt b (p + 1) (outsIn e) =

@@ -2,12 +2,13 @@ pub mod Result
 pub mod Alike
 pub mod Demand
 pub mod Stores
-pub mod Emitting
 pub mod Bytes
+pub mod Constants
 pub mod Liveness
 pub mod Before
 pub mod Pruning
 pub mod Knowing
 pub mod Forward
+pub mod Emitting
 pub mod Passing
 pub mod Promise

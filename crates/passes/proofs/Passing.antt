@@ -1,32 +1,36 @@
--- The pass of a block: its ops' places, its declarations' bytes, and the result in the buffer. Assumes nothing.
-use mathlib.Core.Path.{_≡_, refl, sym, ap, ap₂, _∙_}
+-- The pass of a block: its declarations' bytes, and the result in the buffer. Assumes nothing.
+use mathlib.Core.Path.{_≡_, refl, sym, ap, ap₂, _∙_, subst, fun-ext}
 use mathlib.Core.Bool.{Bool, true, false, cond}
 use mathlib.Core.List.{List, [], _∷_, _++_, append-assoc}
 use Prim.Native.Nat.{ℕ, zero, suc, _+_, _*_, _≤_, _<_}
 use native.Mathlib.Omega.{arith}
 use lib.Dec.{ltb}
-use lib.ListN.{length, getD, take, drop, length-append, take-append-drop}
+use lib.ListN.{length, take, drop, length-append, take-append-drop}
 use lib.Seq.{take-at, length-take-le, sets, length-sets, sets-eq}
 use borrow.Author.Tests.{lt-leb}
-use native.Mathlib.Nat.{zero-add, mod-eq-of-lt}
+use native.Mathlib.Nat.{zero-add}
+use Rattle.theory.specs.Fold.{nothing}
 use Rattle.theory.specs.Prune.{prune}
+use Rattle.theory.specs.Sets.{Vars}
 use Rattle.ops.specs.Rows.{known, bodyLength}
 use Rattle.ops.specs.Ops.{tcg}
 use Rattle.ops.specs.Kinds.{rowOf, document01}
 use Rattle.block.specs.Checks.{checkOf}
 use Rattle.block.specs.Records.{Cut, stray, cons, cutBy, cutOf, recordsOf, concat, declarations, opsFrom, classesOf}
-use Rattle.block.specs.Rules.{start, globalsIn, keptIn}
-use Rattle.block.specs.Scan.{placesFrom, recordsAt, Approved, Scanned, rejected, approved}
+use Rattle.block.specs.Rules.{start as unread, globalsIn, keptIn}
+use Rattle.block.specs.Scan.{recordsAt, Approved, Scanned, rejected, approved}
 use Rattle.block.proofs.Checker.{declaredIn, few-ops}
-use Rattle.block.proofs.Cut.{split-records}
+use Rattle.block.proofs.Cut.{AllWhole, cut-concat, split-records}
 use Rattle.block.proofs.Parts.{Parts, parts}
-use Rattle.block.proofs.Places.{spanOf, records-from, places-at}
-use Rattle.passes.specs.Choose.{chosenFrom, keptFrom, bytesFrom, Chosen}
-use Rattle.passes.specs.Knows.{FoldsAll}
-use Rattle.passes.specs.Live.{Declared, Keeps}
+use Rattle.runs.proofs.Ran.{global-few}
+use Rattle.passes.specs.Knows.{foldedOps}
+use Rattle.passes.specs.Laid.{Laid, keptFrom}
+use Rattle.passes.specs.Live.{Keeps}
 use Rattle.passes.specs.Passes.{passOps, resultOf, Passed, passRefused, written, passChecked, passOf, passBy}
 use Rattle.passes.specs.Ready.{Ready}
-use Rattle.passes.proofs.Result.{declarations-size, ops-size, concat-append, parts-size, kept-parts, result-of, pass-answers}
+use Rattle.passes.proofs.Forward.{left-wholes}
+use Rattle.passes.proofs.Liveness.{globals-first}
+use Rattle.passes.proofs.Result.{declarations-size, concat-append, parts-size, kept-parts, result-of, pass-answers}
 use Rattle.passes.proofs.Stores.{sets-append}
 use Rattle.block.specs.declared.Verdict.the-variants.{Refused as CheckRefused}
 use Rattle.passes.specs.declared.Written.the-variants.{Refused, Length}
@@ -64,7 +68,7 @@ classes-length [] = refl
 classes-length (d ∷ ds) = ap suc (classes-length ds)
 
 -- an accepted block
-module _ {block places classes : List ℕ} {ops n : ℕ} (r : Ready block places classes ops n) where
+module _ {block : List ℕ} {glob kept : Vars} {start ops : ℕ} (r : Ready block glob kept start ops) where
   abbrev ds : List (List ℕ)
   ds = declarations (recordsOf rowOf block)
 
@@ -73,11 +77,6 @@ module _ {block places classes : List ℕ} {ops n : ℕ} (r : Ready block places
 
   its-parts : Parts document01 block ds os
   its-parts = parts lawful block (r .accepted)
-
-  long-declared : length (concat ds) ≡ 3 * n
-  long-declared =
-      let l : length (take n classes) ≡ n = length-take-le n classes (omega (arith, r .few, r .long)) in
-      declarations-size lawful ds (its-parts .wholes .0) (its-parts .all-declared) ∙ ap (λ (m : ℕ). 3 * m) (sym (classes-length ds) ∙ ap length (r .classes-are) ∙ l)
 
   split-bytes : (rest : List ℕ) × (concat ds ++ rest ≡ block)
   split-bytes =
@@ -88,16 +87,19 @@ module _ {block places classes : List ℕ} {ops n : ℕ} (r : Ready block places
       )
 
   -- its declarations are its first bytes
-  declared-bytes : take (3 * n) block ≡ concat ds
-  declared-bytes = ap (take (3 * n)) (sym (split-bytes .1)) ∙ take-at (concat ds) (split-bytes .0) (3 * n) long-declared
+  declared-bytes : take start block ≡ concat ds
+  declared-bytes = ap (take start) (sym (split-bytes .1)) ∙ take-at (concat ds) (split-bytes .0) start (sym (r .start-is))
 
-  pub declared-fit : 3 * n ≤ length block
-  declared-fit = omega (arith, long-declared, length-append (concat ds) (split-bytes .0), ap length (split-bytes .1))
+  pub declared-fit : start ≤ length block
+  declared-fit = omega (arith, r .start-is, length-append (concat ds) (split-bytes .0), ap length (split-bytes .1))
 
-  pub its-variables : Declared classes n
-  its-variables = record { few = omega (arith, r .few); long = r .long }
+  pub count-here : ops ≡ length (recordsAt rowOf block start)
+  count-here = r .count-is ∙ ap length (sym (r .ops-are))
 
-  pub result-small : length (resultOf document01 block) ≤ 2752
+  pub few-here : ops ≤ 256
+  few-here = omega (arith, r .count-is, few-ops document01 (declaredIn unread ds) os (its-parts .checked) (omega arith))
+
+  result-small : length (resultOf document01 block) ≤ 2752
   result-small =
       let e : resultOf document01 block ≡ concat (ds ++ passOps document01 (classesOf ds) os) = result-of block ds os its-parts in
       let b = parts-size lawful (concat (ds ++ passOps document01 (classesOf ds) os)) ds (passOps document01 (classesOf ds) os) ((kept-parts lawful block ds os its-parts) .1) in
@@ -109,92 +111,95 @@ module _ {block places classes : List ℕ} {ops n : ℕ} (r : Ready block places
       ap (passChecked (resultOf document01 block) out) (r .accepted)
       ∙ ap (λ (b : Bool). cond b (written (resultOf document01 block) out) (passRefused 12 0 out)) (lt-leb (length (resultOf document01 block)) (length out) l)
 
-  -- what fold and prune leave in the arrays
-  module _ {folded consts : List ℕ} (f : FoldsAll block folded consts) where
-    pub its-choice : Chosen block places folded ops
-    its-choice = record { here = r .here; only = f .only-computes }
+  -- what fold leaves
+  module _ {bytes places : List ℕ} (f : Laid bytes places (foldedOps (recordsAt rowOf block start)) ops) where
+    records-are : recordsOf rowOf bytes ≡ foldedOps (recordsAt rowOf block start)
+    records-are =
+        ap (λ (x : List ℕ). recordsOf rowOf x) (f .bytes-are)
+        ∙ ap (λ (c : Cut). c .records)
+        (cut-concat rowOf (foldedOps (recordsAt rowOf block start)) (left-wholes (recordsAt rowOf block start) nothing (subst (AllWhole rowOf) (sym (r .ops-are)) (its-parts .wholes .1)) .0))
 
-    module _ {keep : List ℕ} (k : Keeps block folded (take n classes) keep) {size : ℕ} (s : (values : List ℕ) → size ≡ length (bytesFrom 0 folded values keep os)) where
-      abbrev bytes : List ℕ
-      bytes = bytesFrom 0 folded consts keep os
+    pub its-ops : Laid bytes places (recordsOf rowOf bytes) ops
+    its-ops = subst (λ (xs : List (List ℕ)). Laid bytes places xs ops) (sym records-are) f
 
-      kept-ops : keptFrom 0 keep (chosenFrom 0 folded consts os) ≡ passOps document01 (classesOf ds) os
+    -- and what prune keeps of it
+    module _ {keep : List ℕ} {size : ℕ} (k : Keeps (recordsOf rowOf bytes) glob kept keep size) where
+      abbrev left : List ℕ
+      left = concat (keptFrom 0 keep (recordsOf rowOf bytes))
+
+      kept-ops : keptFrom 0 keep (recordsOf rowOf bytes) ≡ passOps document01 (classesOf ds) os
       unfolding passOps
       kept-ops =
-          k .kept-are consts ∙ ap (λ (x : List (List ℕ)). prune (tcg document01) (globalsIn (take n classes)) (keptIn (take n classes)) x) (f .chosen-are)
-          ∙ ap (λ (x : List ℕ). passOps document01 x os) (sym (r .classes-are))
+          k .kept-are ∙ ap₂ (λ (g m : Vars). prune (tcg document01) g m (recordsOf rowOf bytes)) (r .globals-are) (r .kept-are)
+          ∙ ap (prune (tcg document01) (globalsIn (classesOf ds)) (keptIn (classesOf ds))) (records-are ∙ ap foldedOps (r .ops-are))
 
-      result-is : resultOf document01 block ≡ concat ds ++ bytes
+      result-is : resultOf document01 block ≡ concat ds ++ left
       result-is =
           result-of block ds os its-parts ∙ concat-append ds (passOps document01 (classesOf ds) os) ∙ ap (λ (x : List (List ℕ)). concat ds ++ concat x) (sym kept-ops)
 
-      pub result-size : 3 * n + size ≡ length (resultOf document01 block)
-      result-size = omega (arith, ap length result-is, length-append (concat ds) bytes, long-declared, s consts)
+      result-size : start + size ≡ length (resultOf document01 block)
+      result-size = omega (arith, ap length result-is, length-append (concat ds) left, r .start-is, k .size-is)
+
+      pub size-small : start + size ≤ 2752
+      size-small = omega (arith, result-size, result-small)
 
       -- too short a buffer
-      pub pass-short : {out : List ℕ} → length out < 3 * n + size → (Refused 12 0 ≡ (passOf block out) .answer) × (out ≡ (passOf block out) .out)
+      pub pass-short : {out : List ℕ} → length out < start + size → (Refused 12 0 ≡ (passOf block out) .answer) × (out ≡ (passOf block out) .out)
       pass-short {out} l =
           let e = no-room out (omega (arith, result-size, l)) in (sym (ap (λ (p : Passed). p .answer) e), sym (ap (λ (p : Passed). p .out) e))
 
       -- the declarations are stored, then the kept ops
-      module _ (out : List ℕ) {out₁ : List ℕ} (l : 3 * n + size ≤ length out) (e : out₁ ≡ sets out 0 (take (3 * n) (drop 0 block))) where
-        pub ops-fit : 3 * n + length bytes ≤ length out₁
-        ops-fit = omega (arith, ap length e, length-sets out 0 (take (3 * n) (drop 0 block)), l, s consts)
+      module _ (out : List ℕ) {out₁ : List ℕ} (l : start + size ≤ length out) (e : out₁ ≡ sets out 0 (take start (drop 0 block))) where
+        pub ops-fit : start + length (concat (keptFrom 0 keep (recordsOf rowOf bytes))) ≤ length out₁
+        ops-fit = omega (arith, ap length e, length-sets out 0 (take start (drop 0 block)), l, k .size-is)
 
-        stored : {out₂ : List ℕ} → out₂ ≡ sets out₁ (3 * n) bytes → out₂ ≡ resultOf document01 block ++ drop (length (resultOf document01 block)) out
+        stored : {out₂ : List ℕ} → out₂ ≡ sets out₁ start left → out₂ ≡ resultOf document01 block ++ drop (length (resultOf document01 block)) out
         stored q =
-            q ∙ ap₂ (λ (x : List ℕ) (m : ℕ). sets x m bytes) (e ∙ ap (sets out 0) declared-bytes) (sym (zero-add (length (concat ds)) ∙ long-declared))
-            ∙ sym (sets-append out 0 (concat ds) bytes) ∙ ap (sets out 0) (sym result-is) ∙ sets-eq (resultOf document01 block) out 0 (omega (arith, l, result-size))
+            q ∙ ap₂ (λ (x : List ℕ) (m : ℕ). sets x m left) (e ∙ ap (sets out 0) declared-bytes) (r .start-is ∙ sym (zero-add (length (concat ds))))
+            ∙ sym (sets-append out 0 (concat ds) left) ∙ ap (sets out 0) (sym result-is) ∙ sets-eq (resultOf document01 block) out 0 (omega (arith, l, result-size))
             ∙ ap (λ (m : ℕ). resultOf document01 block ++ drop m out) (zero-add (length (resultOf document01 block)))
 
-        pub pass-stores : {out₂ : List ℕ} → out₂ ≡ sets out₁ (3 * n) bytes → (Length (3 * n + size) ≡ (passOf block out) .answer) × (out₂ ≡ (passOf block out) .out)
+        pub pass-stores : {out₂ : List ℕ} → out₂ ≡ sets out₁ start (concat (keptFrom 0 keep (recordsOf rowOf bytes)))
+            → (Length (start + size) ≡ (passOf block out) .answer) × (out₂ ≡ (passOf block out) .out)
         pass-stores q =
             let a = pass-answers document01 block out (r .accepted) (omega (arith, l, result-size)) in
             (ap Length result-size ∙ sym (ap (λ (p : Passed). p .answer) a), stored q ∙ sym (ap (λ (p : Passed). p .out) a))
 
--- the first ops of several are not longer than all
-span-short : (j : ℕ) (os : List (List ℕ)) → spanOf j os ≤ length (concat os)
-span-short zero os = omega arith
-span-short (suc j) [] = omega arith
-span-short (suc j) (o ∷ os) = omega (arith, span-short j os, length-append o (concat os))
+-- what the scan tells
+module _ {block places₀ classes types places labels : List ℕ} {start n globals ops : ℕ} (a : Approved rowOf block places₀ classes types places labels start n globals ops) where
+  abbrev declared : List (List ℕ)
+  declared = declarations (recordsOf rowOf block)
 
--- the scan's places
-module _ {block places₀ classes types places labels : List ℕ} {first n globals ops : ℕ} (a : Approved rowOf block places₀ classes types places labels first n globals ops) (l : length places₀ ≡ 256) where
-  abbrev found : List (List ℕ)
-  found = opsFrom (recordsOf rowOf block)
-
-  its : Parts document01 block (declarations (recordsOf rowOf block)) found
+  its : Parts document01 block declared (opsFrom (recordsOf rowOf block))
   its = parts lawful block (a .accepted)
 
-  few-found : length found ≤ 256
-  few-found = omega (arith, few-ops document01 (declaredIn start (declarations (recordsOf rowOf block))) found (its .checked) (omega arith))
+  counted : length declared ≡ n
+  counted = sym (classes-length declared) ∙ ap length (a .classes-are) ∙ length-take-le n classes (omega (arith, a .few, a .long-classes))
 
-  place-is : (i : ℕ) → i < ops → getD places i 0 ≡ first + spanOf i found
-  place-is i h =
-      let b : first + spanOf i found < 65536 = omega (arith, span-short i found, ops-size lawful found (its .wholes .1), few-found, a .start-is, a .few) in
-      ap (λ (p : List ℕ). getD p i 0) (a .places-are) ∙ ap (λ (m : ℕ). getD (placesFrom first 0 places₀ found) m 0) (sym (zero-add i))
-      ∙ places-at found first 0 places₀ i (omega (arith, a .count-is)) (omega (arith, few-found, l)) ∙ mod-eq-of-lt b
-
-  ready : Ready block places classes ops n
-  ready =
+  ready : {glob kept : Vars} → ((v : ℕ) → glob v ≡ ltb v globals) → kept ≡ keptIn (take n classes) → Ready block glob kept start ops
+  ready g k =
       record {
         accepted = a .accepted;
-        here =
-            record {
-              count-is = a .count-is;
-              few = omega (arith, few-found, a .count-is);
-              at-op = λ i h. ap (recordsAt rowOf block) (place-is i h) ∙ records-from rowOf block first i found (a .ops-are) (omega (arith, a .count-is));
-            };
-        classes-are = a .classes-are;
-        few = a .few;
-        long = a .long-classes;
+        start-is = a .start-is ∙ sym (declarations-size lawful declared (its .wholes .0) (its .all-declared) ∙ ap (λ (m : ℕ). 3 * m) counted);
+        ops-are = a .ops-are;
+        count-is = a .count-is;
+        globals-are = fun-ext (λ v. g v ∙ ap (ltb v) (a .globals-are) ∙ sym (globals-first rowOf unread declared (its .all-declared) (its .met) v));
+        kept-are = k ∙ ap keptIn (sym (a .classes-are));
       }
 
--- an accepted block, and a refused one
-pub ready-by : {block places₀ classes types places labels : List ℕ} {rule place first n globals ops : ℕ}
-    → Scanned rowOf block places₀ classes types places labels rule place first n globals ops → rule ≡ 0 → length places₀ ≡ 256 → Ready block places classes ops n
-ready-by (rejected z q) e l = absurd (z e)
-ready-by (approved a) e l = ready a l
+  few : (n ≤ 256) × (globals ≤ 256) × (length classes ≡ 256)
+  few = (omega (arith, a .few), omega (arith, a .few, a .globals-are, global-few (classesOf declared), classes-length declared, counted), a .long-classes)
+
+-- of an accepted block, and of a refused one
+module _ {block places₀ classes types places labels : List ℕ} {start n globals ops : ℕ} where
+  pub ready-by : {rule place : ℕ} {glob kept : Vars} → Scanned rowOf block places₀ classes types places labels rule place start n globals ops → rule ≡ 0
+      → ((v : ℕ) → glob v ≡ ltb v globals) → kept ≡ keptIn (take n classes) → Ready block glob kept start ops
+  ready-by (rejected z q) e g k = absurd (z e)
+  ready-by (approved a) e g k = ready a g k
+
+  pub few-by : {rule place : ℕ} → Scanned rowOf block places₀ classes types places labels rule place start n globals ops → rule ≡ 0 → (n ≤ 256) × (globals ≤ 256) × (length classes ≡ 256)
+  few-by (rejected z q) e = absurd (z e)
+  few-by (approved a) e = few a
 
 refused-pass : (block out : List ℕ) (number place : ℕ) → CheckRefused number place ≡ checkOf block → passOf block out ≡ passRefused number place out
 unfolding passBy passChecked

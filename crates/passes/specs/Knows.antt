@@ -1,10 +1,10 @@
--- What fold knows and leaves, as the code's arrays hold it. Assumes nothing.
+-- What fold knows and leaves. Assumes nothing.
 use mathlib.Core.Path.{_≡_}
 use mathlib.Core.Bool.{Bool, true, _&&_, cond}
 use mathlib.Core.Option.{Option, none, some}
 use mathlib.Core.List.{List, [], _∷_}
-use Prim.Native.Nat.{ℕ, _<_}
-use lib.ListN.{length, getD}
+use Prim.Native.Nat.{ℕ}
+use lib.ListN.{getD}
 use Rattle.theory.specs.Machine.{inputs, computes, reads}
 use Rattle.theory.specs.Sets.{Vars}
 use Rattle.theory.specs.Fold.{Known, nothing, put, on, learned, fold, baseRule, bindO, allKnown}
@@ -12,27 +12,25 @@ use Rattle.ops.specs.Rows.{computing}
 use Rattle.ops.specs.Rows.{roleOf}
 use Rattle.ops.specs.Ops.{rowAt, viewOf, tcg, foldableRow, folding}
 use Rattle.ops.specs.Kinds.{rowOf, document01}
-use Rattle.block.specs.Records.{recordsOf, opsFrom}
-use Rattle.block.specs.Scan.{recordAt, marked}
+use Rattle.block.specs.Scan.{recordAt}
 use Rattle.runs.specs.Evaluates.{valuesOf}
-use Rattle.passes.specs.Choose.{pickOp, chosenFrom, FoldsOnly}
 use Rattle.word.specs.declared.Stated.{Stated}
 use Rattle.word.specs.declared.Stated.the-variants.{Value, NoResult}
 
--- the values that are known: those of the variables whose byte is 1
-abbrev pub knownOf : List ℕ → List ℕ → Known ℕ
-knownOf known values = λ v. cond (marked known v) (some (getD values v 0)) none
+-- the values that are known: those of the variables in the set
+abbrev pub knownOf : Vars → List ℕ → Known ℕ
+knownOf known values = λ v. cond (known v) (some (getD values v 0)) none
 
 -- each of the variables is in the set
-abbrev pub allMarked : Vars → List ℕ → Bool
-allMarked l [] = true
-allMarked l (x ∷ xs) = l x && allMarked l xs
+abbrev pub everyIn : List ℕ → Vars → Bool
+everyIn [] l = true
+everyIn (x ∷ xs) l = l x && everyIn xs l
 
 -- what an op that may fold states, where all its inputs are known
 abbrev pub statedBy : Known ℕ → List ℕ → Option (List ℕ)
 statedBy known o = cond (foldableRow (rowAt rowOf o)) (bindO (computes (viewOf document01 o)) (allKnown (reads known (inputs (viewOf document01 o))))) none
 
-pub record StatesKnown (block : List ℕ) (place : ℕ) (known values : List ℕ) (r : Stated) : Type 0 where
+pub record StatesKnown (block : List ℕ) (place : ℕ) (known : Vars) (values : List ℕ) (r : Stated) : Type 0 where
   pub states-so : statedBy (knownOf known values) (recordAt rowOf block place) ≡ valuesOf r
 
 -- the op that fold leaves: the constant where a value is stated
@@ -41,25 +39,15 @@ leftBy (Value x) o = folding document01 .const o x
 leftBy NoResult o = o
 
 -- what is known after an op that stays as it is
-pub record Stays (block : List ℕ) (place : ℕ) (known values known′ values′ : List ℕ) : Type 0 where
+pub record Stays (block : List ℕ) (place : ℕ) (known : Vars) (values : List ℕ) (known′ : Vars) (values′ : List ℕ) : Type 0 where
   pub known-after : knownOf known′ values′ ≡ learned (knownOf known values) (viewOf document01 (recordAt rowOf block place))
 
 -- fold at one op: what it leaves, and what is known after it
-pub record Folds (block : List ℕ) (place : ℕ) (known values known′ values′ : List ℕ) (r : Stated) : Type 0 where
+pub record Folds (block : List ℕ) (place : ℕ) (known : Vars) (values : List ℕ) (known′ : Vars) (values′ : List ℕ) (r : Stated) : Type 0 where
   pub rule-so : baseRule (tcg document01) (folding document01) (knownOf known values) (recordAt rowOf block place) ≡ put (leftBy r (recordAt rowOf block place))
   pub known-so : knownOf known′ values′ ≡ learned (knownOf known values) (viewOf document01 (leftBy r (recordAt rowOf block place)))
   pub only-so : (x : ℕ) → r ≡ Value x → roleOf rowOf (getD block place 0) ≡ computing
 
--- the i-th byte and constant are set so that the op is what fold leaves
-pub record FoldsAt (block : List ℕ) (place i : ℕ) (known values known′ values′ folded consts folded′ consts′ : List ℕ) : Type 0 where
-  pub rule-at : baseRule (tcg document01) (folding document01) (knownOf known values) (recordAt rowOf block place) ≡ put (pickOp (getD folded′ i 0) (getD consts′ i 0) (recordAt rowOf block place))
-  pub known-at : knownOf known′ values′ ≡ learned (knownOf known values) (viewOf document01 (pickOp (getD folded′ i 0) (getD consts′ i 0) (recordAt rowOf block place)))
-  pub only-at : getD folded′ i 0 ≡ 1 → roleOf rowOf (getD block place 0) ≡ computing
-  pub others : (j : ℕ) → j < i → (getD folded′ j 0 ≡ getD folded j 0) × (getD consts′ j 0 ≡ getD consts j 0)
-  pub long-folded : length folded′ ≡ length folded
-  pub long-consts : length consts′ ≡ length consts
-
--- the ops that fold leaves are those that the bytes and constants choose
-pub record FoldsAll (block folded consts : List ℕ) : Type 0 where
-  pub chosen-are : chosenFrom 0 folded consts (opsFrom (recordsOf rowOf block)) ≡ fold (tcg document01) (baseRule (tcg document01) (folding document01)) (opsFrom (recordsOf rowOf block)) (on nothing)
-  pub only-computes : FoldsOnly folded (opsFrom (recordsOf rowOf block))
+-- the ops that fold leaves
+abbrev pub foldedOps : List (List ℕ) → List (List ℕ)
+foldedOps os = fold (tcg document01) (baseRule (tcg document01) (folding document01)) os (on nothing)

@@ -1,6 +1,6 @@
 pub mod Passes
 pub mod Demand
-pub mod Choose
+pub mod Laid
 pub mod Live
 pub mod Knows
 pub mod Ready

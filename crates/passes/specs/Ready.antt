@@ -1,18 +1,21 @@
--- An accepted block, as the code's arrays hold it. Assumes nothing.
+-- An accepted block, as the scan tells it. Assumes nothing.
 use mathlib.Core.Path.{_≡_}
 use mathlib.Core.List.{List}
-use Prim.Native.Nat.{ℕ, _≤_}
-use lib.ListN.{length, take}
+use Prim.Native.Nat.{ℕ}
+use lib.ListN.{length}
+use Rattle.theory.specs.Sets.{Vars}
 use Rattle.block.specs.Checks.{checkOf}
-use Rattle.block.specs.Records.{recordsOf, declarations, opsFrom, classesOf}
+use Rattle.block.specs.Records.{recordsOf, concat, declarations, opsFrom, classesOf}
+use Rattle.block.specs.Rules.{globalsIn, keptIn}
+use Rattle.block.specs.Scan.{recordsAt}
 use Rattle.block.specs.declared.Verdict.the-variants.{Accepted}
-use Rattle.passes.specs.Choose.{OpsHere}
 use Rattle.ops.specs.Kinds.{rowOf}
 
--- the places of its ops, and the classes of its n variables
-pub record Ready (block places classes : List ℕ) (ops n : ℕ) : Type 0 where
+-- where its ops start and how many there are, its globals, and its variables that outlive a basic block
+pub record Ready (block : List ℕ) (globals kept : Vars) (start ops : ℕ) : Type 0 where
   pub accepted : checkOf block ≡ Accepted
-  pub here : OpsHere block places (opsFrom (recordsOf rowOf block)) ops
-  pub classes-are : classesOf (declarations (recordsOf rowOf block)) ≡ take n classes
-  pub few : n ≤ 64
-  pub long : length classes ≡ 256
+  pub start-is : start ≡ length (concat (declarations (recordsOf rowOf block)))
+  pub ops-are : recordsAt rowOf block start ≡ opsFrom (recordsOf rowOf block)
+  pub count-is : ops ≡ length (opsFrom (recordsOf rowOf block))
+  pub globals-are : globals ≡ globalsIn (classesOf (declarations (recordsOf rowOf block)))
+  pub kept-are : kept ≡ keptIn (classesOf (declarations (recordsOf rowOf block)))

@@ -36,7 +36,7 @@ ops-ran {b} {values} {memory} {values′} {memory′} {ending} globals globals�
     ∙ ap (λ (f : ℕ → ℕ). ranOf document01 (length os) (length globals) (opsRun document01 os (record { env = f; mem = memory }))) e
 
 -- the globals are some of the variables
-global-few : (cs : List ℕ) → globalCount cs ≤ length cs
+pub global-few : (cs : List ℕ) → globalCount cs ≤ length cs
 global-few [] = omega arith
 global-few (c ∷ cs) = go (eqb c 0) (global-few cs)
   where

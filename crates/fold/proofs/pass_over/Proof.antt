@@ -5,6 +5,7 @@ use lib.ListN.{getD}
 use Rattle.ops.specs.Rows.{constant}
 use Rattle.ops.specs.Rows.{roleOf}
 use Rattle.ops.specs.Kinds.{rowOf}
+use Rattle.sets.specs.Words.{members}
 use Rattle.block.proofs.Views.{inside}
 use Rattle.passes.proofs.Before.{operands-inside}
 use Rattle.passes.proofs.Knowing.{is-constant, over-constant, over-end, over-others}
@@ -14,7 +15,7 @@ use Rattle.fold.proofs.pass_over.Tie as tie
 
 -- past the first test
 constant-so : (r : tie.After-role) → r .role .result ≡ 8 → (let a = r .before .before .args in roleOf rowOf (getD (a .block .now) (a .at) 0) ≡ constant)
-constant-so r h = let start = r .before .before in is-constant (start .pre .0) (start .pre .1) (r .role .ensures) (start .args .known .now) (start .args .values .now) h
+constant-so r h = let start = r .before .before in is-constant (start .pre .0) (start .pre .1) (r .role .ensures) (members (start .args .known .now)) (start .args .values .now) h
 
 role-requires : tie.Need-role-requires
 role-requires c κs = search needs
@@ -37,30 +38,30 @@ learn-requires c κs = search needs
 returns : tie.Need-returns
 returns c =
     let start = c .before .before .before .before .before .before .before .before in
-    over-constant (start .pre .0) (start .pre .1) (c .before .before .before .before .before .before .role .ensures) (start .args .known .now) (start .args .values .now) (c .before .before .before .before .before .if1 .taken) (c .before .low-first .ensures .0) (c .learn .ensures)
+    over-constant (start .pre .0) (start .pre .1) (c .before .before .before .before .before .before .role .ensures) (members (start .args .known .now)) (start .args .values .now) (c .before .before .before .before .before .if1 .taken) (c .before .low-first .ensures .0) (c .learn .ensures)
 
-clear-requires : tie.Need-clear-requires
-clear-requires c κs = search needs
+empty-requires : tie.Need-empty-requires
+empty-requires c κs = search needs
 
 returns-2 : tie.Need-returns-2
 returns-2 c =
-    let start = c .before .before .before .before .before .before in
-    over-end (start .pre .0) (start .pre .1) (c .before .before .before .before .role .ensures) (start .args .known .now) (start .args .values .now) (c .before .before .if2 .taken) (c .clear .ensures)
+    let start = c .before .before .before .before .before in
+    over-end (start .pre .0) (start .pre .1) (c .before .before .before .role .ensures) (members (start .args .known .now)) (start .args .values .now) (c .before .if2 .taken) (c .empty .ensures)
 
-add-unmark-all : tie.Need-add-unmark-all
-add-unmark-all c = search needs
+add-remove-all : tie.Need-add-remove-all
+add-remove-all c = search needs
 
 outs-requires : tie.Need-outs-requires
 outs-requires c κs = search needs
 
-unmark-all-requires : tie.Need-unmark-all-requires
-unmark-all-requires c κs = omega (arith, operands-inside (c .before .before .before .before .before .before .pre .0) (c .before .before .before .before .before .before .pre .1), c .before .outs .ensures)
+remove-all-requires : tie.Need-remove-all-requires
+remove-all-requires c κs = omega (arith, operands-inside (c .before .before .before .before .before .before .pre .0) (c .before .before .before .before .before .before .pre .1), c .before .outs .ensures)
 
 returns-3 : tie.Need-returns-3
 returns-3 c =
     let start = c .before .before .before .before .before .before .before in
-    over-others (start .pre .0) (start .pre .1) (c .before .before .before .before .before .role .ensures) (start .args .known .now) (start .args .values .now) (c .before .before .before .if2 .left) (c .before .before .before .before .if1 .left) (start .pre .2)
-    (rw (c .before .before .outs .ensures) at (c .unmark-all .ensures))
+    over-others (start .pre .0) (start .pre .1) (c .before .before .before .before .before .role .ensures) (members (start .args .known .now)) (start .args .values .now) (c .before .before .before .if2 .left) (c .before .before .before .before .if1 .left) (start .pre .2)
+    (rw (c .before .before .outs .ensures) at (c .remove-all .ensures))
 
 pub pass-over-spec : {M : Type 1} → statement M
 pass-over-spec =
@@ -73,9 +74,9 @@ pass-over-spec =
     low-first-requires
     learn-requires
     returns
-    clear-requires
+    empty-requires
     returns-2
-    add-unmark-all
+    add-remove-all
     outs-requires
-    unmark-all-requires
+    remove-all-requires
     returns-3)
