@@ -8,16 +8,16 @@ use native.Mathlib.Omega.{arith}
 use native.Mathlib.Nat.{add-zero, zero-add, suc-add}
 use lib.Dec.{eqb, ltb, leb}
 use lib.ListN.{length, getD, take, drop}
-use borrow.Author.Tests.{eqb-true, lt-ltb, le-ltb, le-leb, lt-leb, eq-eqb, ne-eqb}
+use borrow.Author.Tests.{eqb-true, lt-ltb, le-ltb, leb-true, leb-false, le-leb, lt-leb, eq-eqb, ne-eqb}
 use Rattle.theory.specs.Sets.{Vars, allIn}
 use Rattle.theory.proofs.Sets.{tell, and-l, and-r}
 use Rattle.ops.specs.Limits.{maxOps}
-use Rattle.ops.specs.Rows.{Table, Row, outsIn, insIn, restIn, testIn, roleIn, typesIn, typesOf, rowIn, roleNo, isKnown, testOk, outputCount, operandTypes, operandCount}
+use Rattle.ops.specs.Rows.{Table, Row, outsIn, insIn, restIn, testIn, roleIn, typesIn, typesOf, rowIn, roleNo, isKnown, isClosing, testOk, outputCount, operandTypes, operandCount}
 use Rattle.ops.specs.Ops.{rowAt, bytesAt, insBy}
 use Rattle.ops.proofs.Entry.{Digits}
 use Rattle.block.specs.Checks.{asks, firstBroken, opRules}
 use Rattle.block.specs.Rules.{Seen, keptIn, allBelow, operandsOf, rule4, haveTypes, rule5, rule6, labelFree, rule7, rule8, rule9}
-use Rattle.block.specs.Scan.{recordAt, Stands, codesIn, codeOf, Coded, fitsAs, operandsFit, declaredAll, numbered, opTests, operandsOk, entryRule, opStands, opOk}
+use Rattle.block.specs.Scan.{recordAt, Stands, codesIn, codeOf, Coded, fitsAs, operandsFit, declaredAll, numbered, opTests, operandsOk, entryRule, opStands, opOk, straightOk}
 use Rattle.block.proofs.Codes.{fit-all}
 use Rattle.block.proofs.Views.{kind-byte, row-at, operand-bytes, input-bytes, label-byte, rule4-at, rule6-at}
 
@@ -159,6 +159,33 @@ module _ (q : Op) where
 
       pub ok-free : {r : Bool} → restOk q ≡ true → r ≡ free q → r ≡ opOk (q .e) (q .b) (q .p) (q .ops) (q .vars) (q .labels)
       ok-free t e = e ∙ rw (lt-ltb (q .ops) maxOps l, f, t)
+
+-- the same where the basic block has to go on
+module _ (q : Op) {stands : Bool} (o : stands ≡ opStands (q .e) (q .b) (q .p)) where
+  pub straight-none : stands ≡ false → false ≡ straightOk (q .e) (q .b) (q .p) (q .ops) (q .vars)
+  straight-none t = rw (sym o ∙ t)
+
+  module _ (t : stands ≡ true) {c : Bool} (z : c ≡ isClosing (roleNo (roleIn (q .e)))) where
+    pub straight-ends : (c || leb 256 (q .ops)) ≡ true → false ≡ straightOk (q .e) (q .b) (q .p) (q .ops) (q .vars)
+    straight-ends = go c refl
+      where
+        go : (k : Bool) → c ≡ k → (k || leb 256 (q .ops)) ≡ true → false ≡ straightOk (q .e) (q .b) (q .p) (q .ops) (q .vars)
+        go true e h = rw (sym o ∙ t, sym z ∙ e)
+        go false e h = rw (sym o ∙ t, sym z ∙ e, le-ltb (q .ops) maxOps (leb-true 256 (q .ops) h))
+
+    goes : (c || leb 256 (q .ops)) ≡ false → (c ≡ false) × (q .ops < 256)
+    goes = go c refl
+      where
+        go : (k : Bool) → c ≡ k → (k || leb 256 (q .ops)) ≡ false → (c ≡ false) × (q .ops < 256)
+        go true e h = absurd (unlike (sym h))
+        go false e h = (e, leb-false 256 (q .ops) h)
+
+    module _ (h : (c || leb 256 (q .ops)) ≡ false) where
+      pub straight-misfit : fit q ≡ false → false ≡ straightOk (q .e) (q .b) (q .p) (q .ops) (q .vars)
+      straight-misfit f = rw (sym o ∙ t, sym z ∙ goes h .0, lt-ltb (q .ops) maxOps (goes h .1), f)
+
+      pub straight-rest : {r : Bool} → fit q ≡ true → r ≡ restOk q → r ≡ straightOk (q .e) (q .b) (q .p) (q .ops) (q .vars)
+      straight-rest f e = e ∙ rw (sym o ∙ t, sym z ∙ goes h .0, lt-ltb (q .ops) maxOps (goes h .1), f)
 
 -- the record's rule, test by test
 module _ (e : ℕ) (b : List ℕ) (p ops : ℕ) (vars labels : List ℕ) where

@@ -6,14 +6,15 @@ use mathlib.Core.List.{List, [], _∷_}
 use Prim.Native.Nat.{ℕ, suc, _+_, _-_, _%_, _≤_, _<_}
 use native.Mathlib.Omega.{arith}
 use lib.Dec.{eqb, ltb, leb}
-use lib.ListN.{length, getD, drop, set, replicate}
+use lib.ListN.{length, getD, take, drop, set, replicate}
 use borrow.Author.Tests.{ltb-true, ltb-false, eqb-true, eqb-false, eq-eqb, ne-eqb, leb-false, le-leb, lt-leb, not-true}
 use native.Mathlib.Nat.{zero-add}
 use native.Mathlib.Numerals.{add-one}
 use Rattle.theory.specs.Sets.{Vars, empty}
 use Rattle.theory.proofs.Sets.{tell, and-l, and-r}
 use Rattle.ops.specs.Rows.{known, bodyLength, Table}
-use Rattle.ops.specs.Rows.{outsIn, insIn, restIn, roleIn, rowIn, Row, roleNo, numberOf, isKnown, isClosing, isSetting, isJumping}
+use Rattle.ops.specs.Limits.{maxOps}
+use Rattle.ops.specs.Rows.{outsIn, insIn, restIn, testIn, testOk, roleIn, rowIn, Row, roleNo, numberOf, isKnown, isClosing, isSetting, isJumping}
 use Rattle.ops.specs.Ops.{kindOf, rowAt, bytesAt, outsBy, insBy, labelBy}
 use Rattle.ops.proofs.Entry.{Digits}
 use Rattle.block.proofs.Codes.{coded-next, codes-closed, codes-open}
@@ -24,7 +25,7 @@ use Rattle.block.specs.Records.{Cut, cons, cutOf, isDeclaration, classOf
 use Rattle.block.specs.Rules.{Seen, allGlobal, allBelow, rule3, rule4, markedBy, rule9, rule10, allSet}
 use Rattle.block.specs.Rules.{rule7end, passed, next}
 use Rattle.block.specs.Scan.{recordAt, Stands, checkAt, codesIn, Coded, openAll, codesBy, marked, numbered, LabelledAs, declaredSeen, recordRule, opTests, operandsOk, entryRule, opStands, opOk}
-use Rattle.block.specs.Scan.{placesFrom, labelsFrom, recordsAt, ScannedBy, refuses-op, accepts-ops, Marks, Begins}
+use Rattle.block.specs.Scan.{placesFrom, labelsFrom, recordsAt, ScannedBy, refuses-op, accepts-ops, Marks, Begins, Reading, ReadsOn, straightOk}
 use Rattle.block.proofs.Accepts.{allMet, none-broken, numbered-rules}
 use Rattle.block.proofs.Fields.{kind-at, below-left}
 use Rattle.block.proofs.MarkSets.{marked-none, numbered-none, labelled-not, target-not}
@@ -110,21 +111,15 @@ op-here T s b p z d = go (isDeclaration (recordAt T b p)) refl (sound-rule T s b
           declared = and-l (rule4 T s (recordAt T b p)) _ (and-r (rule9 s (recordAt T b p)) _ m);
         }
 
--- ops have been read up to a place, and the check goes on from there: what has been seen, and that the arrays hold it
-pub record Reading (T : Table) (b : List ℕ) (start : ℕ) (places₀ base vars labels targets places : List ℕ) (p ops last : ℕ) : Type 0 where
-  pub seen : Seen
-  pub goes-on : checkAt T seen b p ≡ checkBy T b
-  pub coded : Coded vars (seen .classes) (seen .types) (seen .written)
-  pub based : Coded base (seen .classes) (seen .types) empty
-  pub labels-so : seen .labels ≡ numbered labels
-  pub targets-so : seen .targets ≡ marked targets
-  pub ops-so : seen .ops ≡ ops
-  pub last-so : seen .last ≡ last
-  pub count : length (recordsAt T b start) ≡ ops + length (recordsAt T b p)
-  pub places-are : placesFrom start 0 places₀ (recordsAt T b start) ≡ placesFrom p ops places (recordsAt T b p)
-  pub labels-are : labelsFrom T 0 (replicate 256 0) (recordsAt T b start) ≡ labelsFrom T ops labels (recordsAt T b p)
-  pub first-op : ops ≡ 0 → p < length b → getD b p 0 ≡ 1 → ⊥
-  pub few : ops ≤ 256
+-- an op that stands at a place is inside
+stands-inside : (e : ℕ) (b : List ℕ) (p : ℕ) → opStands e b p ≡ true → p + (outsIn e + insIn e + restIn e) < length b
+stands-inside e b p k =
+    let long : Bool = leb (length b - p) (outsIn e + insIn e + restIn e) in
+    let l = and-r (isKnown (roleNo (roleIn e))) (not long) (and-l (isKnown (roleNo (roleIn e)) && not long) (not (eqb (getD b p 0) 1)) k) in
+    omega (arith, leb-false (length b - p) (outsIn e + insIn e + restIn e) (not-true long l))
+
+pub op-inside : (e : ℕ) (b : List ℕ) (p : ℕ) {stands : Bool} → stands ≡ opStands e b p → stands ≡ true → p + (outsIn e + insIn e + restIn e) < length b
+op-inside e b p o t = stands-inside e b p (sym o ∙ t)
 
 -- the record there breaks no rule
 module _ {T : Table} {b : List ℕ} {start : ℕ} {places₀ base vars labels targets places : List ℕ} {p ops last : ℕ}
@@ -197,12 +192,6 @@ module _ {T : Table} {b : List ℕ} {start : ℕ} {places₀ base vars labels ta
 
         pub sound-at : ok ≡ true → Sound s
         sound-at k = record { here = h; sound = entry-rule ∙ op-fits here (sym o ∙ t) (sym f ∙ k) }
-
-      pub op-inside : stands ≡ true → p + (outsIn e + insIn e + restIn e) < length b
-      op-inside t =
-          let k : (isKnown (roleNo (roleIn e)) && not (leb (length b - p) (outsIn e + insIn e + restIn e)) && not (eqb (getD b p 0) 1)) ≡ true = sym o ∙ t in
-          let l = and-r (isKnown (roleNo (roleIn e))) (not (leb (length b - p) (outsIn e + insIn e + restIn e))) (and-l (isKnown (roleNo (roleIn e)) && not (leb (length b - p) (outsIn e + insIn e + restIn e))) (not (eqb (getD b p 0) 1)) k) in
-          omega (arith, leb-false (length b - p) (outsIn e + insIn e + restIn e) (not-true (leb (length b - p) (outsIn e + insIn e + restIn e)) l))
 
 module _ {T : Table} {b : List ℕ} {start : ℕ} {places₀ base vars labels targets places : List ℕ} {p ops last : ℕ}
     {s : Reading T b start places₀ base vars labels targets places p ops last} (k : Sound s) where
@@ -361,3 +350,37 @@ module _ {T : Table} {b : List ℕ} {p k e : ℕ} (s : Stands T b p k) (d : Digi
         → marked targets′ ≡ markedBy (isJumping (roleNo (roleIn e))) (marked targets) (getD b (p + (outsIn e + insIn e + restIn e)) 0)
         → Marks T (recordAt T b p) op base vars vars′ labels labels′ targets targets′
     marks-closed c w l u = marks-by (codes-closed (rowIn e) (codesIn base) (codesIn vars) (bytesAt b (p + 1) (outsIn e)) z c (ap codesIn w)) l u
+
+-- an op after which its basic block goes on
+pub record Straight (e : ℕ) (b : List ℕ) (p ops : ℕ) (vars : List ℕ) : Type 0 where
+  pub stands : opStands e b p ≡ true
+  pub goes : isClosing (roleNo (roleIn e)) ≡ false
+  pub met : (labels : List ℕ) → opOk e b p ops vars labels ≡ true
+
+pub straight : (e : ℕ) (b : List ℕ) (p ops : ℕ) (vars : List ℕ) {r : Bool} → r ≡ straightOk e b p ops vars → r ≡ true → Straight e b p ops vars
+straight e b p ops vars q t =
+    let rules : Bool = ltb ops maxOps && operandsOk e b p vars && testOk (testIn e) (take (restIn e) (drop (p + 1 + (outsIn e + insIn e)) b)) in
+    let both = and-l (opStands e b p && not (isClosing (roleNo (roleIn e)))) rules (sym q ∙ t) in
+    let goes = not-true (isClosing (roleNo (roleIn e))) (and-r (opStands e b p) (not (isClosing (roleNo (roleIn e)))) both) in
+    let n = numberOf (roleNo (roleIn e)) in
+    let l = ltb-false n 6 goes in
+    record {
+      stands = and-l (opStands e b p) (not (isClosing (roleNo (roleIn e)))) both;
+      goes = goes;
+      met = λ labels. rw (and-r (opStands e b p && not (isClosing (roleNo (roleIn e)))) rules (sym q ∙ t), ne-eqb n 2 (λ z. omega (arith, l)), ne-eqb n 3 (λ z. omega (arith, l)), ne-eqb n 5 (λ z. omega (arith, l)));
+    }
+
+module _ {T : Table} {e : ℕ} {b : List ℕ} {p ops : ℕ} {vars : List ℕ} (d : Digits T e (getD b p 0)) (h : p < length b) (k : Straight e b p ops vars) where
+  pub straight-inside : p + (outsIn e + insIn e + restIn e) < length b
+  straight-inside = stands-inside e b p (k .stands)
+
+  pub straight-few : ops < 256
+  straight-few =
+      ltb-true ops maxOps (and-l (ltb ops maxOps) _ (and-l (ltb ops maxOps && operandsOk e b p vars) _ (and-l (ltb ops maxOps && operandsOk e b p vars && testOk (testIn e) (take (restIn e) (drop (p + 1 + (outsIn e + insIn e)) b))) _ (k .met []))))
+
+  pub straight-next : {vars′ places : List ℕ} {n m last : ℕ} → n ≡ outsIn e → m ≡ outsIn e + insIn e + restIn e → codesIn vars′ ≡ openAll (codesIn vars) (bytesAt b (p + 1) n)
+      → (start : ℕ) (places₀ base labels targets : List ℕ) → Reading T b start places₀ base vars labels targets places p ops last
+      → Reading T b start places₀ base vars′ labels targets (set places ops (p % 65536)) (p + (1 + m)) (ops + 1) (getD b p 0)
+  straight-next n m w start places₀ base labels targets s =
+      let sound = sound-at s h d refl (k .stands) refl (k .met labels) in
+      again-at sound (m ∙ sym (d .body)) _ labels targets (marks-open (stands-at sound) d refl labels targets (k .goes) n w)

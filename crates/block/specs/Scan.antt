@@ -159,6 +159,12 @@ opOk e block place ops vars labels =
     ltb ops maxOps && operandsOk e block place vars && testOk (testIn e) (take (restIn e) (drop (place + 1 + (outsIn e + insIn e)) block))
     && labelFree (rowIn e) (numbered labels) (getD block (place + (outsIn e + insIn e + restIn e)) 0)
 
+-- and its basic block goes on after it
+abbrev pub straightOk : ℕ → List ℕ → ℕ → ℕ → List ℕ → Bool
+straightOk e block place ops vars =
+    opStands e block place && not (isClosing (roleNo (roleIn e)))
+    && (ltb ops maxOps && operandsOk e block place vars && testOk (testIn e) (take (restIn e) (drop (place + 1 + (outsIn e + insIn e)) block)))
+
 -- the places of ops that start at a place, the first of them the i-th; and the labels' numbers
 unfoldable pub placesFrom : ℕ → ℕ → List ℕ → List (List ℕ) → List ℕ
 placesFrom place i places [] = places
@@ -196,6 +202,29 @@ pub record Begins (T : Table) (block base : List ℕ) (place : ℕ) : Type 0 whe
   pub globals : ℕ
   pub after : Declaring T block classes types base place n globals
   pub no-more : place < length block → getD block place 0 ≡ 1 → ⊥
+
+-- ops have been read up to a place, and the check goes on from there: what has been seen, and that the arrays hold it
+pub record Reading (T : Table) (b : List ℕ) (start : ℕ) (places₀ base vars labels targets places : List ℕ) (p ops last : ℕ) : Type 0 where
+  pub seen : Seen
+  pub goes-on : checkAt T seen b p ≡ checkBy T b
+  pub coded : Coded vars (seen .classes) (seen .types) (seen .written)
+  pub based : Coded base (seen .classes) (seen .types) empty
+  pub labels-so : seen .labels ≡ numbered labels
+  pub targets-so : seen .targets ≡ marked targets
+  pub ops-so : seen .ops ≡ ops
+  pub last-so : seen .last ≡ last
+  pub count : length (recordsAt T b start) ≡ ops + length (recordsAt T b p)
+  pub places-are : placesFrom start 0 places₀ (recordsAt T b start) ≡ placesFrom p ops places (recordsAt T b p)
+  pub labels-are : labelsFrom T 0 (replicate 256 0) (recordsAt T b start) ≡ labelsFrom T ops labels (recordsAt T b p)
+  pub first-op : ops ≡ 0 → p < length b → getD b p 0 ≡ 1 → ⊥
+  pub few : ops ≤ 256
+
+-- ops are read on, after which their basic block goes on
+pub record ReadsOn (T : Table) (b : List ℕ) (p ops last : ℕ) (vars places : List ℕ) (p′ ops′ last′ : ℕ) (vars′ places′ : List ℕ) : Type 0 where
+  pub reached : p′ ≤ length b
+  pub further : p ≤ p′
+  pub then-so : (start : ℕ) (places₀ base labels targets : List ℕ) → Reading T b start places₀ base vars labels targets places p ops last
+      → Reading T b start places₀ base vars′ labels targets places′ p′ ops′ last′
 
 -- what the scan tells of an accepted block, with the declarations and ops as the definitions have them
 pub record Approved (T : Table) (block places₀ classes types places labels : List ℕ) (start n globals ops : ℕ) : Type 0 where

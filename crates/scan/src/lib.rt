@@ -6,7 +6,7 @@ ghost use lib.ListN.{length, getD};
 ghost use Rattle.ops.specs.Rows.{outsIn, insIn, restIn, testIn, asksFor};
 ghost use Rattle.ops.specs.Kinds.{rowOf, kindTable};
 ghost use Rattle.block.specs.Checks.{firstBroken};
-ghost use Rattle.block.specs.Scan.{recordAt, Stands, opTests, entryRule, opStands, opOk, Marks, Begins, ScannedBy, Scanned};
+ghost use Rattle.block.specs.Scan.{recordAt, Stands, opTests, entryRule, opStands, opOk, straightOk, Marks, Begins, ReadsOn, ScannedBy, Scanned};
 use declarations::scan_declarations;
 use kinds::body_length;
 use kinds::entry;
@@ -140,6 +140,64 @@ pub struct Ops {
     pub ops: usize,
 }
 
+// Whether an op stands at a place that meets every rule and after which its basic block goes on.
+fn straight_ok(e: u32, block: &[u8], at: usize, op: usize, vars: &[u8; 256]) -> bool
+    requires { ⌜ (at < length (now block)) × (asksFor (testIn e) ≤ restIn e) ⌝ }
+    ensures { λ r. ⌜ r ≡ straightOk e (now (block .entry)) at op (now (vars .entry)) ⌝ }
+{
+    if !op_stands(e, block, at) {
+        return false;
+    }
+    if is_closing(e) | (MAX_OPS <= op) {
+        return false;
+    }
+    let count = operand_count(e);
+    if !operands_fit(block, at + 1, outs(e), count, types(e), vars) {
+        return false;
+    }
+    rest_ok(e, block, at + 1 + count)
+}
+
+// Where reading has come to: the next place, how many ops have been read, and the last one's kind.
+pub struct Reached {
+    pub place: usize,
+    pub ops: usize,
+    pub last: u8,
+}
+
+// Reads ops from a place on as long as they are of this sort.
+fn scan_straight(
+    kinds: &[u32; 256],
+    block: &[u8],
+    from: Reached,
+    vars: &mut [u8; 256],
+    places: &mut [u16; 256],
+) -> Reached
+    requires { ⌜ ((from .place) ≤ length (now block)) × (now kinds ≡ kindTable) ⌝ }
+    ensures { λ r. ⌜ ReadsOn rowOf (now (block .entry)) (from .place) (from .ops) (from .last) (now (vars .entry)) (now (places .entry)) (r .place) (r .ops) (r .last) (now (vars .exit)) (now (places .exit)) ⌝ }
+{
+    let mut at = from.place;
+    let mut ops = from.ops;
+    let mut last = from.last;
+    while at < block.len() {
+        let kind = block[at];
+        let e = entry(kinds, kind);
+        if !straight_ok(e, block, at, ops, vars) {
+            break;
+        }
+        open_all(block, at + 1, outs(e), vars);
+        places[ops] = (at % 65536) as u16;
+        ops += 1;
+        last = kind;
+        at += 1 + body_length(e);
+    }
+    Reached {
+        place: at,
+        ops,
+        last,
+    }
+}
+
 // The answer at a record that fails a test.
 fn stopped(
     e: u32,
@@ -178,19 +236,35 @@ pub fn scan_ops(
     let mut ops: usize = 0;
     let mut last: u8 = 0;
     while at < block.len() {
-        let kind = block[at];
-        let e = entry(kinds, kind);
-        if !op_stands(e, block, at) {
-            return stopped(e, block, at, ops, &vars, labels);
+        let s = scan_straight(
+            kinds,
+            block,
+            Reached {
+                place: at,
+                ops,
+                last,
+            },
+            &mut vars,
+            places,
+        );
+        at = s.place;
+        ops = s.ops;
+        last = s.last;
+        if at < block.len() {
+            let kind = block[at];
+            let e = entry(kinds, kind);
+            if !op_stands(e, block, at) {
+                return stopped(e, block, at, ops, &vars, labels);
+            }
+            if !op_ok(e, block, at, ops, &vars, labels) {
+                return stopped(e, block, at, ops, &vars, labels);
+            }
+            mark_op(e, block, at, ops, base, &mut vars, labels, &mut targets);
+            places[ops] = (at % 65536) as u16;
+            ops += 1;
+            last = kind;
+            at += 1 + body_length(e);
         }
-        if !op_ok(e, block, at, ops, &vars, labels) {
-            return stopped(e, block, at, ops, &vars, labels);
-        }
-        mark_op(e, block, at, ops, base, &mut vars, labels, &mut targets);
-        places[ops] = (at % 65536) as u16;
-        ops += 1;
-        last = kind;
-        at += 1 + body_length(e);
     }
     if last != 4 {
         return Ops {
