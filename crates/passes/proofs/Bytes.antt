@@ -6,7 +6,7 @@ use Prim.Native.Nat.{ℕ, suc, _+_, _≤_, _<_}
 use native.Mathlib.Omega.{arith}
 use lib.Dec.{eqb}
 use lib.ListN.{length, getD, take, drop, set, length-append, take-append-drop, drop-of-length-le}
-use lib.Seq.{drop-cons, drop-at, take-at, getD-set-other}
+use lib.Seq.{drop-cons, drop-at, getD-set-other}
 use borrow.Author.Tests.{eq-eqb, ne-eqb}
 use Rattle.ops.specs.Rows.{bodyLength, outsIn, insIn, restIn}
 use Rattle.ops.specs.Kinds.{kindTable, rowOf}

@@ -4,14 +4,13 @@ use mathlib.Core.Bool.{true, false}
 use mathlib.Core.List.{List, [], _∷_, _++_}
 use mathlib.Core.Logic.{_⊎_, inl, inr}
 use Prim.Native.Nat.{ℕ, suc, _+_, _-_, _*_, _≤_, _<_}
-use native.Mathlib.Nat.{zero-add}
 use native.Mathlib.Numerals.{add-one}
 use native.Mathlib.Omega.{arith}
 use lib.Dec.{ltb}
-use lib.ListN.{length, getD, take, drop, set, length-set, length-append, drop-of-length-le}
+use lib.ListN.{length, getD, take, drop, set, length-append, drop-of-length-le}
 use lib.Seq.{drop-cons, drop-drop, getD-set-same, getD-set-other, sets, sets-eq, take-at}
 use borrow.Author.Tests.{ltb-true, ltb-false, eq-eqb}
-use Rattle.theory.specs.Fold.{Known, nothing, put, on, Rewrite, learned, emit, fold as foldOps}
+use Rattle.theory.specs.Fold.{Known, nothing, on, Rewrite, learned, emit, fold as foldOps}
 use Rattle.theory.specs.Machine.{headOr}
 use Rattle.theory.specs.Sets.{Vars, empty}
 use Rattle.theory.proofs.Rule.{Puts, same, folds, puts}
@@ -30,7 +29,7 @@ use Rattle.passes.proofs.Bytes.{ThisOp, this-op, concat-split, record-w
 use Rattle.passes.proofs.Constants.{constant-long}
 use Rattle.passes.proofs.Knowing.{none-known}
 use Rattle.passes.proofs.Result.{rule, ops-size}
-use Rattle.passes.proofs.Stores.{Copying, copying-start, copying-over, copying-put, copying-ends, copying-room, run-inside}
+use Rattle.passes.proofs.Stores.{Copying, copying-start, copying-over, copying-put, copying-ends, copying-room}
 use Rattle.word.specs.declared.Stated.the-variants.{Value, NoResult}
 use Rattle.word.specs.declared.Stated.{Stated}
 

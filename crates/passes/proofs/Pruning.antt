@@ -1,13 +1,13 @@
 -- Prune, op by op from the last. Assumes nothing.
-use mathlib.Core.Path.{_≡_, refl, sym, ap, ap₂, _∙_, subst}
-use mathlib.Core.Bool.{true, false, cond}
+use mathlib.Core.Path.{_≡_, sym, ap, ap₂, _∙_, subst}
+use mathlib.Core.Bool.{true, false}
 use mathlib.Core.List.{List, [], _∷_, _++_}
 use Prim.Native.Nat.{ℕ, suc, _+_, _-_, _≤_, _<_}
 use native.Mathlib.Omega.{arith}
 use lib.ListN.{length, getD, take, drop, set, length-append, drop-of-length-le}
 use lib.Seq.{getD-set-same}
 use Rattle.theory.specs.Sets.{Vars}
-use Rattle.theory.specs.Prune.{dead, before, live as liveOps, prune}
+use Rattle.theory.specs.Prune.{dead, live as liveOps, prune}
 use Rattle.ops.specs.Rows.{bodyLength}
 use Rattle.ops.specs.Kinds.{rowOf, document01}
 use Rattle.ops.specs.Ops.{viewOf, tcg}

@@ -1,5 +1,5 @@
 -- Prune, from the last op. Assumes nothing.
-use mathlib.Core.Path.{_≡_, refl, sym, ap, _∙_}
+use mathlib.Core.Path.{_≡_, refl, sym, _∙_}
 use Prim.Native.Nat.{suc, _+_, _-_, _≤_}
 use native.Mathlib.Omega.{arith}
 use lib.ListN.{length, getD, length-set}
@@ -58,7 +58,7 @@ loop-again c =
     let loop = c .before .before .before .before .before .before .before .loop in
     let more = c .before .before .before .before .before .before .loop-test .taken in (
       omega (arith, loop .inv .0),
-      length-set (loop .keep) (loop .i - 1) 0 ∙ loop .inv .1,
+      length-set (loop .keep) (loop .i - 1) _ ∙ loop .inv .1,
       pruning-dead (start .pre .0) (before-that (loop .inv .2) more) (omega (arith, loop .inv .0, more)) (omega (arith, start .pre .2, loop .inv .0, loop .inv .1, more)) (sym (c .if1 .taken) ∙ c .before .dead-op .ensures),
     )
 
@@ -100,7 +100,7 @@ loop-again-2 c =
     let loop = c .before .before .before .before .before .before .before .before .before .before .loop in
     let more = c .before .before .before .before .before .before .before .before .before .loop-test .taken in (
       omega (arith, loop .inv .0),
-      length-set (loop .keep) (loop .i - 1) 1 ∙ loop .inv .1,
+      length-set (loop .keep) (loop .i - 1) _ ∙ loop .inv .1,
       pruning-kept (start .pre .0) (before-that (loop .inv .2) more) (omega (arith, loop .inv .0, more)) (omega (arith, start .pre .2, loop .inv .0, loop .inv .1, more)) (sym (c .before .before .before .if1 .left) ∙ c .before .before .before .before .dead-op .ensures) (c .before .live-before .ensures) (long c),
     )
 
