@@ -1,620 +1,375 @@
-//! Check, pass and run in plain Rust, written for speed: what the library is
-//! timed against. It shares no code or table with the second interpreter,
-//! which is written for reading.
+//! Plain, safe Rust that checks, optimises and runs blocks, written for
+//! speed. What the kind fixes stands in one static table, a set of variables
+//! or of labels is one `u64`, all arrays are on the stack. One forward scan
+//! checks and folds, one backward scan prunes.
 //!
-//! One forward scan checks a block, whatever it is checked for: a `Watcher` is
-//! told each accepted op. The pass folds in that scan; one backward scan then
-//! prunes. What costs most is branches that depend on the block's bytes, so
-//! nearly all ops are checked by the same few masks, and only where one fails
-//! the broken rule is looked for. A set of variables is one `u64`. Nothing is
-//! allocated.
+//! A branch on the kind is often foreseen wrongly, so the scans treat nearly
+//! all ops alike, by what the table says. The forward scan only asks whether
+//! all is well, in one test; which rule is broken is found apart.
 
-use std::mem::MaybeUninit;
-
-const VARIABLES: usize = 64;
+/// At most 256 ops, 65,536 bytes of memory.
 const OPS: usize = 256;
-const LABELS: usize = 32;
 const MEMORY: usize = 65_536;
-const DECLARATION: usize = 3;
-const MOVI: u8 = 0x10;
-/// Added to a kind for its 64-bit form.
-const WIDE: u8 = 0x80;
 
-/// A record and bytes after it, whatever they are. The longest has ten bytes.
-type Record = [u8; 16];
-
+/// What an op does to the set of live variables.
 #[derive(Clone, Copy, PartialEq, Eq)]
-enum Form {
-    /// Not an op: a declaration too.
-    None,
-    /// movi, load, store and the ops of one or two inputs.
-    Straight,
-    Movcond,
-    Brcond,
-    SetLabel,
-    Br,
-    ExitTb,
+enum Effect {
+    Pure,
+    Folded,
+    Load,
+    Store,
+    Exit,
+    Jump,
 }
 
-/// The sets of variables that the scan keeps, by width: those declared, and
-/// those that may be read here. A store, which writes none, writes to the last.
-type Sets = [u64; 8];
-const DECLARED: u8 = 0;
-const READABLE: u8 = 2;
-const NOWHERE: u8 = 4;
+/// What speaks against a variable, a bit for each; both widths if it is not
+/// declared.
+const NOT_WIDE: u8 = 1;
+const NOT_NARROW: u8 = 2;
+const NOT_READY: u8 = 4;
+const NOT_KNOWN: u8 = 8;
+const UNDECLARED: u8 = NOT_WIDE | NOT_NARROW;
+/// A global or local temporary of 32 bits; one more has 64.
+const DECLARED: u8 = NOT_KNOWN | NOT_WIDE;
 
-/// What a kind fixes. `first` is the operand in byte 1 of the record, the
-/// output if the op has one.
-#[derive(Clone, Copy)]
-struct Kind {
-    /// Bits of the record that are zero: an operand is below 64, a label below
-    /// 32, cond and flags below 16, a 32-bit constant below 2^32.
-    zero: u128,
-    /// The values that byte `field` may have in its low four bits.
-    allowed: u16,
-    field: u8,
-    form: Form,
-    straight: bool,
-    pure: bool,
-    /// The record's length, its kind included.
-    length: u8,
-    operands: u8,
-    /// Where the other operands of a straight op stand: the same place twice
-    /// if there is only one, and that of `first` if there is none.
-    a: u8,
-    b: u8,
-    /// The sets that have to have `first` and the others.
-    first_in: u8,
-    others_in: u8,
-    /// The set that gets `first`.
-    writes_to: u8,
-    /// All bits or none: the others are read, `first` is read, an access.
-    reads: i8,
-    reads_first: i8,
-    access: i8,
-}
+/// What speaks against a byte as a constant: it is no condition, no label, no
+/// flags of a load or a store of that width; the last against any byte.
+const CONDITION: u8 = 1;
+const LABEL: u8 = 2;
+const LOAD: [u8; 2] = [4, 8];
+const STORE: [u8; 2] = [16, 32];
+const NEVER: u8 = 64;
 
-/// The zero bits of operands, from byte 1.
-const fn operands(count: u8) -> u128 {
-    let mut zero = 0;
-    let mut byte = 1;
-    while byte <= count {
-        zero |= 0xC0 << (8 * byte);
+static CONSTANTS: [u8; 256] = {
+    let mut table = [NEVER; 256];
+    let mut byte = 0;
+    while byte < 256 {
+        let (eight, signed) = (byte & 3 == 3, byte & 4 != 0);
+        table[byte] |= (byte > 9) as u8 * CONDITION
+            | (byte > 31) as u8 * LABEL
+            | (byte > 15 || eight) as u8 * LOAD[0]
+            | (byte > 15) as u8 * LOAD[1]
+            | (byte > 15 || signed || eight) as u8 * STORE[0]
+            | (byte > 15 || signed) as u8 * STORE[1];
         byte += 1;
     }
-    zero
-}
-
-const CONDS: u16 = (1 << 10) - 1;
-
-/// The flags of an access: no size above the width, bit 2 only for a load.
-const fn flags(wide: u8, load: bool) -> u16 {
-    let sizes = if wide == 1 { 0b1111 } else { 0b0111 };
-    let unsigned = sizes | sizes << 8;
-    if load {
-        unsigned | unsigned << 4
-    } else {
-        unsigned
-    }
-}
-
-const fn kind(number: u8) -> Kind {
-    let wide = number >> 7;
-    let none = Kind {
-        zero: 0,
-        allowed: u16::MAX,
-        field: 1,
-        form: Form::None,
-        straight: false,
-        pure: false,
-        length: 1,
-        operands: 0,
-        a: 1,
-        b: 1,
-        first_in: DECLARED | wide,
-        others_in: READABLE | wide,
-        writes_to: READABLE | wide,
-        reads: 0,
-        reads_first: 0,
-        access: 0,
-    };
-    let unary = Kind {
-        zero: operands(2),
-        form: Form::Straight,
-        straight: true,
-        pure: true,
-        length: 3,
-        operands: 2,
-        a: 2,
-        b: 2,
-        reads: -1,
-        ..none
-    };
-    let binary = Kind {
-        zero: operands(3),
-        length: 4,
-        operands: 3,
-        b: 3,
-        ..unary
-    };
-    let access = Kind {
-        zero: operands(2) | 0xF0 << 24,
-        field: 3,
-        pure: false,
-        length: 4,
-        others_in: READABLE | 1,
-        access: -1,
-        ..unary
-    };
-    let jump = Kind {
-        zero: 0xE0 << 8,
-        length: 2,
-        ..none
-    };
-    match number {
-        0x01 => Kind { length: 3, ..none },
-        0x02 => Kind {
-            form: Form::SetLabel,
-            ..jump
-        },
-        0x03 => Kind {
-            form: Form::Br,
-            ..jump
-        },
-        0x04 => Kind {
-            zero: operands(1),
-            form: Form::ExitTb,
-            length: 2,
-            operands: 1,
-            first_in: READABLE | 1,
-            ..none
-        },
-        0x05 | 0x06 => Kind {
-            first_in: DECLARED | 1,
-            writes_to: READABLE | 1,
-            ..unary
-        },
-        0x07 => Kind {
-            others_in: READABLE | 1,
-            ..unary
-        },
-        0x10 | 0x90 => Kind {
-            zero: operands(1) | if wide == 1 { 0 } else { 0xFFFF_FFFF << 48 },
-            length: 10,
-            operands: 1,
-            a: 1,
-            b: 1,
-            others_in: DECLARED | wide,
-            reads: 0,
-            ..unary
-        },
-        0x11..=0x13 | 0x91..=0x93 => unary,
-        0x14..=0x27 | 0x94..=0xA7 => binary,
-        0x28 | 0xA8 => Kind {
-            zero: operands(3) | 0xF0 << 32,
-            allowed: CONDS,
-            field: 4,
-            length: 5,
-            ..binary
-        },
-        0x29 | 0xA9 => Kind {
-            zero: operands(5) | 0xF0 << 48,
-            allowed: CONDS,
-            field: 6,
-            form: Form::Movcond,
-            straight: false,
-            length: 7,
-            operands: 5,
-            ..binary
-        },
-        0x2A | 0xAA => Kind {
-            zero: operands(2) | 0xF0 << 24 | 0xE0 << 32,
-            allowed: CONDS,
-            field: 3,
-            form: Form::Brcond,
-            length: 5,
-            operands: 2,
-            first_in: READABLE | wide,
-            ..none
-        },
-        0x2B | 0xAB => Kind {
-            allowed: flags(wide, true),
-            ..access
-        },
-        0x2C | 0xAC => Kind {
-            allowed: flags(wide, false),
-            first_in: READABLE | wide,
-            writes_to: NOWHERE,
-            reads_first: -1,
-            ..access
-        },
-        _ => none,
-    }
-}
-
-/// A row of 32 bytes is found by a shift.
-const _: () = assert!(size_of::<Kind>() == 32);
-
-static KINDS: [Kind; 256] = {
-    let mut all = [kind(0); 256];
-    let mut number = 0;
-    while number < 256 {
-        all[number] = kind(number as u8);
-        number += 1;
-    }
-    all
+    table
 };
 
-/// The lengths alone: the next record's place waits for nothing else.
-static LENGTHS: [u8; 256] = {
-    let mut all = [0; 256];
+/// What the kind fixes. Operands follow the kind.
+#[derive(Clone, Copy)]
+#[repr(align(16))]
+struct Row {
+    length: u8,
+    operands: u8,
+    effect: Effect,
+    /// Where those read are, the same place twice if it is one; a movcond has
+    /// two more.
+    inputs: Two,
+    /// What must not speak against the output, and against these two.
+    asked: [u8; 3],
+    /// Where a constant is, and what must not speak against it.
+    constant: Two,
+    /// Is it a movcond, or does it start or end a basic block?
+    more: bool,
+}
+
+type Two = [u8; 2];
+
+/// A row from the length and number of operands and what else it has.
+const fn row(size: Two, effect: Effect, inputs: Two, asked: [u8; 3], constant: Two) -> Row {
+    let [length, operands] = size;
+    let more = operands == 5 || matches!(effect, Effect::Exit | Effect::Jump);
+    Row {
+        length,
+        operands,
+        effect,
+        inputs,
+        asked,
+        constant,
+        more,
+    }
+}
+
+const fn kind(kind: u8) -> Row {
+    use Effect::*;
+    const NARROW: u8 = NOT_NARROW | NOT_READY;
+    const WIDE: u8 = NOT_WIDE | NOT_READY;
+    const NONE: Two = [1, 0];
+    let wide = (kind >> 7) as usize;
+    let (w, r) = ([NOT_NARROW, NOT_WIDE][wide], [NARROW, WIDE][wide]);
+    match kind {
+        0x01 => row([3, 0], Jump, [1, 1], [0; 3], [1, NEVER]),
+        0x02 | 0x03 => row([2, 0], Jump, [1, 1], [0; 3], [1, LABEL]),
+        0x04 => row([2, 1], Exit, [1, 1], [0, WIDE, WIDE], NONE),
+        0x05 | 0x06 => row([3, 2], Pure, [2, 2], [NOT_WIDE, NARROW, NARROW], NONE),
+        0x07 => row([3, 2], Pure, [2, 2], [NOT_NARROW, WIDE, WIDE], NONE),
+        0x10 | 0x90 => row([10, 1], Pure, [1, 1], [w, 0, 0], NONE),
+        0x11..=0x13 | 0x91..=0x93 => row([3, 2], Pure, [2, 2], [w, r, r], NONE),
+        0x14..=0x27 | 0x94..=0xA7 => row([4, 3], Pure, [2, 3], [w, r, r], NONE),
+        0x28 | 0xA8 => row([5, 3], Pure, [2, 3], [w, r, r], [4, CONDITION]),
+        0x29 | 0xA9 => row([7, 5], Pure, [2, 3], [w, r, r], [6, CONDITION]),
+        0x2A | 0xAA => row([5, 2], Jump, [1, 2], [0, r, r], [3, CONDITION]),
+        // Addresses are 64-bit.
+        0x2B | 0xAB => row([4, 2], Load, [2, 2], [w, WIDE, WIDE], [3, LOAD[wide]]),
+        0x2C | 0xAC => row([4, 2], Store, [1, 2], [0, r, WIDE], [3, STORE[wide]]),
+        _ => row([0, 0], Jump, [1, 1], [0; 3], NONE),
+    }
+}
+
+static KINDS: [Row; 256] = {
+    let mut table = [kind(0); 256];
     let mut number = 0;
     while number < 256 {
-        all[number] = KINDS[number].length;
+        table[number] = kind(number as u8);
         number += 1;
     }
-    all
+    table
 };
 
-/// The set of one variable, which is below 64.
-#[inline(always)]
-fn bit(variable: u8) -> u64 {
-    1 << (variable & 63)
+/// The set of one variable or label.
+fn one(number: u8) -> u64 {
+    1 << (number & 63)
 }
 
-/// The set of the numbers below this one.
-#[inline(always)]
-fn below(number: usize) -> u64 {
-    if number < 64 {
-        (1 << number) - 1
-    } else {
-        u64::MAX
-    }
+/// The first so many, at most 64.
+fn first(count: usize) -> u64 {
+    !u64::MAX.checked_shl(count as u32).unwrap_or(0)
 }
 
-#[inline(always)]
 fn refused(number: u64, place: usize) -> u64 {
     number + 256 * place as u64
 }
 
-/// The variables of a block.
-#[derive(Clone, Copy)]
-struct Declared {
-    count: usize,
+/// Between records.
+struct Scan<'a> {
+    block: &'a [u8],
+    /// What speaks against each variable now, and when a basic block starts.
+    against: [u8; 256],
+    starting: [u8; 64],
+    variables: usize,
     globals: usize,
-    /// Globals and local temporaries.
-    lasting: u64,
-    /// The variables of 32 and of 64 bits.
-    widths: [u64; 2],
+    temporaries: u64,
+    /// Labels set, labels jumped to, and where they are set.
+    set: u64,
+    jumped: u64,
+    places: [u16; 32],
 }
 
-/// The declarations, up to a record that is none or breaks a rule: the scan
-/// of the ops refuses every declaration.
-#[inline(always)]
-fn declarations(block: &[u8]) -> Declared {
-    // The variable last declared is the top bit.
-    let (mut wide, mut locals) = (0, 0);
-    let mut count = 0;
-    let mut rest = block;
-    while let Some((&[1, 0, width], after)) = rest.split_first_chunk() {
-        if width > 1 || count == VARIABLES {
-            break;
-        }
-        wide = wide >> 1 | (width as u64) << 63;
-        count += 1;
-        rest = after;
-    }
-    let globals = count;
-    while let Some((&[1, class @ 1..=2, width], after)) = rest.split_first_chunk() {
-        if width > 1 || count == VARIABLES {
-            break;
-        }
-        wide = wide >> 1 | (width as u64) << 63;
-        locals = locals >> 1 | (class as u64) << 63;
-        count += 1;
-        rest = after;
-    }
-    let down = |set: u64| set.checked_shr(64 - count as u32).unwrap_or(0);
-    let wide = down(wide);
-    Declared {
-        count,
-        globals,
-        lasting: below(globals) | down(locals),
-        widths: [below(count) & !wide, wide],
-    }
-}
-
-/// Told of every op that breaks no rule, in order, the first being op 0. What
-/// it is told of a block that is refused later does not count.
-trait Watcher {
-    fn declared(&mut self, declared: &Declared);
-    /// An op that goes on with the next, its output and its inputs.
-    fn straight(&mut self, op: usize, kind: &Kind, record: &Record, writes: u64, reads: u64);
-    /// set_label, br, brcond or exit_tb, and its inputs.
-    fn border(&mut self, op: usize, kind: &Kind, record: &Record, reads: u64);
-}
-
-/// The check's state between records.
-struct Scan {
-    declared: Declared,
-    sets: Sets,
-    /// Labels set and labels jumped to.
-    set: u32,
-    jumped: u32,
-    ops: usize,
-}
-
-impl Scan {
+impl<'a> Scan<'a> {
     #[inline(always)]
-    fn new(declared: Declared) -> Scan {
-        let [narrow, wide] = declared.widths;
-        let mut scan = Scan {
-            declared,
-            sets: [narrow, wide, 0, 0, 0, 0, 0, 0],
+    fn new(block: &'a [u8]) -> Scan<'a> {
+        Scan {
+            block,
+            against: [UNDECLARED; 256],
+            starting: [UNDECLARED; 64],
+            variables: 0,
+            globals: 0,
+            temporaries: 0,
             set: 0,
             jumped: 0,
-            ops: 0,
-        };
-        scan.start();
-        scan
+            places: [0; 32],
+        }
     }
 
-    /// A basic block starts, with no temporary written.
+    /// Reads the good declarations; a bad one is left to the scan of the ops.
     #[inline(always)]
-    fn start(&mut self) {
-        let [narrow, wide] = self.declared.widths;
-        self.sets[READABLE as usize] = narrow & self.declared.lasting;
-        self.sets[READABLE as usize + 1] = wide & self.declared.lasting;
+    fn declarations(&mut self) {
+        let (records, _) = self.block.as_chunks::<3>();
+        let records = &records[..records.len().min(64)];
+        let mut count = 0;
+        for (&[kind, class, width], starting) in records.iter().zip(&mut self.starting) {
+            if kind != 1 || class != 0 || width > 1 {
+                break;
+            }
+            *starting = DECLARED + width;
+            count += 1;
+        }
+        self.globals = count;
+        let others = self.starting[count..].iter_mut();
+        for (&[kind, class, width], starting) in records[count..].iter().zip(others) {
+            if kind != 1 || class == 0 || class > 2 || width > 1 {
+                break;
+            }
+            *starting = DECLARED + width + (class & 2) * (NOT_READY / 2);
+            self.temporaries |= (class as u64 >> 1) << count;
+            count += 1;
+        }
+        self.variables = count;
+        self.against[..64].copy_from_slice(&self.starting);
     }
 
-    /// Those of the variables that a set does not have.
+    /// All records in order; the first bad one answers.
     #[inline(always)]
-    fn missing(&self, variables: u64, from: u8) -> u64 {
-        variables & !self.sets[from as usize & 7]
+    fn all<const ROOM: usize>(&mut self, fold: &mut Fold<ROOM>) -> Result<(), u64> {
+        self.declarations();
+        let block = self.block;
+        let mut rest = &block[3 * self.variables..];
+        let (mut ops, mut last) = (0, 0);
+        while let Some(&kind) = rest.first() {
+            let row = &KINDS[kind as usize];
+            let place = block.len() - rest.len();
+            let Some((record, after)) = rest.split_at_checked(row.length as usize) else {
+                return Err(refused(1, place));
+            };
+            let good = match record.first_chunk() {
+                Some(movi) if ROOM > 0 && kind & 0x7F == 0x10 => self.movi(place, row, movi, fold),
+                _ => self.op(place, row, record, fold),
+            };
+            if !good || ops == OPS {
+                return Err(refused(self.broken(row, record, ops), place));
+            }
+            ops += 1;
+            last = kind;
+            rest = after;
+        }
+        // After the last record 10 comes before 7.
+        match (last, self.jumped & !self.set) {
+            (4, 0) => Ok(()),
+            (4, _) => Err(refused(7, block.len())),
+            _ => Err(refused(10, block.len())),
+        }
     }
 
+    /// Is all well with this movi?
     #[inline(always)]
-    fn write(&mut self, kind: &Kind, first: u8) {
-        self.sets[kind.writes_to as usize & 7] |= bit(first);
-    }
-
-    /// A straight op: false if a rule is broken.
-    #[inline(always)]
-    fn straight<W: Watcher>(
+    fn movi<const ROOM: usize>(
         &mut self,
-        op: usize,
-        kind: &Kind,
-        record: &Record,
-        watcher: &mut W,
+        place: usize,
+        row: &Row,
+        record: &[u8; 10],
+        fold: &mut Fold<ROOM>,
     ) -> bool {
-        let first = record[1];
-        let (a, b) = (record[kind.a as usize & 15], record[kind.b as usize & 15]);
-        let others = bit(a) | bit(b);
-        let missing =
-            self.missing(bit(first), kind.first_in) | self.missing(others, kind.others_in);
-        if missing != 0 {
+        let value = movi_value(record);
+        let above = if record[0] >= 0x80 { 0 } else { value >> 32 };
+        let against = &mut self.against[record[1] as usize];
+        if above | (*against & row.asked[0]) as u64 != 0 {
             return false;
         }
-        self.write(kind, first);
-        let reads_first = kind.reads_first as u64;
-        let reads = others & kind.reads as u64 | bit(first) & reads_first;
-        watcher.straight(op, kind, record, bit(first) & !reads_first, reads);
+        *against &= !(NOT_READY | NOT_KNOWN);
+        fold.values[record[1] as usize & 63] = value;
+        fold.push(place, record[1], Effect::Pure, 0);
         true
     }
 
-    /// Any other op: false if a rule is broken.
+    /// Is all well with this op?
     #[inline(always)]
-    fn other<W: Watcher>(
+    fn op<const ROOM: usize>(
         &mut self,
-        op: usize,
-        kind: &Kind,
-        record: &Record,
-        watcher: &mut W,
+        place: usize,
+        row: &Row,
+        record: &[u8],
+        fold: &mut Fold<ROOM>,
     ) -> bool {
-        let [_, first, a, b, c, d, ..] = *record;
-        match kind.form {
-            Form::Movcond => {
-                let reads = bit(a) | bit(b) | bit(c) | bit(d);
-                let missing =
-                    self.missing(bit(first), kind.first_in) | self.missing(reads, kind.others_in);
-                if missing != 0 {
-                    return false;
-                }
-                self.write(kind, first);
-                watcher.straight(op, kind, record, bit(first), reads);
+        if record.len() < 2 {
+            return false;
+        }
+        let [a, b] = row.inputs.map(|at| record[at as usize]);
+        let (output, constant) = (record[1], record[row.constant[0] as usize]);
+        let (against_a, against_b) = (self.against[a as usize], self.against[b as usize]);
+        let wrong = self.against[output as usize] & row.asked[0]
+            | against_a & row.asked[1]
+            | against_b & row.asked[2]
+            | CONSTANTS[constant as usize] & row.constant[1];
+        if wrong != 0 || ROOM == 0 && record[0] == 0x10 && record[6..10] != [0; 4] {
+            return false;
+        }
+        let mut seen = against_a | against_b;
+        let mut reads = one(a) | one(b);
+        if row.more {
+            if row.operands != 5 {
+                let reads = if row.operands > 0 { reads } else { 0 };
+                fold.push(place, output, row.effect, reads);
+                return self.parts(place, record);
             }
-            Form::Brcond => {
-                let reads = bit(first) | bit(a);
-                if self.missing(reads, kind.first_in) != 0 || self.is_set(c) {
-                    return false;
-                }
-                self.jumped |= 1 << (c & 31);
-                self.start();
-                watcher.border(op, kind, record, reads);
+            let (c, d) = (record[4], record[5]);
+            seen |= self.against[c as usize] | self.against[d as usize];
+            reads |= one(c) | one(d);
+            if seen & row.asked[1] != 0 {
+                return false;
             }
-            Form::SetLabel | Form::Br => {
-                if self.is_set(first) {
-                    return false;
-                }
-                let label = 1 << (first & 31);
-                if kind.form == Form::Br {
-                    self.jumped |= label;
-                } else {
-                    self.set |= label;
-                }
-                self.start();
-                watcher.border(op, kind, record, 0);
+        }
+        let against = &mut self.against[output as usize];
+        *against &= !NOT_READY;
+        if ROOM > 0 {
+            let known = seen & NOT_KNOWN == 0 && fold.folds(place, row, record);
+            if !known {
+                fold.push(place, output, row.effect, reads);
             }
-            Form::ExitTb => {
-                if self.missing(bit(first), kind.first_in) != 0 {
-                    return false;
-                }
-                self.start();
-                watcher.border(op, kind, record, bit(first));
-            }
-            Form::None | Form::Straight => return false,
+            // A store has no output.
+            let unknown = if known { 0 } else { NOT_KNOWN };
+            let kept = if row.asked[0] == 0 { *against } else { unknown };
+            *against = *against & !NOT_KNOWN | kept & NOT_KNOWN;
         }
         true
     }
 
+    /// A good exit_tb, set_label, br or brcond, but for its label.
     #[inline(always)]
-    fn is_set(&self, label: u8) -> bool {
-        self.set >> (label & 31) & 1 != 0
+    fn parts(&mut self, place: usize, record: &[u8]) -> bool {
+        self.against[..64].copy_from_slice(&self.starting);
+        if record[0] == 4 {
+            return true;
+        }
+        let label = record[record.len() - 1];
+        if label > 31 || self.set & one(label) != 0 {
+            return false;
+        }
+        if record[0] == 2 {
+            self.set |= one(label);
+            self.places[label as usize] = place as u16;
+        } else {
+            self.jumped |= one(label);
+        }
+        true
     }
 
-    /// The refusal of the record that starts so many bytes before the end.
+    /// The rule that a bad record breaks first.
     #[cold]
     #[inline(never)]
-    fn refusal(&self, block: &[u8], left: usize) -> u64 {
-        let place = block.len() - left;
-        refused(self.broken(&block[place..]), place)
-    }
-
-    /// The first rule that a record breaks: 2, 1, then 3 or 9, then 4, 5, 6,
-    /// 7, 8.
-    fn broken(&self, rest: &[u8]) -> u64 {
-        let number = rest[0];
-        let kind = &KINDS[number as usize];
-        if kind.form == Form::None && number != 1 {
+    fn broken(&self, row: &Row, record: &[u8], ops: usize) -> u64 {
+        let Some(&kind) = record.first() else {
             return 2;
-        }
-        let Some(bytes) = rest.get(..kind.length as usize) else {
-            return 1;
         };
-        if number == 1 {
+        if kind == 1 {
             return 3;
         }
-        if self.ops == OPS {
+        if ops == OPS {
             return 9;
         }
-        let mut record = [0; 16];
-        record[..bytes.len()].copy_from_slice(bytes);
-        let operands = &bytes[1..][..kind.operands as usize];
-        let Declared { count, widths, .. } = self.declared;
-        if operands.iter().any(|&v| v as usize >= count) {
+        let operands = &record[1..1 + row.operands as usize];
+        let undeclared = |&v: &u8| self.against[v as usize] & UNDECLARED == UNDECLARED;
+        if operands.iter().any(undeclared) {
             return 4;
         }
-        let fits = |(i, &v): (usize, &u8)| {
-            let set = if i == 0 || kind.form == Form::Brcond {
-                kind.first_in
-            } else {
-                kind.others_in
-            };
-            widths[set as usize & 1] & bit(v) != 0
+        let wrong = |(at, &v): (u8, &u8)| {
+            let asked = row.asked[if at == 1 { 0 } else { 2 }];
+            let more = if at == row.inputs[0] { row.asked[1] } else { 0 };
+            self.against[v as usize] & (asked | more) & UNDECLARED != 0
         };
-        if !operands.iter().enumerate().all(fits) {
+        if (1..).zip(operands).any(wrong) {
             return 5;
         }
-        if !zeros(kind, u128::from_le_bytes(record)) || !allowed(kind, &record) {
+        let label = record[record.len() - 1];
+        let jumps = row.effect == Effect::Jump;
+        let limits = CONSTANTS[record[row.constant[0] as usize] as usize] & row.constant[1];
+        if limits != 0 || jumps && label > 31 || kind == 0x10 && record[6..10] != [0; 4] {
             return 6;
         }
-        let label = bytes[bytes.len() - 1];
-        let labelled = matches!(kind.form, Form::SetLabel | Form::Br | Form::Brcond);
-        if labelled && self.is_set(label) {
+        if jumps && self.set & one(label) != 0 {
             return 7;
         }
         8
     }
 }
 
-/// Are the bits zero that have to be?
-#[inline(always)]
-fn zeros(kind: &Kind, word: u128) -> bool {
-    word & kind.zero == 0
-}
-
-/// May the record's cond or flags have their value?
-#[inline(always)]
-fn allowed(kind: &Kind, record: &Record) -> bool {
-    kind.allowed >> (record[kind.field as usize & 15] & 15) & 1 != 0
-}
-
-/// The record at the start of `rest`, the end of a block, with zeros after it.
-#[inline(always)]
-fn padded(block: &[u8], rest: &[u8]) -> u128 {
-    match block.last_chunk() {
-        Some(&end) => u128::from_le_bytes(end) >> (8 * (16 - rest.len()) & 127),
-        None => rest
-            .iter()
-            .rev()
-            .fold(0, |word, &byte| word << 8 | byte as u128),
-    }
-}
-
-/// Reads a block record by record; the first broken rule answers.
-#[inline(always)]
-fn scan<W: Watcher>(block: &[u8], watcher: &mut W) -> Result<Declared, u64> {
-    let declared = declarations(block);
-    watcher.declared(&declared);
-    let mut scan = Scan::new(declared);
-    let mut rest = &block[DECLARATION * declared.count..];
-    let mut last = Form::None;
-    while let Some(&number) = rest.first() {
-        let kind = &KINDS[number as usize];
-        last = kind.form;
-        let end;
-        let (record, word) = match rest.first_chunk() {
-            Some(record) => (record, u128::from_le_bytes(*record)),
-            None => {
-                let word = padded(block, rest);
-                end = word.to_le_bytes();
-                (&end, word)
-            }
-        };
-        let op = scan.ops;
-        let fine = op < OPS
-            && zeros(kind, word)
-            && allowed(kind, record)
-            && if kind.straight {
-                scan.straight(op, kind, record, watcher)
-            } else {
-                scan.other(op, kind, record, watcher)
-            };
-        rest = match rest.get(LENGTHS[number as usize] as usize..) {
-            Some(after) if fine => after,
-            _ => return Err(scan.refusal(block, rest.len())),
-        };
-        scan.ops += 1;
-    }
-    if last != Form::ExitTb {
-        return Err(refused(10, block.len()));
-    }
-    if scan.jumped & !scan.set != 0 {
-        return Err(refused(7, block.len()));
-    }
-    Ok(declared)
-}
-
-/// The check alone.
-struct Nobody;
-
-impl Watcher for Nobody {
-    #[inline(always)]
-    fn declared(&mut self, _: &Declared) {}
-    #[inline(always)]
-    fn straight(&mut self, _: usize, _: &Kind, _: &Record, _: u64, _: u64) {}
-    #[inline(always)]
-    fn border(&mut self, _: usize, _: &Kind, _: &Record, _: u64) {}
-}
-
-/// 0 for accepted, else number + 256 * place.
-#[inline(never)]
-pub fn check(block: &[u8]) -> u64 {
-    match scan(block, &mut Nobody) {
-        Ok(_) => 0,
-        Err(refused) => refused,
-    }
-}
-
-type Values = [u64; VARIABLES];
-
-#[inline(always)]
-fn index(variable: u8) -> usize {
-    variable as usize & 63
+fn movi_value(record: &[u8]) -> u64 {
+    record[2..]
+        .first_chunk()
+        .map_or(0, |value| u64::from_le_bytes(*value))
 }
 
 /// A value below two to the width, read as signed.
-#[inline(always)]
 fn signed(value: u64, wide: bool) -> i64 {
     if wide {
         value as i64
@@ -623,434 +378,358 @@ fn signed(value: u64, wide: bool) -> i64 {
     }
 }
 
-/// Even conditions ask for some of equal, less and below; odd ones are their
-/// negations.
-#[inline(always)]
-fn holds(cond: u8, a: u64, b: u64, wide: bool) -> bool {
-    const ASKED: [u8; 16] = [1, 1, 2, 2, 3, 3, 4, 4, 5, 5, 0, 0, 0, 0, 0, 0];
-    let less = signed(a, wide) < signed(b, wide);
-    let order = (a == b) as u8 | (less as u8) << 1 | ((a < b) as u8) << 2;
-    (order & ASKED[cond as usize & 15] != 0) != (cond & 1 != 0)
+/// The low bits of the width.
+fn cut(value: u64, wide: bool) -> u64 {
+    value & if wide { u64::MAX } else { 0xFFFF_FFFF }
 }
 
-/// A signed quotient or remainder, none if not stated.
+/// For each condition the answers by equal, less (2) and unsigned less (4).
+const ANSWERS: [u8; 16] = [
+    0xAA, 0x55, 0xCC, 0x33, 0xEE, 0x11, 0xF0, 0x0F, 0xFA, 0x05, 0, 0, 0, 0, 0, 0,
+];
+
 #[inline(always)]
-fn divided(a: u64, b: u64, wide: bool, operation: fn(i64, i64) -> i64) -> Option<u64> {
+fn holds(condition: u8, a: u64, b: u64, wide: bool) -> bool {
+    let less = signed(a, wide) < signed(b, wide);
+    let case = (a == b) as u8 | (less as u8) << 1 | ((a < b) as u8) << 2;
+    ANSWERS[condition as usize & 15] >> case & 1 != 0
+}
+
+/// divs and rems; none for a zero divisor, nor for the smallest by minus one.
+#[inline(always)]
+fn divide(rest: bool, a: u64, b: u64, wide: bool) -> Option<u64> {
+    let (x, y) = (signed(a, wide), signed(b, wide));
     let smallest = if wide { i64::MIN } else { i32::MIN as i64 };
-    let (a, b) = (signed(a, wide), signed(b, wide));
-    if b == 0 || b == -1 && a == smallest {
+    if y == 0 || (x == smallest && y == -1) {
         return None;
     }
-    Some(operation(a, b) as u64)
+    Some(if rest { x % y } else { x / y } as u64)
 }
 
-/// The constant of a movi.
+/// A shift's count, if it is below the width.
 #[inline(always)]
-fn constant(record: &Record) -> u64 {
-    (u128::from_le_bytes(*record) >> 16) as u64
+fn counted(count: u64, wide: bool) -> Option<u32> {
+    (count < if wide { 64 } else { 32 }).then_some(count as u32)
 }
 
-/// The result of a pure op, none if not stated; none for other ops. `a` and
-/// `b` are the values of its first inputs, `value` gives those of the others.
+/// Two copies of a 32-bit value rotate as one of 64 bits.
+fn twice(a: u64, wide: bool) -> u64 {
+    a | if wide { 0 } else { a << 32 }
+}
+
+/// The values of all variables.
+type Values = [u64; 64];
+
+fn value(values: &Values, variable: u8) -> u64 {
+    values[variable as usize & 63]
+}
+
+/// The result of a pure op, if one is stated.
 #[inline(always)]
-fn result(record: &Record, a: u64, b: u64, value: impl Fn(u8) -> u64) -> Option<u64> {
-    let number = record[0];
-    let wide = number >= WIDE;
-    let width = if wide { 64 } else { 32 };
-    let count = b as u32 & 63;
-    let all = match number & !WIDE {
-        0x05 => return Some(a as i32 as u64),
-        0x06 => return Some(a),
-        0x07 | 0x11 => a,
-        0x10 => return Some(constant(record)),
-        0x12 => a.wrapping_neg(),
-        0x13 => !a,
-        0x14 => a.wrapping_add(b),
-        0x15 => a.wrapping_sub(b),
-        0x16 => a.wrapping_mul(b),
-        0x17 => a & b,
-        0x18 => a | b,
-        0x19 => a ^ b,
-        0x1A => a & !b,
-        0x1B => a | !b,
-        0x1C => !(a ^ b),
-        0x1D => !(a & b),
-        0x1E => !(a | b),
-        0x1F => divided(a, b, wide, i64::wrapping_div)?,
-        0x20 => a.checked_div(b)?,
-        0x21 => divided(a, b, wide, i64::wrapping_rem)?,
-        0x22 => a.checked_rem(b)?,
-        0x23 if b < width => a << count,
-        0x24 if b < width => a >> count,
-        0x25 if b < width => (signed(a, wide) >> count) as u64,
-        0x26 if b < width && wide => a.rotate_left(count),
-        0x26 if b < width => (a as u32).rotate_left(count) as u64,
-        0x27 if b < width && wide => a.rotate_right(count),
-        0x27 if b < width => (a as u32).rotate_right(count) as u64,
-        0x28 => return Some(holds(record[4], a, b, wide) as u64),
-        0x29 => {
-            let chosen = if holds(record[6], a, b, wide) { 4 } else { 5 };
-            return Some(value(record[chosen]));
+fn result(record: &[u8], values: &Values) -> Option<u64> {
+    let wide = record[0] >= 0x80;
+    let a = || value(values, record[2]);
+    let b = || value(values, record[3]);
+    let result = match record[0] & 0x7F {
+        0x10 => return Some(movi_value(record)),
+        0x05 => return Some(signed(a(), false) as u64),
+        0x06 => return Some(a()),
+        0x07 | 0x11 => a(),
+        0x12 => a().wrapping_neg(),
+        0x13 => !a(),
+        0x14 => a().wrapping_add(b()),
+        0x15 => a().wrapping_sub(b()),
+        0x16 => a().wrapping_mul(b()),
+        0x17 => a() & b(),
+        0x18 => a() | b(),
+        0x19 => a() ^ b(),
+        0x1A => a() & !b(),
+        0x1B => a() | !b(),
+        0x1C => !(a() ^ b()),
+        0x1D => !(a() & b()),
+        0x1E => !(a() | b()),
+        0x1F => divide(false, a(), b(), wide)?,
+        0x20 => a().checked_div(b())?,
+        0x21 => divide(true, a(), b(), wide)?,
+        0x22 => a().checked_rem(b())?,
+        0x23 => a() << counted(b(), wide)?,
+        0x24 => a() >> counted(b(), wide)?,
+        0x25 => (signed(a(), wide) >> counted(b(), wide)?) as u64,
+        0x26 => twice(a(), wide).rotate_left(counted(b(), wide)?),
+        0x27 => twice(a(), wide).rotate_right(counted(b(), wide)?),
+        0x28 => holds(record[4], a(), b(), wide) as u64,
+        _ => {
+            let chosen = holds(record[6], a(), b(), wide);
+            value(values, if chosen { record[4] } else { record[5] })
         }
-        _ => return None,
     };
-    Some(if wide { all } else { all as u32 as u64 })
+    Some(cut(result, wide))
 }
 
-/// An op of the folded block.
-struct Line {
-    /// What is dead before the op, and what it then makes live.
-    kills: u64,
-    uses: u64,
-    record: Record,
-    /// The record's length; 0 once the op is dropped.
-    length: u8,
-    pure: bool,
+/// The bits above the bytes of an access.
+fn unused(flags: u8) -> u32 {
+    64 - (8 << (flags & 3))
 }
 
-/// Fold, as the scan goes on.
-struct Folder {
-    /// The variables whose values are known, and the values.
-    known: u64,
-    values: [MaybeUninit<u64>; VARIABLES],
-    globals: u64,
-    lasting: u64,
-    /// Those of the ops so far are written.
-    lines: [MaybeUninit<Line>; OPS],
-    ops: usize,
-}
-
-impl Folder {
-    #[inline(always)]
-    fn new() -> Folder {
-        Folder {
-            known: 0,
-            values: [const { MaybeUninit::uninit() }; VARIABLES],
-            globals: 0,
-            lasting: 0,
-            lines: [const { MaybeUninit::uninit() }; OPS],
-            ops: 0,
-        }
-    }
-
-    #[inline(always)]
-    fn line(&mut self, op: usize, line: Line) {
-        self.lines[op].write(line);
-        self.ops = op + 1;
-    }
-
-    /// The result of an op whose inputs are all known.
-    #[inline(always)]
-    fn folded(&self, kind: &Kind, record: &Record) -> Option<u64> {
-        // SAFETY: a known variable's value was written when it became known.
-        let value = |v: u8| unsafe { self.values[index(v)].assume_init() };
-        let at = |place: u8| value(record[place as usize & 15]);
-        result(record, at(kind.a), at(kind.b), value)
-    }
-
-    #[inline(always)]
-    fn lines(&mut self) -> &mut [Line] {
-        let lines = &mut self.lines[..self.ops];
-        // SAFETY: `line` wrote each of them: the scan tells of the ops in
-        // order, from 0. A line has the layout of one that may be unwritten.
-        unsafe { &mut *(lines as *mut [MaybeUninit<Line>] as *mut [Line]) }
-    }
-}
-
-impl Watcher for Folder {
-    #[inline(always)]
-    fn declared(&mut self, declared: &Declared) {
-        self.globals = below(declared.globals);
-        self.lasting = declared.lasting;
-    }
-
-    #[inline(always)]
-    fn straight(&mut self, op: usize, kind: &Kind, record: &Record, writes: u64, reads: u64) {
-        if kind.pure & (reads & !self.known == 0) {
-            let value = if reads == 0 {
-                Some(constant(record))
-            } else {
-                self.folded(kind, record)
-            };
-            if let Some(value) = value {
-                let [_, d, ..] = *record;
-                self.known |= writes;
-                self.values[index(d)].write(value);
-                let number = MOVI | kind.first_in << 7;
-                let movi = number as u128 | (d as u128) << 8 | (value as u128) << 16;
-                let line = Line {
-                    kills: writes,
-                    uses: 0,
-                    record: movi.to_le_bytes(),
-                    length: 10,
-                    pure: true,
-                };
-                return self.line(op, line);
-            }
-        }
-        self.known &= !writes;
-        let line = Line {
-            kills: writes,
-            uses: reads | self.globals & kind.access as u64,
-            record: *record,
-            length: kind.length,
-            pure: kind.pure,
-        };
-        self.line(op, line);
-    }
-
-    #[inline(always)]
-    fn border(&mut self, op: usize, kind: &Kind, record: &Record, reads: u64) {
-        self.known = 0;
-        let exit = kind.form == Form::ExitTb;
-        let line = Line {
-            kills: u64::MAX,
-            uses: reads | if exit { self.globals } else { self.lasting },
-            record: *record,
-            length: kind.length,
-            pure: false,
-        };
-        self.line(op, line);
-    }
-}
-
-/// Drops the dead ops, backward; the length of what is left. No branch
-/// depends on what is dropped.
+/// What a load gives, if it does not fault.
 #[inline(always)]
-fn prune(lines: &mut [Line]) -> usize {
-    let mut live = 0;
-    let mut size = 0;
-    for line in lines.iter_mut().rev() {
-        let kept = !line.pure | (line.kills & live != 0);
-        let all = (kept as u64).wrapping_neg();
-        live = live & !(line.kills & all) | line.uses & all;
-        line.length &= all as u8;
-        size += line.length as usize;
-    }
-    size
-}
-
-/// Writes records, as long as there is room for sixteen bytes; how many, and
-/// how long they are.
-#[inline(always)]
-fn write(lines: &[Line], out: &mut [u8]) -> (usize, usize) {
-    let mut place = 0;
-    for (i, line) in lines.iter().enumerate() {
-        let Some(room) = out[place..].first_chunk_mut() else {
-            return (i, place);
-        };
-        *room = line.record;
-        place += line.length as usize;
-    }
-    (lines.len(), place)
-}
-
-/// Writes the records, which fill the buffer.
-#[inline(always)]
-fn emit(lines: &[Line], out: &mut [u8]) {
-    let (done, place) = write(lines, out);
-    // Less than sixteen bytes are left.
-    let mut copy = [0; 32];
-    write(&lines[done..], &mut copy);
-    let left = &mut out[place..];
-    left.copy_from_slice(&copy[..left.len()]);
-}
-
-/// 256 * the result's length, else number + 256 * place.
-#[inline(never)]
-pub fn pass(block: &[u8], out: &mut [u8]) -> u64 {
-    let mut folder = Folder::new();
-    let declared = match scan(block, &mut folder) {
-        Ok(declared) => declared,
-        Err(refused) => return refused,
+fn load(memory: &[u8], address: u64, flags: u8, wide: bool) -> Option<u64> {
+    let rest = memory.get(address as usize..)?;
+    let mut value = match flags & 3 {
+        0 => *rest.first()? as u64,
+        1 => u16::from_le_bytes(*rest.first_chunk()?) as u64,
+        2 => u32::from_le_bytes(*rest.first_chunk()?) as u64,
+        _ => u64::from_le_bytes(*rest.first_chunk()?),
     };
-    let lines = folder.lines();
-    let start = DECLARATION * declared.count;
-    let size = start + prune(lines);
-    let Some(out) = out.get_mut(..size) else {
-        return refused(12, 0);
-    };
-    out[..start].copy_from_slice(&block[..start]);
-    emit(lines, &mut out[start..]);
-    256 * size as u64
+    let unused = unused(flags);
+    if flags & 8 != 0 {
+        value = value.swap_bytes() >> unused;
+    }
+    if flags & 4 != 0 {
+        value = ((value << unused) as i64 >> unused) as u64;
+    }
+    Some(cut(value, wide))
 }
 
-/// The records of the ops and the ops that set the labels, for a run.
-struct Decoder {
-    /// Those of the ops so far are written.
-    records: [MaybeUninit<Record>; OPS],
-    ops: usize,
-    labels: [u8; LABELS],
-}
-
-impl Decoder {
-    #[inline(always)]
-    fn new() -> Decoder {
-        Decoder {
-            records: [const { MaybeUninit::uninit() }; OPS],
-            ops: 0,
-            labels: [0; LABELS],
-        }
-    }
-
-    #[inline(always)]
-    fn record(&mut self, op: usize, record: &Record) {
-        self.records[op].write(*record);
-        self.ops = op + 1;
-    }
-
-    #[inline(always)]
-    fn records(&self) -> &[Record] {
-        let records = &self.records[..self.ops];
-        // SAFETY: `record` wrote each of them: the scan tells of the ops in
-        // order, from 0. A record has the layout of one that may be unwritten.
-        unsafe { &*(records as *const [MaybeUninit<Record>] as *const [Record]) }
-    }
-}
-
-impl Watcher for Decoder {
-    #[inline(always)]
-    fn declared(&mut self, _: &Declared) {}
-
-    #[inline(always)]
-    fn straight(&mut self, op: usize, _: &Kind, record: &Record, _: u64, _: u64) {
-        self.record(op, record);
-    }
-
-    #[inline(always)]
-    fn border(&mut self, op: usize, kind: &Kind, record: &Record, _: u64) {
-        if kind.form == Form::SetLabel {
-            self.labels[record[1] as usize & 31] = op as u8;
-        }
-        self.record(op, record);
-    }
-}
-
-/// Do globals and memory fit the block?
+/// Stores the low bytes, if that does not fault.
 #[inline(always)]
-fn fit(declared: &Declared, globals: &[u64], memory: &[u8]) -> bool {
-    let mut narrow = declared.widths[0];
-    let mut high = 0;
-    for value in globals {
-        high |= value & (narrow & 1).wrapping_neg();
-        narrow >>= 1;
+fn store(memory: &mut [u8], address: u64, flags: u8, mut value: u64) -> Option<()> {
+    let rest = memory.get_mut(address as usize..)?;
+    if flags & 8 != 0 {
+        value = (value << unused(flags)).swap_bytes();
     }
-    globals.len() == declared.globals && memory.len() <= MEMORY && high >> 32 == 0
-}
-
-/// The bytes of an access; none if it faults.
-#[inline(always)]
-fn reach(memory: &mut [u8], address: u64, flags: u8) -> Option<&mut [u8]> {
-    let size = 1 << (flags & 3);
-    let address = usize::try_from(address).ok()?;
-    memory.get_mut(address..)?.get_mut(..size)
-}
-
-/// A load's value: bit 3 means big-endian, bit 2 sign-extends.
-#[inline(always)]
-fn load(bytes: &[u8], flags: u8, wide: bool) -> u64 {
-    let value = match *bytes {
-        [a] => a as u64,
-        [a, b] => u16::from_le_bytes([a, b]) as u64,
-        [a, b, c, d] => u32::from_le_bytes([a, b, c, d]) as u64,
-        [a, b, c, d, e, f, g, h] => u64::from_le_bytes([a, b, c, d, e, f, g, h]),
-        _ => 0,
-    };
-    // To the top of the word, and down again.
-    let spare = 64 - (8 << (flags & 3));
-    let top = if flags & 8 != 0 {
-        value.swap_bytes()
-    } else {
-        value << spare
-    };
-    let value = if flags & 4 != 0 {
-        (top as i64 >> spare) as u64
-    } else {
-        top >> spare
-    };
-    if wide {
-        value
-    } else {
-        value as u32 as u64
+    match flags & 3 {
+        0 => *rest.first_mut()? = value as u8,
+        1 => *rest.first_chunk_mut()? = (value as u16).to_le_bytes(),
+        2 => *rest.first_chunk_mut()? = (value as u32).to_le_bytes(),
+        _ => *rest.first_chunk_mut()? = value.to_le_bytes(),
     }
+    Some(())
 }
 
-/// A narrow store writes the low bytes.
-#[inline(always)]
-fn store(bytes: &mut [u8], flags: u8, value: u64) {
-    let spare = 64 - (8 << (flags & 3));
-    let value = if flags & 8 != 0 {
-        value.swap_bytes() >> spare
-    } else {
-        value
-    };
-    let eight = value.to_le_bytes();
-    match bytes.len() {
-        1 => bytes.copy_from_slice(&eight[..1]),
-        2 => bytes.copy_from_slice(&eight[..2]),
-        4 => bytes.copy_from_slice(&eight[..4]),
-        _ => bytes.copy_from_slice(&eight),
-    }
+/// Checks a block: 0 if it is accepted, else number + 256 * place.
+pub fn check(block: &[u8]) -> u64 {
+    let checked = Scan::new(block).all(&mut Fold::<0>::new());
+    checked.map_or_else(|refusal| refusal, |()| 0)
 }
 
-/// The path taken through an accepted block; the report.
-#[inline(always)]
-fn execute(decoder: &Decoder, values: &mut Values, memory: &mut [u8]) -> [u64; 4] {
-    let records = decoder.records();
-    let target = |label: u8| decoder.labels[label as usize & 31] as usize;
-    let mut op = 0;
-    let mut count = 0;
-    loop {
-        let record = &records[op];
-        op += 1;
-        count += 1;
-        let [number, first, a, b, c, ..] = *record;
-        let value = |v: u8| values[index(v)];
-        // Where there is no second input, its value is not used.
-        if let Some(value) = result(record, value(a), value(b), value) {
-            values[index(first)] = value;
-            continue;
-        }
-        let wide = number >= WIDE;
-        let address = values[index(a)];
-        match number & !WIDE {
-            0x02 => {}
-            0x03 => op = target(first),
-            0x04 => return [1, values[index(first)], 0, count],
-            0x2A => {
-                if holds(b, values[index(first)], values[index(a)], wide) {
-                    op = target(c);
-                }
-            }
-            0x2B => match reach(memory, address, b) {
-                Some(bytes) => values[index(first)] = load(bytes, b, wide),
-                None => return [2, address, b as u64, count],
-            },
-            0x2C => match reach(memory, address, b) {
-                Some(bytes) => store(bytes, b, values[index(first)]),
-                None => return [2, address, b as u64 + 256, count],
-            },
-            // A pure op without a stated result, which does not count.
-            _ => return [3, op as u64 - 1, 0, count - 1],
-        }
-    }
-}
-
-/// 0 with the ending in the report, else number + 256 * place.
-#[inline(never)]
+/// Runs a block on the globals and memory; 0 and the report, or a refusal.
 pub fn run(block: &[u8], globals: &mut [u64], memory: &mut [u8], report: &mut [u64; 4]) -> u64 {
-    let mut decoder = Decoder::new();
-    let declared = match scan(block, &mut decoder) {
-        Ok(declared) => declared,
-        Err(refused) => return refused,
-    };
-    if !fit(&declared, globals, memory) {
+    let mut scan = Scan::new(block);
+    if let Err(refusal) = scan.all(&mut Fold::<0>::new()) {
+        return refusal;
+    }
+    let mut high = 0;
+    for (&value, &against) in globals.iter().zip(&scan.starting) {
+        high |= (value >> 32) & ((against & NOT_WIDE) as u64).wrapping_neg();
+    }
+    if globals.len() != scan.globals || high != 0 || memory.len() > MEMORY {
         return refused(11, 0);
     }
-    // Local temporaries start at zero.
-    let mut values = [0; VARIABLES];
+    let mut values = [0; 64];
     values[..globals.len()].copy_from_slice(globals);
-    *report = execute(&decoder, &mut values, memory);
+    *report = execute(&scan, &mut values, memory);
     globals.copy_from_slice(&values[..globals.len()]);
     0
+}
+
+/// Runs an accepted block from its first op; the report.
+fn execute(scan: &Scan, values: &mut Values, memory: &mut [u8]) -> [u64; 4] {
+    let (block, places, start) = (scan.block, &scan.places, 3 * scan.variables);
+    let mut place = start;
+    let mut count = 0;
+    loop {
+        let record = &block[place..];
+        let wide = record[0] >= 0x80;
+        count += 1;
+        match record[0] {
+            0x02 => place += 2,
+            0x03 => place = places[record[1] as usize & 31] as usize,
+            0x04 => return [1, value(values, record[1]), 0, count],
+            0x2A | 0xAA => {
+                let (a, b) = (value(values, record[1]), value(values, record[2]));
+                place += 5;
+                if holds(record[3], a, b, wide) {
+                    place = places[record[4] as usize & 31] as usize;
+                }
+            }
+            0x2B | 0xAB => {
+                let address = value(values, record[2]);
+                let Some(loaded) = load(memory, address, record[3], wide) else {
+                    return [2, address, record[3] as u64, count];
+                };
+                values[record[1] as usize & 63] = loaded;
+                place += 4;
+            }
+            0x2C | 0xAC => {
+                let (new, address) = (value(values, record[1]), value(values, record[2]));
+                if store(memory, address, record[3], new).is_none() {
+                    return [2, address, 256 + record[3] as u64, count];
+                }
+                place += 4;
+            }
+            kind => {
+                let Some(result) = result(record, values) else {
+                    return [3, position(&block[start..place]), 0, count - 1];
+                };
+                values[record[1] as usize & 63] = result;
+                place += KINDS[kind as usize].length as usize;
+            }
+        }
+    }
+}
+
+/// How many ops these bytes hold.
+#[cold]
+fn position(mut ops: &[u8]) -> u64 {
+    let mut count = 0;
+    while let Some(&kind) = ops.first() {
+        ops = &ops[KINDS[kind as usize].length as usize..];
+        count += 1;
+    }
+    count
+}
+
+/// Where an op starts, its first operand, its effect.
+type Mark = (u16, u8, Effect);
+
+/// What fold keeps for prune and the writing, with room for so many ops; a
+/// scan that only checks has none.
+struct Fold<const ROOM: usize> {
+    /// The known values.
+    values: Values,
+    count: usize,
+    marks: [Mark; ROOM],
+    /// What the op reads or, if it is folded, its value.
+    slots: [u64; ROOM],
+}
+
+/// What prune keeps: the ops, those folded, and the length of the result.
+type Plan = ([u64; 4], [u64; 4], usize);
+
+impl<const ROOM: usize> Fold<ROOM> {
+    fn new() -> Fold<ROOM> {
+        Fold {
+            values: [0; 64],
+            count: 0,
+            marks: [(0, 0, Effect::Pure); ROOM],
+            slots: [0; ROOM],
+        }
+    }
+
+    #[inline(always)]
+    fn push(&mut self, place: usize, first: u8, effect: Effect, slot: u64) {
+        if ROOM > 0 {
+            let position = self.count & (ROOM - 1);
+            self.marks[position] = (place as u16, first, effect);
+            self.slots[position] = slot;
+            self.count += 1;
+        }
+    }
+
+    /// Folds an op whose inputs are known, if it can be. Not inlined, so that
+    /// the scan stays small.
+    #[inline(never)]
+    fn folds(&mut self, place: usize, row: &Row, record: &[u8]) -> bool {
+        if row.effect != Effect::Pure {
+            return false;
+        }
+        let Some(result) = result(record, &self.values) else {
+            return false;
+        };
+        self.values[record[1] as usize & 63] = result;
+        self.push(place, record[1], Effect::Folded, result);
+        true
+    }
+
+    /// Reads the folded ops backward.
+    #[inline(never)]
+    fn prune(&self, scan: &Scan) -> Plan {
+        let globals = first(scan.globals);
+        let lasting = first(scan.variables) & !scan.temporaries;
+        // By effect: what the op makes live besides what it reads, and masks.
+        let adds = [0, 0, globals, globals, globals, lasting, 0, 0];
+        const STAYS: [u64; 8] = [0, 0, 1, 1, 1, 1, 1, 1];
+        const READS: [u64; 8] = [!0, 0, !0, !0, !0, !0, 0, 0];
+        const WRITES: [u64; 8] = [!0, !0, !0, 0, 0, 0, 0, 0];
+        const AFTER: [u64; 8] = [!0, !0, !0, !0, 0, 0, 0, 0];
+        let (mut all_kept, mut all_folded, mut length) = ([0; 4], [0; 4], 3 * scan.variables);
+        let (mut live, mut next) = (0u64, scan.block.len());
+        let marks = self.marks[..self.count].chunks(64);
+        let slots = self.slots[..self.count].chunks(64);
+        for ((marks, slots), word) in marks.zip(slots).zip(0..4).rev() {
+            let (mut kept, mut folded) = (0, 0);
+            for (&(start, first, effect), slot) in marks.iter().zip(slots).rev() {
+                let effect = effect as usize & 7;
+                let keep = STAYS[effect] | live >> (first & 63) & 1;
+                let fold = (effect == Effect::Folded as usize) as u64;
+                live = live & AFTER[effect] & !(one(first) & WRITES[effect]);
+                live |= adds[effect] | slot & READS[effect] & keep.wrapping_neg();
+                kept = kept << 1 | keep;
+                folded = folded << 1 | fold;
+                let bytes = if fold != 0 { 10 } else { next - start as usize };
+                length += bytes & (keep as usize).wrapping_neg();
+                next = start as usize;
+            }
+            (all_kept[word], all_folded[word]) = (kept, folded);
+        }
+        (all_kept, all_folded, length)
+    }
+
+    /// Writes the declarations and what is kept, neighbours together.
+    #[inline(never)]
+    fn write(&self, (all_kept, all_folded, _): &Plan, block: &[u8], out: &mut [u8]) {
+        let start = |position: usize| match self.marks[..self.count].get(position) {
+            Some(mark) => mark.0 as usize,
+            None => block.len(),
+        };
+        let mut to = start(0);
+        out[..to].copy_from_slice(&block[..to]);
+        for (word, (&kept, &folded)) in all_kept.iter().zip(all_folded).enumerate() {
+            let mut left = kept;
+            while left != 0 {
+                let at = left.trailing_zeros();
+                let position = 64 * word + at as usize;
+                let from = start(position);
+                let run = ((kept & !folded) >> at).trailing_ones();
+                if run == 0 {
+                    let wide = KINDS[block[from] as usize].asked[0] == NOT_WIDE;
+                    let movi = &mut out[to..to + 10];
+                    movi[0] = if wide { 0x90 } else { 0x10 };
+                    movi[1] = block[from + 1];
+                    movi[2..].copy_from_slice(&self.slots[position].to_le_bytes());
+                    to += 10;
+                } else {
+                    let end = start(position + run as usize);
+                    out[to..to + end - from].copy_from_slice(&block[from..end]);
+                    to += end - from;
+                }
+                left &= !first((at + run.max(1)) as usize);
+            }
+        }
+    }
+}
+
+/// Folds and prunes into the buffer: 256 * the result's length, or a refusal.
+pub fn pass(block: &[u8], out: &mut [u8]) -> u64 {
+    // An op has at least two bytes; few ops need less room, which is sooner cleared.
+    if block.len() <= 128 {
+        pass_in::<64>(block, out)
+    } else {
+        pass_in::<OPS>(block, out)
+    }
+}
+
+fn pass_in<const ROOM: usize>(block: &[u8], out: &mut [u8]) -> u64 {
+    let mut fold = Fold::<ROOM>::new();
+    let mut scan = Scan::new(block);
+    if let Err(refusal) = scan.all(&mut fold) {
+        return refusal;
+    }
+    let plan = fold.prune(&scan);
+    if out.len() < plan.2 {
+        return refused(12, 0);
+    }
+    fold.write(&plan, block, out);
+    256 * plan.2 as u64
 }

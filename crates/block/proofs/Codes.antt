@@ -15,7 +15,7 @@ use Rattle.theory.proofs.Sets.{tell, and-l, and-r}
 use Rattle.ops.specs.Rows.{Row, isClosing, typesOf}
 use Rattle.ops.specs.Ops.{bytesAt}
 use Rattle.block.specs.Rules.{keptIn, allBelow, haveTypes, wroteBy}
-use Rattle.block.specs.Scan.{SetAt, codesIn, codeOf, Coded, readableIn, fitsAs, operandsFit, opened, openAll, codesBy, codeFor}
+use Rattle.block.specs.Scan.{SetAt, codesIn, codeOf, Coded, fitsAs, operandsFit, opened, openAll, codesBy, codeFor}
 
 and-none : (a : Bool) → (a && false) ≡ false
 and-none true = refl
@@ -78,31 +78,6 @@ module _ {vars classes types : List ℕ} {written : Vars} (c : Coded vars classe
       rw (q, lt-ltb 0 (suc outs) (omega arith))
       (ap₂ (λ (x y : Bool). x && y) (fits-at true v (codes % 4) (omega arith)) (fit-all outs (codes / 4) m vs (omega arith))
       ∙ shuffle (ltb v (length classes)) (eqb (getD types v 0) (codes % 4)) true (allBelow (length classes) vs) (haveTypes types vs (typesOf m (codes / 4))) (allIn (keptIn classes) (drop outs vs) written))
-
-  -- what may be read, as the bytes tell it
-  readable-at : (v : ℕ) → (keptIn classes v || readableIn vars v) ≡ (keptIn classes v || written v)
-  readable-at v = ap (λ (codes : ℕ → ℕ). keptIn classes v || eqb (codes v / 4) 1) (c .codes-are) ∙ go (keptIn classes v) (written v) refl (tell (ltb v (length classes)))
-    where
-      x : ℕ
-      x = getD types v 0
-
-      go : (k w : Bool) → written v ≡ w → (ltb v (length classes) ≡ true) ⊎ (ltb v (length classes) ≡ false) → (k || eqb (cond (ltb v (length classes)) (cond (k || w) (x + 4) x) 8 / 4) 1) ≡ (k || w)
-      go true w q t = refl
-      go false true q (inl t) = rw t (eq-eqb ((x + 4) / 4) 1 (omega (arith, c .types-small v)))
-      go false false q (inl t) = rw t (ne-eqb (x / 4) 1 (λ z. omega (arith, c .types-small v)))
-      go false w q (inr t) = rw t (sym (c .inside v (ltb-false v (length classes) t)) ∙ q)
-
-  pub reads-alike : (vs : List ℕ) → allIn (keptIn classes) vs (readableIn vars) ≡ allIn (keptIn classes) vs written
-  reads-alike [] = refl
-  reads-alike (v ∷ vs) = ap₂ (λ (x y : Bool). x && y) (readable-at v) (reads-alike vs)
-
-  pub coded-readable : Coded vars classes types (readableIn vars)
-  coded-readable =
-      record {
-        codes-are = c .codes-are ∙ fun-ext (λ v. ap (λ (k : Bool). cond (ltb v (length classes)) (cond k (getD types v 0 + 4) (getD types v 0)) 8) (sym (readable-at v)));
-        types-small = c .types-small;
-        inside = λ v h. ap (λ (codes : ℕ → ℕ). eqb (codes v / 4) 1) (c .codes-are) ∙ rw (le-ltb v (length classes) h);
-      }
 
 -- an entry of an array that one store changes
 getD-set : (xs : List ℕ) (i x v d : ℕ) → i < length xs → getD (set xs i x) v d ≡ cond (eqb v i) x (getD xs v d)

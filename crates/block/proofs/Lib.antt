@@ -13,7 +13,6 @@ pub mod OpRules
 pub mod Rests
 pub mod MarkSets
 pub mod Codes
-pub mod Marking
 pub mod Declaring
 pub mod Scanning
 pub mod Scanned

@@ -1,7 +1,7 @@
 -- The sets of variables and labels that arrays hold, and how stores change them. Assumes nothing.
 use mathlib.Core.Path.{_≡_, refl, sym, ap, ap₂, _∙_, subst, fun-ext}
 use mathlib.Core.Bool.{Bool, true, false, cond, not, _&&_, _||_}
-use mathlib.Core.List.{List, [], _∷_}
+use mathlib.Core.List.{List}
 use mathlib.Core.Logic.{_⊎_, inl, inr}
 use Prim.Native.Nat.{ℕ, zero, suc, _+_, _-_, _≤_, _<_}
 use native.Mathlib.Omega.{arith}
@@ -10,10 +10,10 @@ use lib.ListN.{length, getD, set, replicate}
 use lib.Seq.{getD-set-same, getD-set-other}
 use borrow.Author.Tests.{eqb-true, eqb-false, ne-eqb}
 use Rattle.theory.specs.Machine.{upd}
-use Rattle.theory.specs.Sets.{Vars, empty, plus}
+use Rattle.theory.specs.Sets.{Vars, empty}
 use Rattle.theory.proofs.Sets.{tell}
-use Rattle.ops.specs.Rows.{Row, isClosing, isSetting, isJumping}
-use Rattle.block.specs.Rules.{allSet, labelFree, wroteBy, markedBy}
+use Rattle.ops.specs.Rows.{Row, isSetting, isJumping}
+use Rattle.block.specs.Rules.{allSet, labelFree, markedBy}
 use Rattle.block.specs.Scan.{marked, numbered, SetAt, LabelledAs}
 
 pub set-here : (xs : List ℕ) (i x : ℕ) → i < length xs → SetAt xs i x (set xs i x)
@@ -34,13 +34,6 @@ marked-upd {xs} {ys} {d} s = fun-ext (λ v. ap (λ (n : ℕ). eqb n 1) (at-place
     go : (b : Bool) (y : ℕ) → eqb (cond b 1 y) 1 ≡ cond b true (eqb y 1)
     go true y = refl
     go false y = refl
-
-pub marked-plus : {xs ys : List ℕ} {d : ℕ} → SetAt xs d 1 ys → marked ys ≡ plus (marked xs) (d ∷ [])
-marked-plus {xs} {ys} {d} s = marked-upd s ∙ fun-ext (λ v. go (eqb d v) (marked xs v))
-  where
-    go : (b m : Bool) → cond b true m ≡ ((b || false) || m)
-    go true m = refl
-    go false m = refl
 
 pub numbered-upd : {xs ys : List ℕ} {d x : ℕ} → SetAt xs d x ys → 0 < x → numbered ys ≡ upd (numbered xs) d true
 numbered-upd {xs} {ys} {d} {x} s h = fun-ext (λ v. ap (λ (m : ℕ). not (eqb m 0)) (at-place s v) ∙ go (eqb d v) (getD xs v 0))
@@ -93,13 +86,6 @@ module _ (row : Row) (labels : Vars) {s j : Bool} (es : s ≡ isSetting (row .ro
   free-other l t = rw (sym named-is ∙ t)
 
 -- what an op leaves, by the columns of its role
-module _ (row : Row) (w : Vars) (outs : List ℕ) {c : Bool} (e : c ≡ isClosing (row .role)) {x : Vars} where
-  pub wrote-none : c ≡ true → x ≡ empty → x ≡ wroteBy row w outs
-  wrote-none t q = q ∙ ap (λ (b : Bool). cond b empty (plus w outs)) (sym (sym e ∙ t))
-
-  pub wrote-more : c ≡ false → x ≡ plus w outs → x ≡ wroteBy row w outs
-  wrote-more t q = q ∙ ap (λ (b : Bool). cond b empty (plus w outs)) (sym (sym e ∙ t))
-
 module _ (row : Row) (l op : ℕ) {xs : List ℕ} {s : Bool} (e : s ≡ isSetting (row .role)) where
   pub labelled-so : {m : ℕ} {ys : List ℕ} → s ≡ true → m ≡ l → SetAt xs m (op + 1) ys → LabelledAs row l op xs ys
   labelled-so {m} {ys} t q w =

@@ -13,11 +13,11 @@ use Rattle.theory.specs.Sets.{Vars, allIn}
 use Rattle.theory.proofs.Sets.{tell, and-l, and-r}
 use Rattle.ops.specs.Limits.{maxOps}
 use Rattle.ops.specs.Rows.{Table, Row, outsIn, insIn, restIn, testIn, roleIn, typesIn, typesOf, rowIn, roleNo, isKnown, isClosing, testOk, outputCount, operandTypes, operandCount}
-use Rattle.ops.specs.Ops.{rowAt, bytesAt, insBy}
+use Rattle.ops.specs.Ops.{bytesAt}
 use Rattle.ops.proofs.Entry.{Digits}
 use Rattle.block.specs.Checks.{asks, firstBroken, opRules}
-use Rattle.block.specs.Rules.{Seen, keptIn, allBelow, operandsOf, rule4, haveTypes, rule5, rule6, labelFree, rule7, rule8, rule9}
-use Rattle.block.specs.Scan.{recordAt, Stands, codesIn, codeOf, Coded, fitsAs, operandsFit, declaredAll, numbered, opTests, operandsOk, entryRule, opStands, opOk, straightOk}
+use Rattle.block.specs.Rules.{Seen, keptIn, allBelow, rule4, haveTypes, rule5, rule6, labelFree, rule7, rule8, rule9}
+use Rattle.block.specs.Scan.{recordAt, Stands, codesIn, Coded, fitsAs, operandsFit, declaredAll, numbered, opTests, operandsOk, entryRule, opStands, opOk, straightOk}
 use Rattle.block.proofs.Codes.{fit-all}
 use Rattle.block.proofs.Views.{kind-byte, row-at, operand-bytes, input-bytes, label-byte, rule4-at, rule6-at}
 

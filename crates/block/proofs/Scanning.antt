@@ -10,7 +10,7 @@ use lib.ListN.{length, getD, take, drop, set, replicate}
 use borrow.Author.Tests.{ltb-true, ltb-false, eqb-true, eqb-false, eq-eqb, ne-eqb, leb-false, le-leb, lt-leb, not-true}
 use native.Mathlib.Nat.{zero-add}
 use native.Mathlib.Numerals.{add-one}
-use Rattle.theory.specs.Sets.{Vars, empty}
+use Rattle.theory.specs.Sets.{Vars}
 use Rattle.theory.proofs.Sets.{tell, and-l, and-r}
 use Rattle.ops.specs.Rows.{known, bodyLength, Table}
 use Rattle.ops.specs.Limits.{maxOps}
@@ -24,8 +24,8 @@ use Rattle.block.specs.Checks.{asks, firstBroken, opRules, rulesOf, endR
 use Rattle.block.specs.Records.{Cut, cons, cutOf, isDeclaration, classOf, typeOf}
 use Rattle.block.specs.Rules.{Seen, allGlobal, allBelow, rule3, rule4, markedBy, rule9, rule10, allSet}
 use Rattle.block.specs.Rules.{rule7end, passed, next}
-use Rattle.block.specs.Scan.{recordAt, Stands, checkAt, codesIn, Coded, openAll, codesBy, marked, numbered, LabelledAs, declaredSeen, recordRule, opTests, operandsOk, entryRule, opStands, opOk}
-use Rattle.block.specs.Scan.{placesFrom, labelsFrom, recordsAt, ScannedBy, refuses-op, accepts-ops, Marks, Begins, Reading, ReadsOn, straightOk}
+use Rattle.block.specs.Scan.{recordAt, Stands, checkAt, codesIn, openAll, codesBy, marked, numbered, LabelledAs, declaredSeen, recordRule, opTests, operandsOk, entryRule, opStands, opOk}
+use Rattle.block.specs.Scan.{placesFrom, labelsFrom, recordsAt, ScannedBy, refuses-op, accepts-ops, Marks, Begins, Reading, straightOk}
 use Rattle.block.proofs.Accepts.{allMet, none-broken, numbered-rules}
 use Rattle.block.proofs.Fields.{kind-at, below-left}
 use Rattle.block.proofs.MarkSets.{marked-none, numbered-none, labelled-not, target-not}

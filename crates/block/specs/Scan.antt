@@ -6,7 +6,7 @@ use Prim.Native.Nat.{ℕ, suc, _+_, _-_, _*_, _/_, _%_, _≤_, _<_}
 use lib.Dec.{eqb, ltb, leb}
 use lib.ListN.{length, getD, take, drop, set, replicate}
 use Rattle.theory.specs.Machine.{All}
-use Rattle.theory.specs.Sets.{Vars, empty, has, plus, without}
+use Rattle.theory.specs.Sets.{Vars, empty, has}
 use Rattle.ops.specs.Rows.{known, bodyLength, Table}
 use Rattle.ops.specs.Limits.{maxOps}
 use Rattle.ops.specs.Rows.{Row, outsIn, insIn, restIn, testIn, roleIn, typesIn, rowIn, roleNo, isKnown, isClosing, isSetting, isJumping, testOk}
@@ -47,9 +47,6 @@ pub record Coded (vars classes types : List ℕ) (written : Vars) : Type 0 where
   pub types-small : (v : ℕ) → getD types v 0 < 4
   pub inside : (v : ℕ) → length classes ≤ v → written v ≡ false
 
-abbrev pub readableIn : List ℕ → Vars
-readableIn vars v = eqb (codesIn vars v / 4) 1
-
 -- a variable with this byte may be read at a type, or, where it is an output, only has it
 abbrev pub fitsAs : Bool → ℕ → ℕ → Bool
 fitsAs output code type = eqb code (type + 4) || (output && eqb code type)
@@ -74,10 +71,6 @@ openAll codes vs v = cond (has vs v) (opened (codes v)) (codes v)
 -- the variables whose byte is 1; the labels whose number is not 0
 abbrev pub marked : List ℕ → Vars
 marked bytes v = eqb (getD bytes v 0) 1
-
--- and those, once the bytes of some hold x
-abbrev pub markedAs : ℕ → Vars → List ℕ → Vars
-markedAs x l vs = cond (eqb x 1) (plus l vs) (without l vs)
 
 abbrev pub numbered : List ℕ → Vars
 numbered numbers l = not (eqb (getD numbers l 0) 0)

@@ -1,7 +1,5 @@
 // Sets of variables, which bytes name, each held as four words of 64 bits.
 ghost use mathlib.Core.Path.{_≡_};
-ghost use mathlib.Core.Bool.{true};
-ghost use mathlib.Core.Logic.{_↔_};
 ghost use mathlib.Core.List.{[], _∷_};
 ghost use Prim.Native.Nat.{_+_, _-_, _/_, _%_, _^_, _≤_, _<_, min};
 ghost use lib.ListN.{length, set};
@@ -103,14 +101,6 @@ pub fn below(n: usize) -> [u64; 4]
     ensures { λ r. ⌜ members r ≡ below n ⌝ }
 {
     [ones(n, 0), ones(n, 64), ones(n, 128), ones(n, 192)]
-}
-
-pub fn same(s: &[u64; 4], t: &[u64; 4]) -> bool
-    ensures { λ r. ⌜ (r ≡ true) ↔ (members (now (s .entry)) ≡ members (now (t .entry))) ⌝ }
-{
-    let a: &[u64] = s;
-    let b: &[u64] = t;
-    (a[0] == b[0]) & (a[1] == b[1]) & (a[2] == b[2]) & (a[3] == b[3])
 }
 
 // The variables that the bytes from a place on name are added.

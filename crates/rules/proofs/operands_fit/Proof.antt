@@ -1,11 +1,8 @@
 -- `operands_fit` tests each operand. Assumes nothing.
-use mathlib.Core.Path.{_≡_, sym, ap, _∙_}
-use mathlib.Core.Bool.{Bool}
-use Prim.Native.Nat.{_-_, _%_, _≤_}
+use Prim.Native.Nat.{_-_, _≤_}
 use native.Mathlib.Omega.{arith}
-use borrow.Author.Tests.{not-true, not-false, lt-ltb}
+use borrow.Author.Tests.{not-true, not-false}
 use borrow.Author.Needs.{needs}
-use Rattle.block.specs.Scan.{fitsAs}
 use Rattle.block.proofs.Operands.{Fits, fits-start, fits-next, fits-stops, fits-ends}
 use Rattle.rules.proofs.operands_fit.Statement.{statement}
 use Rattle.rules.proofs.operands_fit.Tie as tie

@@ -1,6 +1,5 @@
 -- `broken_rule` asks the rules of an op in order. Assumes nothing.
 use native.Mathlib.Omega.{arith}
-use mathlib.Core.Path.{sym, _∙_}
 use borrow.Author.Tests.{not-true, not-false}
 use borrow.Author.Needs.{needs}
 use Rattle.block.proofs.OpRules.{Op, count-inside, rest-inside, declared-by, typed-by, rest-by, free-by, is-9, is-4, is-5, is-6, is-7, is-8}

@@ -1,6 +1,5 @@
 -- `op_ok` is the fast test of an op. Assumes nothing.
 use native.Mathlib.Omega.{arith}
-use mathlib.Core.Path.{sym, _∙_}
 use borrow.Author.Tests.{not-true, not-false}
 use borrow.Author.Needs.{needs}
 use Rattle.block.proofs.OpRules.{Op, count-inside, rest-inside, fit-by, rest-by, ok-late, ok-misfit, ok-rest, ok-free}

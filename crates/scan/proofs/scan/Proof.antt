@@ -1,6 +1,5 @@
 -- `scan` reads the declarations and then the ops. Assumes nothing.
 use mathlib.Core.Path.{refl}
-use borrow.Author.Needs.{needs}
 use Rattle.block.proofs.Scanned.{begins-by, scan-refused, scan-done}
 use Rattle.ops.proofs.Document01.{table-lawful}
 use Rattle.ops.specs.Kinds.{rowOf}

@@ -7,7 +7,6 @@ use lib.ListN.{length, getD}
 use borrow.Author.Tests.{not-true, not-false}
 use borrow.Author.Needs.{needs}
 use Rattle.ops.specs.Kinds.{kindTable, rowOf}
-use Rattle.ops.specs.Rows.{bodyLength}
 use Rattle.ops.proofs.Entry.{digits}
 use Rattle.ops.proofs.Table.{asks-few}
 use Rattle.block.specs.Scan.{Reading}
