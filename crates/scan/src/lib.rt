@@ -1,161 +1,29 @@
 // Reads a block: the rules in order, and where each op and label is.
 ghost use mathlib.Core.Path.{_≡_};
 ghost use mathlib.Core.Bool.{false};
-ghost use Prim.Native.Nat.{_+_, _≤_, _<_};
-ghost use lib.ListN.{length, getD};
-ghost use Rattle.ops.specs.Rows.{outsIn, insIn, restIn, testIn, asksFor};
+ghost use Prim.Native.Nat.{_≤_, _<_};
+ghost use lib.ListN.{length};
+ghost use Rattle.ops.specs.Rows.{restIn, testIn, asksFor};
 ghost use Rattle.ops.specs.Kinds.{rowOf, kindTable};
-ghost use Rattle.block.specs.Checks.{firstBroken};
-ghost use Rattle.block.specs.Scan.{recordAt, Stands, opTests, entryRule, opStands, opOk, straightOk, Marks, Begins, ReadsOn, ScannedBy, Scanned};
+ghost use Rattle.block.specs.Scan.{entryRule, Begins, ReadsOn, ScannedBy, Scanned};
 use declarations::scan_declarations;
 use kinds::body_length;
 use kinds::entry;
-use kinds::is_closing;
-use kinds::is_known;
-use kinds::operand_count;
 use kinds::outs;
-use kinds::types;
-use leaves::mark_label;
-use leaves::mark_target;
-use leaves::open_all;
+use op_marks::mark_op;
+use op_marks::open_all;
+use op_tests::op_ok;
+use op_tests::op_stands;
+use op_tests::record_rule;
+use op_tests::straight_ok;
 use ops::LABELS;
-use ops::MAX_OPS;
-use rules::all_declared;
 use rules::all_set;
-use rules::all_typed;
-use rules::label_free;
-use rules::operands_fit;
-use rules::rest_ok;
-
-mod leaves;
-
-// Whether an op stands at a place, whole. e is the entry of its kind.
-fn op_stands(e: u32, block: &[u8], at: usize) -> bool
-    requires { ⌜ at < length (now block) ⌝ }
-    ensures { λ r. ⌜ r ≡ opStands e (now (block .entry)) at ⌝ }
-{
-    is_known(e) & !(block.len() - at <= body_length(e)) & !(block[at] == 1)
-}
-
-// Whether the op, the op-th, meets every rule from 9 on: the fast test.
-fn op_ok(e: u32, block: &[u8], at: usize, op: usize, vars: &[u8; 256], labels: &[u16; 256]) -> bool
-    requires { ⌜ (at + (outsIn e + insIn e + restIn e) < length (now block)) × (asksFor (testIn e) ≤ restIn e) ⌝ }
-    ensures { λ r. ⌜ r ≡ opOk e (now (block .entry)) at op (now (vars .entry)) (now (labels .entry)) ⌝ }
-{
-    if MAX_OPS <= op {
-        return false;
-    }
-    let count = operand_count(e);
-    if !operands_fit(block, at + 1, outs(e), count, types(e), vars) {
-        return false;
-    }
-    if !rest_ok(e, block, at + 1 + count) {
-        return false;
-    }
-    label_free(e, block, at, labels)
-}
-
-// The rule from 9 on that it breaks, where the fast test fails: 8 if no other.
-fn broken_rule(
-    e: u32,
-    block: &[u8],
-    at: usize,
-    ops: usize,
-    vars: &[u8; 256],
-    labels: &[u16; 256],
-) -> u8
-    requires { ⌜ (at + (outsIn e + insIn e + restIn e) < length (now block)) × (asksFor (testIn e) ≤ restIn e) ⌝ }
-    ensures { λ r. ⌜ r ≡ firstBroken (opTests e (now (block .entry)) at ops (now (vars .entry)) (now (labels .entry)) false) ⌝ }
-{
-    if MAX_OPS <= ops {
-        return 9;
-    }
-    let count = operand_count(e);
-    if !all_declared(block, at + 1, count, vars) {
-        return 4;
-    }
-    if !all_typed(block, at + 1, count, types(e), vars) {
-        return 5;
-    }
-    if !rest_ok(e, block, at + 1 + count) {
-        return 6;
-    }
-    if !label_free(e, block, at, labels) {
-        return 7;
-    }
-    8
-}
-
-// The rule that the record at a place breaks, after ops ops, where a test fails.
-fn record_rule(
-    e: u32,
-    block: &[u8],
-    at: usize,
-    ops: usize,
-    vars: &[u8; 256],
-    labels: &[u16; 256],
-) -> u8
-    requires { ⌜ (at < length (now block)) × (asksFor (testIn e) ≤ restIn e) ⌝ }
-    ensures { λ r. ⌜ r ≡ entryRule e (now (block .entry)) at ops (now (vars .entry)) (now (labels .entry)) false ⌝ }
-{
-    if !is_known(e) {
-        return 2;
-    }
-    if block.len() - at <= body_length(e) {
-        return 1;
-    }
-    if block[at] == 1 {
-        return 3;
-    }
-    broken_rule(e, block, at, ops, vars, labels)
-}
-
-// What the op at a place leaves in the arrays; base: the variables' bytes at the start of a basic block.
-fn mark_op(
-    e: u32,
-    block: &[u8],
-    at: usize,
-    op: usize,
-    base: &[u8; 256],
-    vars: &mut [u8; 256],
-    labels: &mut [u16; 256],
-    targets: &mut [u8; 256],
-)
-    requires { ⌜ Stands rowOf (now block) at (getD (now block) at 0) × (op < 1024) × (e ≡ getD kindTable (getD (now block) at 0) 0) ⌝ }
-    ensures { λ r. ⌜ Marks rowOf (recordAt rowOf (now (block .entry)) at) op (now (base .entry)) (now (vars .entry)) (now (vars .exit)) (now (labels .entry)) (now (labels .exit)) (now (targets .entry)) (now (targets .exit)) ⌝ }
-{
-    if !is_closing(e) {
-        open_all(block, at + 1, outs(e), vars);
-        return;
-    }
-    *vars = *base;
-    mark_label(e, block, at, op, labels);
-    mark_target(e, block, at, targets);
-}
 
 // What the scan of the ops finds: the rule that is broken and its place, or 0 and how many ops there are.
 pub struct Ops {
     pub rule: u8,
     pub place: usize,
     pub ops: usize,
-}
-
-// Whether an op stands at a place that meets every rule and after which its basic block goes on.
-fn straight_ok(e: u32, block: &[u8], at: usize, op: usize, vars: &[u8; 256]) -> bool
-    requires { ⌜ (at < length (now block)) × (asksFor (testIn e) ≤ restIn e) ⌝ }
-    ensures { λ r. ⌜ r ≡ straightOk e (now (block .entry)) at op (now (vars .entry)) ⌝ }
-{
-    if !op_stands(e, block, at) {
-        return false;
-    }
-    if is_closing(e) | (MAX_OPS <= op) {
-        return false;
-    }
-    let count = operand_count(e);
-    if !operands_fit(block, at + 1, outs(e), count, types(e), vars) {
-        return false;
-    }
-    rest_ok(e, block, at + 1 + count)
 }
 
 // Where reading has come to: the next place, how many ops have been read, and the last one's kind.

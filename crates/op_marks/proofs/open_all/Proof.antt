@@ -4,8 +4,8 @@ use mathlib.Core.Path.{refl}
 use native.Mathlib.Omega.{arith}
 use borrow.Author.Needs.{needs}
 use Rattle.block.proofs.Codes.{Opening, opening-start, opening-next, opening-end}
-use Rattle.scan.proofs.leaves.open_all.Statement.{statement}
-use Rattle.scan.proofs.leaves.open_all.Tie as tie
+use Rattle.op_marks.proofs.open_all.Statement.{statement}
+use Rattle.op_marks.proofs.open_all.Tie as tie
 
 abbrev Inv-loop : tie.InvT-loop
 Inv-loop block from count vars₀ j₀ vars j = (j ≤ count) × Opening block vars₀ vars from count j

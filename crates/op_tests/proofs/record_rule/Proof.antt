@@ -4,8 +4,8 @@ use mathlib.Core.Path.{sym, _∙_}
 use borrow.Author.Tests.{not-true, not-false}
 use borrow.Author.Needs.{needs}
 use Rattle.block.proofs.OpRules.{entry-2, entry-1, entry-3, entry-op}
-use Rattle.scan.proofs.record_rule.Statement.{statement}
-use Rattle.scan.proofs.record_rule.Tie as tie
+use Rattle.op_tests.proofs.record_rule.Statement.{statement}
+use Rattle.op_tests.proofs.record_rule.Tie as tie
 
 is-known-requires : tie.Need-is-known-requires
 is-known-requires c κs = search needs

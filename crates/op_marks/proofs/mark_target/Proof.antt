@@ -4,8 +4,8 @@ use Prim.Native.Nat.{ℕ, _+_}
 use lib.ListN.{getD}
 use Rattle.block.proofs.MarkSets.{target-so, target-not}
 use borrow.Author.Needs.{needs}
-use Rattle.scan.proofs.leaves.mark_target.Statement.{statement}
-use Rattle.scan.proofs.leaves.mark_target.Tie as tie
+use Rattle.op_marks.proofs.mark_target.Statement.{statement}
+use Rattle.op_marks.proofs.mark_target.Tie as tie
 
 is-jumping-requires : tie.Need-is-jumping-requires
 is-jumping-requires c κs = search needs

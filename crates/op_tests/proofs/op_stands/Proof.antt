@@ -1,7 +1,7 @@
 -- `op_stands` tests that an op stands at a place. Assumes nothing.
 use borrow.Author.Needs.{needs}
-use Rattle.scan.proofs.op_stands.Statement.{statement}
-use Rattle.scan.proofs.op_stands.Tie as tie
+use Rattle.op_tests.proofs.op_stands.Statement.{statement}
+use Rattle.op_tests.proofs.op_stands.Tie as tie
 
 is-known-requires : tie.Need-is-known-requires
 is-known-requires c κs = search needs

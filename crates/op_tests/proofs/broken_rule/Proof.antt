@@ -3,8 +3,8 @@ use native.Mathlib.Omega.{arith}
 use borrow.Author.Tests.{not-true, not-false}
 use borrow.Author.Needs.{needs}
 use Rattle.block.proofs.OpRules.{Op, count-inside, rest-inside, declared-by, typed-by, rest-by, free-by, is-9, is-4, is-5, is-6, is-7, is-8}
-use Rattle.scan.proofs.broken_rule.Statement.{statement}
-use Rattle.scan.proofs.broken_rule.Tie as tie
+use Rattle.op_tests.proofs.broken_rule.Statement.{statement}
+use Rattle.op_tests.proofs.broken_rule.Tie as tie
 
 abbrev op : tie.Start → Op
 op s = record {

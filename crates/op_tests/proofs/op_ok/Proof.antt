@@ -3,8 +3,8 @@ use native.Mathlib.Omega.{arith}
 use borrow.Author.Tests.{not-true, not-false}
 use borrow.Author.Needs.{needs}
 use Rattle.block.proofs.OpRules.{Op, count-inside, rest-inside, fit-by, rest-by, ok-late, ok-misfit, ok-rest, ok-free}
-use Rattle.scan.proofs.op_ok.Statement.{statement}
-use Rattle.scan.proofs.op_ok.Tie as tie
+use Rattle.op_tests.proofs.op_ok.Statement.{statement}
+use Rattle.op_tests.proofs.op_ok.Tie as tie
 
 abbrev op : tie.Start → Op
 op s = record {

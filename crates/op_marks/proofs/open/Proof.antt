@@ -1,8 +1,8 @@
 -- A variable that is written may be read. Assumes nothing.
 use borrow.Author.Needs.{needs}
 use Rattle.block.proofs.Codes.{opened-here, opened-not}
-use Rattle.scan.proofs.leaves.open.Statement.{statement}
-use Rattle.scan.proofs.leaves.open.Tie as tie
+use Rattle.op_marks.proofs.open.Statement.{statement}
+use Rattle.op_marks.proofs.open.Tie as tie
 
 code-requires : tie.Need-code-requires
 code-requires c κs = search needs

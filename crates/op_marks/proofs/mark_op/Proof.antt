@@ -6,8 +6,8 @@ use borrow.Author.Needs.{needs}
 use Rattle.ops.proofs.Entry.{digits}
 use Rattle.ops.specs.Kinds.{kindTable}
 use Rattle.block.proofs.Scanning.{last-inside, marks-open, marks-closed}
-use Rattle.scan.proofs.mark_op.Statement.{statement}
-use Rattle.scan.proofs.mark_op.Tie as tie
+use Rattle.op_marks.proofs.mark_op.Statement.{statement}
+use Rattle.op_marks.proofs.mark_op.Tie as tie
 
 is-closing-requires : tie.Need-is-closing-requires
 is-closing-requires c κs = search needs

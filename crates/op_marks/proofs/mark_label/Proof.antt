@@ -5,8 +5,8 @@ use lib.ListN.{getD}
 use Rattle.ops.specs.Rows.{rowIn}
 use Rattle.block.proofs.MarkSets.{labelled-so, labelled-not}
 use borrow.Author.Needs.{needs}
-use Rattle.scan.proofs.leaves.mark_label.Statement.{statement}
-use Rattle.scan.proofs.leaves.mark_label.Tie as tie
+use Rattle.op_marks.proofs.mark_label.Statement.{statement}
+use Rattle.op_marks.proofs.mark_label.Tie as tie
 
 is-setting-requires : tie.Need-is-setting-requires
 is-setting-requires c κs = search needs

@@ -6,8 +6,8 @@ use borrow.Author.Tests.{not-true, not-false}
 use borrow.Author.Needs.{needs}
 use Rattle.block.proofs.OpRules.{Op, count-inside, rest-inside, fit-by, rest-by, straight-none, straight-ends, straight-misfit, straight-rest}
 use Rattle.block.proofs.Scanning.{op-inside}
-use Rattle.scan.proofs.straight_ok.Statement.{statement}
-use Rattle.scan.proofs.straight_ok.Tie as tie
+use Rattle.op_tests.proofs.straight_ok.Statement.{statement}
+use Rattle.op_tests.proofs.straight_ok.Tie as tie
 
 abbrev op : tie.Start → Op
 op s = record {
