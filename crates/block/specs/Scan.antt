@@ -35,7 +35,7 @@ pub record SetAt (xs : List ℕ) (i x : ℕ) (ys : List ℕ) : Type 0 where
 unfoldable pub checkAt : Table → Seen → List ℕ → ℕ → Verdict
 checkAt T s block place = checkFrom T s place ((cutOf T (drop place block)) .records) ((cutOf T (drop place block)) .tail)
 
--- the variables' bytes, and the byte of each, after its declaration: its type, and 4 more where it may be read; 8 where it is not declared
+-- the byte of each variable: its type, 4 more while it may be read, 8 if it is not declared (rules 4, 5 and 8 in one)
 abbrev pub codesIn : List ℕ → ℕ → ℕ
 codesIn vars v = getD vars v 8
 
@@ -47,7 +47,7 @@ pub record Coded (vars classes types : List ℕ) (written : Vars) : Type 0 where
   pub types-small : (v : ℕ) → getD types v 0 < 4
   pub inside : (v : ℕ) → length classes ≤ v → written v ≡ false
 
--- a variable with this byte may be read at a type, or, where it is an output, only has it
+-- a variable with this byte may be read at a type; an output need only have it
 abbrev pub fitsAs : Bool → ℕ → ℕ → Bool
 fitsAs output code type = eqb code (type + 4) || (output && eqb code type)
 
@@ -212,7 +212,7 @@ pub record Reading (T : Table) (b : List ℕ) (start : ℕ) (places₀ base vars
   pub first-op : ops ≡ 0 → p < length b → getD b p 0 ≡ 1 → ⊥
   pub few : ops ≤ 256
 
--- ops are read on, after which their basic block goes on
+-- ops after which their basic block goes on have been read, from a place to another
 pub record ReadsOn (T : Table) (b : List ℕ) (p ops last : ℕ) (vars places : List ℕ) (p′ ops′ last′ : ℕ) (vars′ places′ : List ℕ) : Type 0 where
   pub reached : p′ ≤ length b
   pub further : p ≤ p′

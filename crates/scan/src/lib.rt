@@ -86,7 +86,7 @@ fn stopped(
 }
 
 // Reads the ops from a place on; places and labels then hold where each op and label is. base: the variables' bytes at the start of a basic block.
-pub fn scan_ops(
+fn scan_ops(
     kinds: &[u32; 256],
     block: &[u8],
     start: usize,
