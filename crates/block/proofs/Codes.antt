@@ -1,7 +1,7 @@
 -- The variables' bytes: which operands fit, and what writing changes. Assumes nothing.
 use mathlib.Core.Path.{_≡_, refl, sym, ap, ap₂, _∙_, fun-ext}
 use mathlib.Core.Logic.{_⊎_, inl, inr}
-use mathlib.Core.Bool.{Bool, true, false, cond, _&&_, _||_}
+use mathlib.Core.Bool.{Bool, true, false, cond, _&&_, _||_, Bool·beq}
 use mathlib.Core.List.{List, [], _∷_, _++_}
 use Prim.Native.Nat.{ℕ, zero, suc, _+_, _-_, _/_, _%_, _≤_, _<_}
 use native.Mathlib.Omega.{arith}
@@ -14,8 +14,9 @@ use Rattle.theory.specs.Sets.{Vars, empty, has, plus, allIn}
 use Rattle.theory.proofs.Sets.{tell, and-l, and-r}
 use Rattle.ops.specs.Rows.{Row, isClosing, typesOf}
 use Rattle.ops.specs.Ops.{bytesAt}
+use Rattle.ops.proofs.Ranges.{everyFrom, ranged, beq-same}
 use Rattle.block.specs.Rules.{keptIn, allBelow, haveTypes, wroteBy}
-use Rattle.block.specs.Scan.{SetAt, codesIn, codeOf, Coded, fitsAs, operandsFit, opened, openAll, codesBy, codeFor}
+use Rattle.block.specs.Scan.{SetAt, codesIn, against, codeOf, Coded, fitsAs, operandsFit, opened, openAll, codesBy, codeFor}
 
 and-none : (a : Bool) → (a && false) ≡ false
 and-none true = refl
@@ -33,19 +34,28 @@ and-all : (a : Bool) → (a && true) ≡ a
 and-all true = refl
 and-all false = refl
 
+-- what holds of each type below 4 by computation
+typed : (f : ℕ → Bool) → everyFrom f 0 4 ≡ true → (x : ℕ) → x < 4 → f x ≡ true
+typed f t x l = ranged f 4 0 t x (omega arith) (omega arith)
+
 -- a byte fits a type exactly when the variable is declared, has the type and, if it is read, may be read
-fits-code : (output below kept : Bool) (x t : ℕ) → x < 4 → t < 4 → fitsAs output (cond below (cond kept (x + 4) x) 8) t ≡ (below && eqb x t && (output || kept))
-fits-code output false kept x t h l = rw (ne-eqb 8 (t + 4) (λ e. omega arith), ne-eqb 8 t (λ e. omega arith)) (and-none output)
-fits-code output true true x t h l = rw (ne-eqb (x + 4) t (λ e. omega arith), or-all output, and-none output) (or-none (eqb (x + 4) (t + 4)) ∙ same ∙ sym (and-all (eqb x t)))
-  where
-    same : eqb (x + 4) (t + 4) ≡ eqb x t
-    same = go (tell (eqb x t))
-      where
-        go : (eqb x t ≡ true) ⊎ (eqb x t ≡ false) → eqb (x + 4) (t + 4) ≡ eqb x t
-        go (inl e) = eq-eqb (x + 4) (t + 4) (ap (λ (n : ℕ). n + 4) (eqb-true x t e)) ∙ sym e
-        go (inr e) = ne-eqb (x + 4) (t + 4) (λ q. eqb-false x t e (omega arith)) ∙ sym e
-fits-code true true false x t h l = rw (ne-eqb x (t + 4) (λ e. omega arith)) (sym (and-all (eqb x t)))
-fits-code false true false x t h l = rw (ne-eqb x (t + 4) (λ e. omega arith)) (sym (and-none (eqb x t)))
+fitting : Bool → Bool → Bool → ℕ → ℕ → Bool
+fitting output below kept x t = Bool·beq (fitsAs output (cond below (against kept x) 15) t) (below && eqb x t && (output || kept))
+
+all-fitting : (output below kept : Bool) → everyFrom (λ x. everyFrom (λ t. fitting output below kept x t) 0 4) 0 4 ≡ true
+unfolding fitting
+all-fitting true true true = refl
+all-fitting true true false = refl
+all-fitting true false true = refl
+all-fitting true false false = refl
+all-fitting false true true = refl
+all-fitting false true false = refl
+all-fitting false false true = refl
+all-fitting false false false = refl
+
+fits-code : (output below kept : Bool) (x t : ℕ) → x < 4 → t < 4 → fitsAs output (cond below (against kept x) 15) t ≡ (below && eqb x t && (output || kept))
+unfolding fitting
+fits-code output below kept x t h l = beq-same _ _ (typed (λ t. fitting output below kept x t) (typed (λ x. everyFrom (λ t. fitting output below kept x t) 0 4) (all-fitting output below kept) x h) t l)
 
 -- so all operands fit exactly when rules 4, 5 and 8 are met
 shuffle : (a b c d e f : Bool) → ((a && b && c) && (d && e && f)) ≡ ((a && d) && (b && e) && (c && f))
@@ -89,11 +99,7 @@ getD-set xs i x v d h = go (tell (eqb v i))
 
 -- writing: bytes opened one after the other
 opened-again : (x : ℕ) → opened (opened x) ≡ opened x
-opened-again x = go (tell (ltb x 4))
-  where
-    go : (ltb x 4 ≡ true) ⊎ (ltb x 4 ≡ false) → opened (opened x) ≡ opened x
-    go (inl t) = let q : opened x ≡ x + 4 = rw t in ap opened q ∙ (rw (le-ltb (x + 4) 4 (omega arith))) ∙ sym q
-    go (inr t) = let q : opened x ≡ x = rw t in ap opened q
+opened-again x = omega arith
 
 open-each : (codes : ℕ → ℕ) (x : ℕ) (xs : List ℕ) → openAll (openAll codes (x ∷ [])) xs ≡ openAll codes (x ∷ xs)
 open-each codes x xs = fun-ext (λ v. go (eqb x v) (has xs v) (codes v))
@@ -104,25 +110,23 @@ open-each codes x xs = fun-ext (λ v. go (eqb x v) (has xs v) (codes v))
     go false true y = refl
     go false false y = refl
 
-module _ (vars : List ℕ) (v : ℕ) {x : ℕ} (e : x ≡ codesIn vars v) where
-  pub opened-here : {vars′ : List ℕ} → x < 4 → SetAt vars v (x + 4) vars′ → codesIn vars′ ≡ openAll (codesIn vars) (v ∷ [])
-  opened-here {vars′} l s = fun-ext (λ u. ap (λ (xs : List ℕ). getD xs u 8) (s .becomes) ∙ getD-set vars v (x + 4) u 8 (s .inside) ∙ go u (tell (eqb u v)))
-    where
-      go : (u : ℕ) → (eqb u v ≡ true) ⊎ (eqb u v ≡ false) → cond (eqb u v) (x + 4) (codesIn vars u) ≡ openAll (codesIn vars) (v ∷ []) u
-      go u (inl t) =
-          let q = eqb-true u v t in
-          let c : codesIn vars u ≡ x = ap (codesIn vars) q ∙ sym e in
-          rw (t, eq-eqb v u (sym q), c, lt-ltb x 4 l)
-      go u (inr t) = rw (t, ne-eqb v u (λ q. eqb-false u v t (sym q)))
+pub opened-here : (vars : List ℕ) (v : ℕ) {x y : ℕ} {vars′ : List ℕ} → x ≡ codesIn vars v → y ≡ opened x → SetAt vars v y vars′ → codesIn vars′ ≡ openAll (codesIn vars) (v ∷ [])
+opened-here vars v {x} {y} e z s = fun-ext (λ u. ap (λ (xs : List ℕ). getD xs u 15) (s .becomes) ∙ getD-set vars v y u 15 (s .inside) ∙ go u (tell (eqb u v)))
+  where
+    go : (u : ℕ) → (eqb u v ≡ true) ⊎ (eqb u v ≡ false) → cond (eqb u v) y (codesIn vars u) ≡ openAll (codesIn vars) (v ∷ []) u
+    go u (inl t) =
+        let q = eqb-true u v t in
+        let c : y ≡ opened (codesIn vars u) = z ∙ ap opened (e ∙ ap (codesIn vars) (sym q)) in
+        rw (t, eq-eqb v u (sym q), c)
+    go u (inr t) = rw (t, ne-eqb v u (λ q. eqb-false u v t (sym q)))
 
-  pub opened-not : 4 ≤ x → codesIn vars ≡ openAll (codesIn vars) (v ∷ [])
-  opened-not l = fun-ext (λ u. go u (tell (eqb v u)))
-    where
-      go : (u : ℕ) → (eqb v u ≡ true) ⊎ (eqb v u ≡ false) → codesIn vars u ≡ openAll (codesIn vars) (v ∷ []) u
-      go u (inl t) =
-          let c : codesIn vars u ≡ x = ap (codesIn vars) (sym (eqb-true v u t)) ∙ sym e in
-          rw (t, c, le-ltb x 4 l)
-      go u (inr t) = rw t
+-- a byte that is stored as it was
+pub set-same : (vars : List ℕ) (v : ℕ) {y : ℕ} {vars′ : List ℕ} → y ≡ codesIn vars v → SetAt vars v y vars′ → codesIn vars′ ≡ codesIn vars
+set-same vars v {y} e s = fun-ext (λ u. ap (λ (xs : List ℕ). getD xs u 15) (s .becomes) ∙ getD-set vars v y u 15 (s .inside) ∙ go u (tell (eqb u v)))
+  where
+    go : (u : ℕ) → (eqb u v ≡ true) ⊎ (eqb u v ≡ false) → cond (eqb u v) y (codesIn vars u) ≡ codesIn vars u
+    go u (inl t) = rw t (e ∙ ap (codesIn vars) (sym (eqb-true u v t)))
+    go u (inr t) = rw t
 
 -- the bytes after an op, by the column of its role
 module _ (row : Row) (base codes : ℕ → ℕ) (outs : List ℕ) {c : Bool} (e : c ≡ isClosing (row .role)) {x : ℕ → ℕ} where
@@ -136,7 +140,7 @@ module _ (row : Row) (base codes : ℕ → ℕ) (outs : List ℕ) {c : Bool} (e 
 pub code-at : (vars : List ℕ) (v : ℕ) {x : ℕ} → v < length vars → x ≡ getD vars v 0 → x ≡ codesIn vars v
 code-at vars v h e = e ∙ go vars v h
   where
-    go : (xs : List ℕ) (v : ℕ) → v < length xs → getD xs v 0 ≡ getD xs v 8
+    go : (xs : List ℕ) (v : ℕ) → v < length xs → getD xs v 0 ≡ getD xs v 15
     go [] v h = absurd (omega arith)
     go (x ∷ xs) zero h = refl
     go (x ∷ xs) (suc v) h = go xs v (omega arith)
@@ -187,11 +191,11 @@ module _ {vars classes types : List ℕ} {n : ℕ} (c : Coded vars classes types
       let m : type % 4 ≡ type = mod-eq-of-lt small in
       rw (getD-append classes class v 2, getD-append types type v 0, lc, lt, e, long, lt-ltb v (suc n) (omega arith), m) (tail (ltb class 2))
     where
-      tail : (k : Bool) → cond k (type + 4) type ≡ cond (k || false) (type + 4) type
+      tail : (k : Bool) → against k type ≡ against (k || false) type
       tail true = refl
       tail false = refl
   more-code v (inr e) =
-      rw (getD-append classes class v 2, getD-append types type v 0, lc, lt, e, long) (ap (λ (t : Bool). cond t (cond (keptIn classes v || false) (getD types v 0 + 4) (getD types v 0)) 8) same)
+      rw (getD-append classes class v 2, getD-append types type v 0, lc, lt, e, long) (ap (λ (t : Bool). cond t (against (keptIn classes v || false) (getD types v 0)) 15) same)
     where
       same : ltb v n ≡ ltb v (suc n)
       same = go (tell (ltb v n))
@@ -210,7 +214,7 @@ module _ {vars classes types : List ℕ} {n : ℕ} (c : Coded vars classes types
   pub coded-more : Coded (set vars n (codeFor class type)) classes′ types′ empty
   coded-more =
       record {
-        codes-are = fun-ext (λ v. getD-set vars n (codeFor class type) v 8 h ∙ ap (λ (codes : ℕ → ℕ). cond (eqb v n) (codeFor class type) (codes v)) (c .codes-are) ∙ more-code v (tell (eqb v n)));
+        codes-are = fun-ext (λ v. getD-set vars n (codeFor class type) v 15 h ∙ ap (λ (codes : ℕ → ℕ). cond (eqb v n) (codeFor class type) (codes v)) (c .codes-are) ∙ more-code v (tell (eqb v n)));
         types-small = small′;
         inside = λ v l. refl;
       }
@@ -223,12 +227,23 @@ module _ {base vars classes types : List ℕ} {written : Vars} (z : Coded base c
       let b : x < length classes = ltb-true x (length classes) (and-l (ltb x (length classes)) (allBelow (length classes) xs) h) in
       rw (ne-eqb x v (λ q. omega arith)) (below-has xs (and-r (ltb x (length classes)) (allBelow (length classes) xs) h) v l)
 
-  open-code : (h below k w : Bool) (x : ℕ) → x < 4 → cond h (opened (cond below (cond (k || w) (x + 4) x) 8)) (cond below (cond (k || w) (x + 4) x) 8) ≡ cond below (cond (k || (h || w)) (x + 4) x) 8
-  open-code false below k w x l = refl
-  open-code true false k w x l = refl
-  open-code true true true w x l = rw (le-ltb (x + 4) 4 (omega arith))
-  open-code true true false true x l = rw (le-ltb (x + 4) 4 (omega arith))
-  open-code true true false false x l = rw (lt-ltb x 4 l)
+  opening-code : Bool → Bool → Bool → Bool → ℕ → Bool
+  opening-code h below k w x = eqb (cond h (opened (cond below (against (k || w) x) 15)) (cond below (against (k || w) x) 15)) (cond below (against (k || (h || w)) x) 15)
+
+  open-all : (h below k w : Bool) → everyFrom (opening-code h below k w) 0 4 ≡ true
+  unfolding opening-code
+  open-all true true true w = refl
+  open-all true true false true = refl
+  open-all true true false false = refl
+  open-all true false k w = refl
+  open-all false true true w = refl
+  open-all false true false true = refl
+  open-all false true false false = refl
+  open-all false false k w = refl
+
+  open-code : (h below k w : Bool) (x : ℕ) → x < 4 → cond h (opened (cond below (against (k || w) x) 15)) (cond below (against (k || w) x) 15) ≡ cond below (against (k || (h || w)) x) 15
+  unfolding opening-code
+  open-code h below k w x l = eqb-true _ _ (typed (opening-code h below k w) (open-all h below k w) x l)
 
   pub coded-next : (row : Row) (vars′ outs : List ℕ) → codesIn vars′ ≡ codesBy row (codesIn base) (codesIn vars) outs → allBelow (length classes) outs ≡ true
       → Coded vars′ classes types (wroteBy row written outs)

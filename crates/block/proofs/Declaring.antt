@@ -2,23 +2,23 @@
 use mathlib.Core.Path.{_≡_, refl, sym, ap, ap₂, _∙_, subst, fun-ext}
 use mathlib.Core.Bool.{Bool, true, false, cond, not, _&&_, _||_}
 use mathlib.Core.List.{List, [], _∷_, _++_, append-assoc}
-use Prim.Native.Nat.{ℕ, zero, suc, _+_, _-_, _≤_, _<_}
+use mathlib.Core.Logic.{_⊎_, inl, inr}
+use Prim.Native.Nat.{ℕ, zero, suc, _+_, _-_, _*_, _/_, _≤_, _<_, min}
 use native.Mathlib.Omega.{arith}
 use lib.Dec.{eqb, ltb, leb, eqb·zero-suc, eqb·suc-suc}
-use lib.ListN.{length, getD, take, drop, set, replicate, length-set}
-use lib.Seq.{length-take-le, take-suc-set}
-use borrow.Author.Tests.{ltb-true, leb-true, le-ltb, eq-eqb, ne-eqb}
+use lib.ListN.{length, getD, drop, set, replicate, length-set, length-append}
+use borrow.Author.Tests.{ltb-true, ltb-false, leb-true, leb-false, le-ltb, eqb-true, eqb-false, eq-eqb, ne-eqb}
 use native.Mathlib.Numerals.{add-one}
 use Rattle.theory.specs.Prune.{before}
 use Rattle.theory.specs.Sets.{empty}
-use Rattle.theory.proofs.Sets.{and-l, and-r}
+use Rattle.theory.proofs.Sets.{and-l, and-r, tell}
 use Rattle.ops.specs.Rows.{isKnown, at, Table}
 use Rattle.ops.specs.Rows.{known, bodyLength}
 use Rattle.ops.specs.Ops.{kindOf}
 use Rattle.block.specs.Checks.{asks, firstBroken, answer, checkBy}
 use Rattle.block.specs.Records.{Cut, cons, cutOf, recordsOf, isDeclaration, classOf, typeOf, classesOf, declaredTypes, globalCount}
 use Rattle.block.specs.Rules.{Seen}
-use Rattle.block.specs.Scan.{Stands, codesIn, codeOf, Coded, codeFor, declarationOk, DeclaredBy, refuses, reads-on}
+use Rattle.block.specs.Scan.{Stands, codesIn, codeOf, Coded, codeFor, declarationOk, declaredRule, Stopped, DeclaredBy, refuses, reads-on}
 use Rattle.block.proofs.Codes.{coded-more}
 use Rattle.block.proofs.Cut.{all-append}
 use Rattle.block.proofs.Views.{byte, kind-byte}
@@ -27,6 +27,14 @@ use Rattle.block.specs.Rules.{allGlobal, rule3, declared, next}
 use Rattle.block.specs.Scan.{recordAt, checkAt, declaredSeen, Declaring}
 use Rattle.block.specs.declared.Verdict.the-variants.{Refused}
 use Rattle.ops.specs.Lawful.{LawfulTable}
+
+pub last-false : (a b : Bool) → b ≡ false → false ≡ (a && b)
+last-false true b h = sym h
+last-false false b h = refl
+
+pub only : (a : Bool) → a ≡ (a && true)
+only true = refl
+only false = refl
 
 -- the globals come first: all are globals exactly when as many are as there are variables
 count-all : (cs : List ℕ) → eqb (globalCount cs) (length cs) ≡ allGlobal cs
@@ -65,38 +73,49 @@ count-small (c ∷ cs) = go (eqb c 0) (count-small cs)
     go true h = omega arith
     go false h = omega arith
 
--- no more globals than variables
-pub declaring-few : {T : Table} {b classes types vars : List ℕ} {p n globals : ℕ} → Declaring T b classes types vars p n globals → globals ≤ n
-declaring-few {b} {classes} {types} {vars} {p} {n} d = omega (arith, d .globals-are, count-small (take n classes), length-take-le n classes (omega (arith, d .few, d .long-classes)))
+types-length : (ds : List (List ℕ)) → length (declaredTypes ds) ≡ length ds
+types-length [] = refl
+types-length (d ∷ ds) = ap suc (types-length ds)
 
-pub declaring-start : (T : Table) (b classes types vars : List ℕ) → length classes ≡ 256 → length types ≡ 256 → vars ≡ replicate 256 8 → Declaring T b classes types vars 0 0 0
-declaring-start T b classes types vars lc lt lv =
+classes-length : (ds : List (List ℕ)) → length (classesOf ds) ≡ length ds
+classes-length [] = refl
+classes-length (d ∷ ds) = ap suc (classes-length ds)
+
+-- no more globals than variables
+pub declaring-few : {T : Table} {b vars : List ℕ} {p n globals : ℕ} → Declaring T b vars p n globals → globals ≤ n
+declaring-few d = omega (arith, d .globals-are, count-small (classesOf (d .before)), classes-length (d .before), d .count)
+
+pub declaring-start : (T : Table) (b vars : List ℕ) → vars ≡ replicate 256 15 → Declaring T b vars 0 0 0
+declaring-start T b vars lv =
     record {
       before = [];
       goes-on = sym (at-start T b);
       records-are = refl;
       all-declared = tt;
-      classes-are = refl;
-      types-are = refl;
+      count = refl;
       globals-are = refl;
       place-is = refl;
       reached = omega arith;
       few = omega arith;
-      long-classes = lc;
-      long-types = lt;
-      coded = record { codes-are = ap codesIn lv ∙ fun-ext (λ v. eights 256 v ∙ sym (none v)); types-small = λ v. omega arith; inside = λ v h. refl };
+      coded = record { codes-are = ap codesIn lv ∙ fun-ext (λ v. all 256 v ∙ sym (none v)); types-small = λ v. omega arith; inside = λ v h. refl };
       long-vars = ap length lv;
     }
   where
-    none : (v : ℕ) → codeOf [] [] empty v ≡ 8
+    none : (v : ℕ) → codeOf [] [] empty v ≡ 15
     none v = rw (le-ltb v 0 (omega arith))
 
-    eights : (m v : ℕ) → getD {A = ℕ} (replicate m 8) v 8 ≡ 8
-    eights zero v = refl
-    eights (suc m) zero = refl
-    eights (suc m) (suc v) = eights m v
+    all : (m v : ℕ) → getD {A = ℕ} (replicate m 15) v 15 ≡ 15
+    all zero v = refl
+    all (suc m) zero = refl
+    all (suc m) (suc v) = all m v
 
-module _ {T : Table} (law : LawfulTable T) {b classes types vars : List ℕ} {p n globals : ℕ} (d : Declaring T b classes types vars p n globals) (h : p < length b) (k : getD b p 0 ≡ 1) where
+module _ {T : Table} (law : LawfulTable T) {b vars : List ℕ} {p n globals : ℕ} (d : Declaring T b vars p n globals) (h : p < length b) (k : getD b p 0 ≡ 1) where
+  abbrev classes : List ℕ
+  classes = classesOf (d .before)
+
+  abbrev types : List ℕ
+  types = declaredTypes (d .before)
+
   body : bodyLength T (getD b p 0) ≡ 2
   body = ap (bodyLength T) k ∙ law .declared-body
 
@@ -104,7 +123,7 @@ module _ {T : Table} (law : LawfulTable T) {b classes types vars : List ℕ} {p 
   is-known = ap (known T) k ∙ ap isKnown (law .declaring)
 
   pub declaring-short : length b - p < 3 → Refused 1 p ≡ checkBy T b
-  declaring-short l = sym (at-short T b p h (declaredSeen classes types n) is-known (omega (arith, body))) ∙ d .goes-on
+  declaring-short l = sym (at-short T b p h (declaredSeen classes types) is-known (omega (arith, body))) ∙ d .goes-on
 
   module _ (l : 3 ≤ length b - p) where
     within : p + suc (bodyLength T (getD b p 0)) ≤ length b
@@ -129,20 +148,20 @@ module _ {T : Table} (law : LawfulTable T) {b classes types vars : List ℕ} {p 
     abbrev code : ℕ
     code = codeFor (getD b (p + 1) 0) (getD b (p + 2) 0)
 
-    lc : n ≤ length classes
-    lc = omega (arith, d .few, d .long-classes)
+    lc : length classes ≡ n
+    lc = classes-length (d .before) ∙ d .count
 
-    rule-3 : rule3 (declaredSeen classes types n) (recordAt T b p) ≡ met
+    lt : length types ≡ n
+    lt = types-length (d .before) ∙ d .count
+
+    rule-3 : rule3 (declaredSeen classes types) (recordAt T b p) ≡ met
     unfolding rule3 declarationOk
-    rule-3 =
-        let len : length (take n classes) ≡ n = length-take-le n classes lc in
-        let all : allGlobal (take n classes) ≡ eqb globals n = sym (count-all (take n classes)) ∙ ap₂ eqb (sym (d .globals-are)) len in
-        rw (class, type, all, len)
+    rule-3 = let all : allGlobal classes ≡ eqb globals n = sym (count-all classes) ∙ ap₂ eqb (sym (d .globals-are)) lc in rw (class, type, all, lc)
 
-    turn : answer (firstBroken (asks 3 met ∷ [])) p (checkAt T (declared (declaredSeen classes types n) (recordAt T b p)) b (p + 3)) ≡ checkBy T b
+    turn : answer (firstBroken (asks 3 met ∷ [])) p (checkAt T (declared (declaredSeen classes types) (recordAt T b p)) b (p + 3)) ≡ checkBy T b
     unfolding next
     turn =
-        let e = at-record T b p h (declaredSeen classes types n) is-known within in
+        let e = at-record T b p h (declaredSeen classes types) is-known within in
         let q : p + suc (bodyLength T (getD b p 0)) ≡ p + 3 = omega (arith, body) in
         rw (← rule-3) (sym (rw (kind, q) at e) ∙ d .goes-on)
 
@@ -163,7 +182,7 @@ module _ {T : Table} (law : LawfulTable T) {b classes types vars : List ℕ} {p 
           and-r (leb (getD b (p + 1) 0) 2 && leb (getD b (p + 2) 0) 1) (not (eqb (getD b (p + 1) 0) 0) || eqb globals n)
           (and-l (leb (getD b (p + 1) 0) 2 && leb (getD b (p + 2) 0) 1 && (not (eqb (getD b (p + 1) 0) 0) || eqb globals n)) (ltb n 64) t)
 
-      type-low : getD b (p + 2) 0 < 4
+      pub type-low : getD b (p + 2) 0 < 2
       unfolding declarationOk
       type-low =
           let e : leb (getD b (p + 2) 0) 1 ≡ true =
@@ -172,26 +191,23 @@ module _ {T : Table} (law : LawfulTable T) {b classes types vars : List ℕ} {p 
           (and-l (leb (getD b (p + 1) 0) 2 && leb (getD b (p + 2) 0) 1 && (not (eqb (getD b (p + 1) 0) 0) || eqb globals n)) (ltb n 64) t)) in
           omega (arith, leb-true (getD b (p + 2) 0) 1 e)
 
-      hc : n < length classes
-      hc = omega (arith, few-more, d .long-classes)
+      abbrev more-before : List (List ℕ)
+      more-before = d .before ++ (recordAt T b p ∷ [])
 
-      ht : n < length types
-      ht = omega (arith, few-more, d .long-types)
+      classes-more : classesOf more-before ≡ classes ++ (getD b (p + 1) 0 ∷ [])
+      classes-more = classes-append (d .before) (recordAt T b p) ∙ ap (λ (y : ℕ). classes ++ (y ∷ [])) class
 
-      classes-more : take (n + 1) (set classes n (getD b (p + 1) 0)) ≡ take n classes ++ (getD b (p + 1) 0 ∷ [])
-      classes-more = ap (λ (m : ℕ). take m (set classes n (getD b (p + 1) 0))) (add-one n) ∙ take-suc-set classes n (getD b (p + 1) 0) hc
+      types-more : declaredTypes more-before ≡ types ++ (getD b (p + 2) 0 ∷ [])
+      types-more = types-append (d .before) (recordAt T b p) ∙ ap (λ (y : ℕ). types ++ (y ∷ [])) type
 
-      types-more : take (n + 1) (set types n (getD b (p + 2) 0)) ≡ take n types ++ (getD b (p + 2) 0 ∷ [])
-      types-more = ap (λ (m : ℕ). take m (set types n (getD b (p + 2) 0))) (add-one n) ∙ take-suc-set types n (getD b (p + 2) 0) ht
-
-      seen-more : declared (declaredSeen classes types n) (recordAt T b p) ≡ declaredSeen (set classes n (getD b (p + 1) 0)) (set types n (getD b (p + 2) 0)) (n + 1)
+      seen-more : declared (declaredSeen classes types) (recordAt T b p) ≡ declaredSeen (classesOf more-before) (declaredTypes more-before)
       seen-more = rw (classes-more, types-more, class, type)
 
-      goes : checkAt T (declaredSeen (set classes n (getD b (p + 1) 0)) (set types n (getD b (p + 2) 0)) (n + 1)) b (p + 3) ≡ checkBy T b
+      goes : checkAt T (declaredSeen (classesOf more-before) (declaredTypes more-before)) b (p + 3) ≡ checkBy T b
       unfolding firstBroken
       goes = ap (λ (s : Seen). checkAt T s b (p + 3)) (sym seen-more) ∙ (rw t at turn)
 
-      records-more : recordsOf T b ≡ (d .before ++ (recordAt T b p ∷ [])) ++ (cutOf T (drop (p + 3) b)) .records
+      records-more : recordsOf T b ≡ more-before ++ (cutOf T (drop (p + 3) b)) .records
       records-more =
           let q : p + suc (bodyLength T (getD b p 0)) ≡ p + 3 = omega (arith, body) in
           let c : cutOf T (drop p b) ≡ cons (recordAt T b p) (cutOf T (drop (p + 3) b)) =
@@ -199,78 +215,102 @@ module _ {T : Table} (law : LawfulTable T) {b classes types vars : List ℕ} {p 
           d .records-are ∙ ap (λ (x : Cut). d .before ++ x .records) c
           ∙ sym (append-assoc (d .before) (recordAt T b p ∷ []) ((cutOf T (drop (p + 3) b)) .records))
 
-      more : (g : ℕ) → g ≡ globalCount (take n classes ++ (getD b (p + 1) 0 ∷ []))
-          → Declaring T b (set classes n (getD b (p + 1) 0)) (set types n (getD b (p + 2) 0)) (set vars n code) (p + 3) (n + 1) g
+      more : (g : ℕ) → g ≡ globalCount (classes ++ (getD b (p + 1) 0 ∷ [])) → Declaring T b (set vars n code) (p + 3) (n + 1) g
       more g e =
           record {
-            before = d .before ++ (recordAt T b p ∷ []);
+            before = more-before;
             goes-on = goes;
             records-are = records-more;
             all-declared = all-append (λ r. isDeclaration r ≡ true) (d .before) (recordAt T b p ∷ []) (d .all-declared) (kind, tt);
-            classes-are = classes-append (d .before) (recordAt T b p) ∙ ap₂ (λ (x : List ℕ) (y : ℕ). x ++ (y ∷ [])) (d .classes-are) class ∙ sym classes-more;
-            types-are = types-append (d .before) (recordAt T b p) ∙ ap₂ (λ (x : List ℕ) (y : ℕ). x ++ (y ∷ [])) (d .types-are) type ∙ sym types-more;
+            count = length-append (d .before) (recordAt T b p ∷ []) ∙ ap (λ (m : ℕ). m + 1) (d .count);
             globals-are = e ∙ ap globalCount (sym classes-more);
             place-is = omega (arith, d .place-is);
             reached = omega (arith, within, body);
             few = omega (arith, few-more);
-            long-classes = length-set classes n (getD b (p + 1) 0) ∙ d .long-classes;
-            long-types = length-set types n (getD b (p + 2) 0) ∙ d .long-types;
             coded =
-                subst (λ (cs : List ℕ). Coded (set vars n code) cs (take (n + 1) (set types n (getD b (p + 2) 0))) empty) (sym classes-more)
-                (subst (λ (ts : List ℕ). Coded (set vars n code) (take n classes ++ (getD b (p + 1) 0 ∷ [])) ts empty) (sym types-more)
-                (coded-more (d .coded) (length-take-le n classes lc) (length-take-le n types (omega (arith, ht))) (omega (arith, few-more, d .long-vars)) (getD b (p + 1) 0) (getD b (p + 2) 0) type-low));
+                subst (λ (cs : List ℕ). Coded (set vars n code) cs (declaredTypes more-before) empty) (sym classes-more)
+                (subst (λ (ts : List ℕ). Coded (set vars n code) (classes ++ (getD b (p + 1) 0 ∷ [])) ts empty) (sym types-more)
+                (coded-more (d .coded) lc lt (omega (arith, few-more, d .long-vars)) (getD b (p + 1) 0) (getD b (p + 2) 0) (omega (arith, type-low))));
             long-vars = length-set vars n code ∙ d .long-vars;
           }
 
       -- a global
-      pub declaring-global : getD b (p + 1) 0 ≡ 0
-          → Declaring T b (set classes n (getD b (p + 1) 0)) (set types n (getD b (p + 2) 0)) (set vars n code) (p + 3) (n + 1) (globals + 1)
+      pub declaring-global : getD b (p + 1) 0 ≡ 0 → Declaring T b (set vars n code) (p + 3) (n + 1) (globals + 1)
       declaring-global z =
-          let all : allGlobal (take n classes) ≡ true =
-          sym (count-all (take n classes)) ∙ ap₂ eqb (sym (d .globals-are)) (length-take-le n classes lc) ∙ (rw (eq-eqb (getD b (p + 1) 0) 0 z) at global-test) in
+          let all : allGlobal classes ≡ true = sym (count-all classes) ∙ ap₂ eqb (sym (d .globals-are)) lc ∙ (rw (eq-eqb (getD b (p + 1) 0) 0 z) at global-test) in
           more (globals + 1)
-          (add-one globals ∙ ap suc (d .globals-are) ∙ sym (count-more (take n classes) all) ∙ ap (λ (c : ℕ). globalCount (take n classes ++ (c ∷ []))) (sym z))
+          (add-one globals ∙ ap suc (d .globals-are) ∙ sym (count-more classes all) ∙ ap (λ (c : ℕ). globalCount (classes ++ (c ∷ []))) (sym z))
 
       -- a temporary
-      pub declaring-other : (getD b (p + 1) 0 ≡ 0 → ⊥)
-          → Declaring T b (set classes n (getD b (p + 1) 0)) (set types n (getD b (p + 2) 0)) (set vars n code) (p + 3) (n + 1) globals
-      declaring-other z = more globals (d .globals-are ∙ sym (count-other (take n classes) (getD b (p + 1) 0) (ne-eqb (getD b (p + 1) 0) 0 z)))
-
-pub last-false : (a b : Bool) → b ≡ false → false ≡ (a && b)
-last-false true b h = sym h
-last-false false b h = refl
+      pub declaring-other : (getD b (p + 1) 0 ≡ 0 → ⊥) → Declaring T b (set vars n code) (p + 3) (n + 1) globals
+      declaring-other z = more globals (d .globals-are ∙ sym (count-other classes (getD b (p + 1) 0) (ne-eqb (getD b (p + 1) 0) 0 z)))
 
 -- the answers of the scan
-pub short-by : {T : Table} (law : LawfulTable T) {b classes types vars : List ℕ} {p n globals : ℕ} → Declaring T b classes types vars p n globals → p < length b → getD b p 0 ≡ 1
-    → length b - p < 3 → DeclaredBy T b classes types vars 1 p n globals
+pub short-by : {T : Table} (law : LawfulTable T) {b vars : List ℕ} {p n globals : ℕ} → Declaring T b vars p n globals → p < length b → getD b p 0 ≡ 1 → length b - p < 3
+    → DeclaredBy T b vars 1 p n globals
 short-by law d h k l = refuses {rule = 1} (λ e. omega arith) (declaring-short law d h k l)
 
-module _ {T : Table} {b classes types vars : List ℕ} {p n globals : ℕ} (d : Declaring T b classes types vars p n globals) where
-  pub ended-by : length b ≤ p → DeclaredBy T b classes types vars 0 p n globals
+module _ {T : Table} {b vars : List ℕ} {p n globals : ℕ} (d : Declaring T b vars p n globals) where
+  pub ended-by : length b ≤ p → DeclaredBy T b vars 0 p n globals
   ended-by l = reads-on d (λ h. absurd (omega arith))
 
-  pub stopped-by : (getD b p 0 ≡ 1 → ⊥) → DeclaredBy T b classes types vars 0 p n globals
+  pub stopped-by : (getD b p 0 ≡ 1 → ⊥) → DeclaredBy T b vars 0 p n globals
   stopped-by k = reads-on d (λ h. k)
 
-  -- a declaration stands at the place, whole
-  pub record Here : Type 0 where
-    pub inside : p < length b
-    pub declares-here : getD b p 0 ≡ 1
-    pub whole : 3 ≤ length b - p
+pub refused-by : {T : Table} (law : LawfulTable T) {b vars : List ℕ} {p n globals : ℕ} → Declaring T b vars p n globals → p < length b → getD b p 0 ≡ 1 → 3 ≤ length b - p
+    → declarationOk (getD b (p + 1) 0) (getD b (p + 2) 0) globals n ≡ false → DeclaredBy T b vars 3 p n globals
+refused-by law d h k l t = refuses {rule = 3} (λ q. omega arith) (declaring-refused law d h k l t)
 
-module _ {T : Table} (law : LawfulTable T) {b classes types vars : List ℕ} {p n globals : ℕ} {d : Declaring T b classes types vars p n globals} {r : Bool} (h : Here d)
-    (e : r ≡ declarationOk (getD b (p + 1) 0) (getD b (p + 2) 0) globals n) where
-  pub refused-by : r ≡ false → DeclaredBy T b classes types vars 3 p n globals
-  refused-by t = refuses {rule = 3} (λ q. omega arith) (declaring-refused law d (h .inside) (h .declares-here) (h .whole) (sym e ∙ t))
+-- no room for one more: fewer than three bytes are left, or there are 64 variables
+pub no-room : (b : List ℕ) (p n globals : ℕ) → p ≡ 3 * n → (64 ≤ n) ⊎ (length b / 3 ≤ n) → Stopped b p n globals
+unfolding declarationOk
+no-room b p n globals e (inl l) h k w = rw (le-ltb n 64 l) (sym (last-false (leb (getD b (p + 1) 0) 2 && leb (getD b (p + 2) 0) 1 && (not (eqb (getD b (p + 1) 0) 0) || eqb globals n)) false refl))
+no-room b p n globals e (inr l) h k w = absurd (omega arith)
 
-  pub again-global : {g x : ℕ} → r ≡ true → x ≡ codeFor (getD b (p + 1) 0) (getD b (p + 2) 0) → getD b (p + 1) 0 ≡ 0 → g ≡ globals + 1
-      → Declaring T b (set classes n (getD b (p + 1) 0)) (set types n (getD b (p + 2) 0)) (set vars n x) (p + 3) (n + 1) g
-  again-global t c z q = rw (q, c) (declaring-global law d (h .inside) (h .declares-here) (h .whole) (sym e ∙ t) z)
+-- the answer at the place where they end
+module _ {T : Table} (law : LawfulTable T) {b vars : List ℕ} {p n globals : ℕ} (d : Declaring T b vars p n globals) (s : Stopped b p n globals) where
+  pub declared-by : {rule : ℕ} → rule ≡ declaredRule b p → DeclaredBy T b vars rule p n globals
+  declared-by {rule} e = go (tell (leb (length b) p)) (tell (eqb (getD b p 0) 1)) (tell (ltb (length b - p) 3))
+    where
+      go : (leb (length b) p ≡ true) ⊎ (leb (length b) p ≡ false) → (eqb (getD b p 0) 1 ≡ true) ⊎ (eqb (getD b p 0) 1 ≡ false) → (ltb (length b - p) 3 ≡ true) ⊎ (ltb (length b - p) 3 ≡ false)
+          → DeclaredBy T b vars rule p n globals
+      go (inl x) y z = let q : rule ≡ 0 = e ∙ rw x in rw q (ended-by d (leb-true (length b) p x))
+      go (inr x) (inr y) z = let q : rule ≡ 0 = e ∙ rw (x, y) in rw q (stopped-by d (eqb-false (getD b p 0) 1 y))
+      go (inr x) (inl y) (inl z) =
+          let q : rule ≡ 1 = e ∙ rw (x, y, z) in
+          rw q (short-by law d (leb-false (length b) p x) (eqb-true (getD b p 0) 1 y) (ltb-true (length b - p) 3 z))
+      go (inr x) (inl y) (inr z) =
+          let q : rule ≡ 3 = e ∙ rw (x, y, z) in
+          let h = leb-false (length b) p x in
+          let k = eqb-true (getD b p 0) 1 y in
+          let l = ltb-false (length b - p) 3 z in
+          rw q (refused-by law d h k l (s h k l))
 
-  pub again-other : {g x : ℕ} → r ≡ true → x ≡ codeFor (getD b (p + 1) 0) (getD b (p + 2) 0) → (getD b (p + 1) 0 ≡ 0 → ⊥) → g ≡ globals
-      → Declaring T b (set classes n (getD b (p + 1) 0)) (set types n (getD b (p + 2) 0)) (set vars n x) (p + 3) (n + 1) g
-  again-other t c z q = rw (q, c) (declaring-other law d (h .inside) (h .declares-here) (h .whole) (sym e ∙ t) z)
+-- one more declaration, in the loop's terms
+module _ {T : Table} (law : LawfulTable T) {b vars : List ℕ} {n globals : ℕ} (d : Declaring T b vars (3 * n) n globals) (h : n < length b / 3) (k : getD b (3 * n) 0 ≡ 1) {r : Bool}
+    (e : r ≡ declarationOk (getD b (3 * n + 1) 0) (getD b (3 * n + 2) 0) globals n) (t : r ≡ true) where
+  next-place : {m g : ℕ} {vars′ : List ℕ} → Declaring T b vars′ (3 * n + 3) m g → Declaring T b vars′ (3 * (n + 1)) m g
+  next-place {m} {g} {vars′} x = let q : 3 * n + 3 ≡ 3 * (n + 1) = omega arith in subst (λ (p : ℕ). Declaring T b vars′ p m g) q x
 
-pub only : (a : Bool) → a ≡ (a && true)
-only true = refl
-only false = refl
+  pub low-type : getD b (3 * n + 2) 0 < 2
+  low-type = type-low law d (omega arith) k (omega arith) (sym e ∙ t)
+
+  pub again-global : {g x : ℕ} → x ≡ codeFor (getD b (3 * n + 1) 0) (getD b (3 * n + 2) 0) → getD b (3 * n + 1) 0 ≡ 0 → g ≡ globals + 1 → Declaring T b (set vars n x) (3 * (n + 1)) (n + 1) g
+  again-global c z q = rw (q, c) (next-place (declaring-global law d (omega arith) k (omega arith) (sym e ∙ t) z))
+
+  pub again-other : {g x : ℕ} → x ≡ codeFor (getD b (3 * n + 1) 0) (getD b (3 * n + 2) 0) → (getD b (3 * n + 1) 0 ≡ 0 → ⊥) → g ≡ globals → Declaring T b (set vars n x) (3 * (n + 1)) (n + 1) g
+  again-other c z q = rw (q, c) (next-place (declaring-other law d (omega arith) k (omega arith) (sym e ∙ t) z))
+
+-- where no good declaration stands, the reading stops
+pub stops-at : (b : List ℕ) (p n globals : ℕ) {r : Bool} → r ≡ declarationOk (getD b (p + 1) 0) (getD b (p + 2) 0) globals n → (eqb (getD b p 0) 1 && r) ≡ false → Stopped b p n globals
+stops-at b p n globals {r} e t h k l = sym e ∙ (rw (eq-eqb (getD b p 0) 1 k) at t)
+
+pub both-true : (x : ℕ) (r : Bool) → (eqb x 1 && r) ≡ true → (x ≡ 1) × (r ≡ true)
+both-true x r t = (eqb-true x 1 (and-l (eqb x 1) r t), and-r (eqb x 1) r t)
+
+pub no-more-room : (b : List ℕ) (n globals : ℕ) {limit : ℕ} → limit ≡ min (length b / 3) 64 → limit ≤ n → Stopped b (3 * n) n globals
+no-more-room b n globals e l = go (tell (leb 64 n))
+  where
+    go : (leb 64 n ≡ true) ⊎ (leb 64 n ≡ false) → Stopped b (3 * n) n globals
+    go (inl x) = no-room b (3 * n) n globals refl (inl (leb-true 64 n x))
+    go (inr x) = no-room b (3 * n) n globals refl (inr (omega (arith, leb-false 64 n x, e, l)))

@@ -13,6 +13,9 @@ pub mod OpRules
 pub mod Rests
 pub mod MarkSets
 pub mod Codes
+pub mod Quick
 pub mod Declaring
 pub mod Scanning
+pub mod Marking
+pub mod Turning
 pub mod Scanned

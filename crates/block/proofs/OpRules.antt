@@ -1,11 +1,12 @@
 -- The rules of the op at a place, by the scan's tests. Assumes nothing.
 use mathlib.Core.Path.{_≡_, refl, sym, ap, ap₂, _∙_}
 use mathlib.Core.Logic.{_⊎_, inl, inr}
-use mathlib.Core.Bool.{Bool, true, false, cond, not, _&&_, _||_}
+use mathlib.Core.Bool.{Bool, true, false, cond, not, _&&_, _||_, Bool·beq}
 use mathlib.Core.List.{List, [], _∷_}
 use Prim.Native.Nat.{ℕ, zero, suc, _+_, _-_, _/_, _%_, _≤_, _<_}
 use native.Mathlib.Omega.{arith}
 use native.Mathlib.Nat.{add-zero, zero-add, suc-add}
+use lib.Bits.{bitAnd}
 use lib.Dec.{eqb, ltb, leb}
 use lib.ListN.{length, getD, take, drop}
 use borrow.Author.Tests.{eqb-true, lt-ltb, le-ltb, leb-true, leb-false, le-leb, lt-leb, eq-eqb, ne-eqb}
@@ -14,24 +15,34 @@ use Rattle.theory.proofs.Sets.{tell, and-l, and-r}
 use Rattle.ops.specs.Limits.{maxOps}
 use Rattle.ops.specs.Rows.{Table, Row, outsIn, insIn, restIn, testIn, roleIn, typesIn, typesOf, rowIn, roleNo, isKnown, isClosing, testOk, outputCount, operandTypes, operandCount}
 use Rattle.ops.specs.Ops.{bytesAt}
+use Rattle.ops.specs.Plans.{ask}
 use Rattle.ops.proofs.Entry.{Digits}
+use Rattle.ops.proofs.Ranges.{everyFrom, ranged, beq-same}
 use Rattle.block.specs.Checks.{asks, firstBroken, opRules}
 use Rattle.block.specs.Rules.{Seen, keptIn, allBelow, rule4, haveTypes, rule5, rule6, labelFree, rule7, rule8, rule9}
-use Rattle.block.specs.Scan.{recordAt, Stands, codesIn, Coded, fitsAs, operandsFit, declaredAll, numbered, opTests, operandsOk, entryRule, opStands, opOk, straightOk}
+use Rattle.block.specs.Scan.{recordAt, Stands, codesIn, against, Coded, fitsAs, operandsFit, declaredAll, numbered, opTests, operandsOk, entryRule, opStands, opOk}
 use Rattle.block.proofs.Codes.{fit-all}
 use Rattle.block.proofs.Views.{kind-byte, row-at, operand-bytes, input-bytes, label-byte, rule4-at, rule6-at}
 
 unlike : false ≡ true → ⊥
 unlike q = omega (arith, ap (λ (b : Bool). cond {A = ℕ} b 0 1) q)
 
--- operands that fit are declared and have their types
-fits-low : (output : Bool) (x t : ℕ) → t < 4 → fitsAs output x t ≡ true → (ltb x 8 ≡ true) × (fitsAs true x t ≡ true)
-fits-low output x t l = go output (tell (eqb x (t + 4)))
-  where
-    go : (o : Bool) → (eqb x (t + 4) ≡ true) ⊎ (eqb x (t + 4) ≡ false) → fitsAs o x t ≡ true → (ltb x 8 ≡ true) × (fitsAs true x t ≡ true)
-    go o (inl e) h = (lt-ltb x 8 (omega (arith, eqb-true x (t + 4) e)), rw e)
-    go true (inr e) h = let q : eqb x t ≡ true = rw e at h in (lt-ltb x 8 (omega (arith, eqb-true x t q)), rw (e, q))
-    go false (inr e) h = let q : false ≡ true = rw e at h in absurd (unlike q)
+-- operands that fit are declared and have their types: it is so for each byte below 32
+lows : Bool → ℕ → ℕ → Bool
+lows output t y = not (eqb (bitAnd y (ask output t)) 0) || (not (eqb (y % 16) 15) && eqb (bitAnd y (ask true t)) 0)
+
+all-low : (output : Bool) → everyFrom (λ t. everyFrom (lows output t) 0 32) 0 4 ≡ true
+unfolding lows
+all-low true = refl
+all-low false = refl
+
+fits-low : (output : Bool) (x t : ℕ) → t < 4 → fitsAs output x t ≡ true → (not (eqb (x % 16) 15) ≡ true) × (fitsAs true x t ≡ true)
+unfolding lows
+fits-low output x t l h =
+    let low = ranged (lows output t) 32 0 (ranged (λ t. everyFrom (lows output t) 0 32) 4 0 (all-low output) t (omega arith) (omega arith)) (x % 32) (omega arith) (omega arith) in
+    let q : (not (eqb (x % 32 % 16) 15) && eqb (bitAnd (x % 32) (ask true t)) 0) ≡ true = rw h at low in
+    let m : x % 32 % 16 ≡ x % 16 = omega arith in
+    (rw m at (and-l (not (eqb (x % 32 % 16) 15)) (fitsAs true x t) q), and-r (not (eqb (x % 32 % 16) 15)) (fitsAs true x t) q)
 
 fit-declared : (vars : List ℕ) (outs codes : ℕ) (vs : List ℕ) → operandsFit vars outs codes vs ≡ true → declaredAll vars vs ≡ true
 unfolding operandsFit
@@ -144,49 +155,6 @@ module _ (q : Op) {count : ℕ} (n : count ≡ outsIn (q .e) + insIn (q .e)) whe
 pub free-by : (q : Op) {r t : Bool} → r ≡ free q → r ≡ t → free q ≡ t
 free-by q e a = sym e ∙ a
 
--- the fast test, step by step
-module _ (q : Op) where
-  pub ok-late : 256 ≤ q .ops → false ≡ opOk (q .e) (q .b) (q .p) (q .ops) (q .vars) (q .labels)
-  ok-late l = rw (le-ltb (q .ops) maxOps l)
-
-  module _ (l : q .ops < 256) where
-    pub ok-misfit : fit q ≡ false → false ≡ opOk (q .e) (q .b) (q .p) (q .ops) (q .vars) (q .labels)
-    ok-misfit f = rw (lt-ltb (q .ops) maxOps l, f)
-
-    module _ (f : fit q ≡ true) where
-      pub ok-rest : restOk q ≡ false → false ≡ opOk (q .e) (q .b) (q .p) (q .ops) (q .vars) (q .labels)
-      ok-rest t = rw (lt-ltb (q .ops) maxOps l, f, t)
-
-      pub ok-free : {r : Bool} → restOk q ≡ true → r ≡ free q → r ≡ opOk (q .e) (q .b) (q .p) (q .ops) (q .vars) (q .labels)
-      ok-free t e = e ∙ rw (lt-ltb (q .ops) maxOps l, f, t)
-
--- the same where the basic block has to go on
-module _ (q : Op) {stands : Bool} (o : stands ≡ opStands (q .e) (q .b) (q .p)) where
-  pub straight-none : stands ≡ false → false ≡ straightOk (q .e) (q .b) (q .p) (q .ops) (q .vars)
-  straight-none t = rw (sym o ∙ t)
-
-  module _ (t : stands ≡ true) {c : Bool} (z : c ≡ isClosing (roleNo (roleIn (q .e)))) where
-    pub straight-ends : (c || leb 256 (q .ops)) ≡ true → false ≡ straightOk (q .e) (q .b) (q .p) (q .ops) (q .vars)
-    straight-ends = go c refl
-      where
-        go : (k : Bool) → c ≡ k → (k || leb 256 (q .ops)) ≡ true → false ≡ straightOk (q .e) (q .b) (q .p) (q .ops) (q .vars)
-        go true e h = rw (sym o ∙ t, sym z ∙ e)
-        go false e h = rw (sym o ∙ t, sym z ∙ e, le-ltb (q .ops) maxOps (leb-true 256 (q .ops) h))
-
-    goes : (c || leb 256 (q .ops)) ≡ false → (c ≡ false) × (q .ops < 256)
-    goes = go c refl
-      where
-        go : (k : Bool) → c ≡ k → (k || leb 256 (q .ops)) ≡ false → (c ≡ false) × (q .ops < 256)
-        go true e h = absurd (unlike (sym h))
-        go false e h = (e, leb-false 256 (q .ops) h)
-
-    module _ (h : (c || leb 256 (q .ops)) ≡ false) where
-      pub straight-misfit : fit q ≡ false → false ≡ straightOk (q .e) (q .b) (q .p) (q .ops) (q .vars)
-      straight-misfit f = rw (sym o ∙ t, sym z ∙ goes h .0, lt-ltb (q .ops) maxOps (goes h .1), f)
-
-      pub straight-rest : {r : Bool} → fit q ≡ true → r ≡ restOk q → r ≡ straightOk (q .e) (q .b) (q .p) (q .ops) (q .vars)
-      straight-rest f e = e ∙ rw (sym o ∙ t, sym z ∙ goes h .0, lt-ltb (q .ops) maxOps (goes h .1), f)
-
 -- the record's rule, test by test
 module _ (e : ℕ) (b : List ℕ) (p ops : ℕ) (vars labels : List ℕ) where
   pub entry-2 : isKnown (roleNo (roleIn e)) ≡ false → 2 ≡ entryRule e b p ops vars labels false
@@ -294,15 +262,23 @@ drop-all : (b : List ℕ) (m p : ℕ) → drop m (bytesAt b p m) ≡ []
 drop-all b zero p = refl
 drop-all b (suc m) p = drop-all b m (suc p)
 
+declaring : Bool → Bool → ℕ → Bool
+declaring below k x = Bool·beq (not (eqb (cond below (against k x) 15 % 16) 15)) below
+
+all-declaring : (below k : Bool) → everyFrom (declaring below k) 0 4 ≡ true
+unfolding declaring
+all-declaring true true = refl
+all-declaring true false = refl
+all-declaring false k = refl
+
+declared-code : (below k : Bool) (x : ℕ) → x < 4 → not (eqb (cond below (against k x) 15 % 16) 15) ≡ below
+unfolding declaring
+declared-code below k x l = beq-same _ _ (ranged (declaring below k) 4 0 (all-declaring below k) x (omega arith) (omega arith))
+
 declared-below : {vars classes types : List ℕ} {written : Vars} → Coded vars classes types written → (vs : List ℕ) → declaredAll vars vs ≡ allBelow (length classes) vs
 declared-below c [] = refl
 declared-below {vars} {classes} {types} {written} c (v ∷ vs) =
-    ap₂ (λ (x y : Bool). x && y) (ap (λ (codes : ℕ → ℕ). ltb (codes v) 8) (c .codes-are) ∙ go (ltb v (length classes)) (keptIn classes v || written v) (c .types-small v)) (declared-below c vs)
-  where
-    go : (below k : Bool) → getD types v 0 < 4 → ltb (cond below (cond k (getD types v 0 + 4) (getD types v 0)) 8) 8 ≡ below
-    go true true l = lt-ltb (getD types v 0 + 4) 8 (omega arith)
-    go true false l = lt-ltb (getD types v 0) 8 (omega arith)
-    go false k l = refl
+    ap₂ (λ (x y : Bool). x && y) (ap (λ (codes : ℕ → ℕ). not (eqb (codes v % 16) 15)) (c .codes-are) ∙ declared-code (ltb v (length classes)) (keptIn classes v || written v) (getD types v 0) (c .types-small v)) (declared-below c vs)
 
 module _ (q : Op) (s : Seen) {T : Table} {k : ℕ} (st : Stands T (q .b) (q .p) k) (d : Digits T (q .e) k) (c : Coded (q .vars) (s .classes) (s .types) (s .written))
     (ls : s .labels ≡ numbered (q .labels)) (os : s .ops ≡ q .ops) where

@@ -1,12 +1,12 @@
 -- Loops over the operands of a record that stop at the first one that fails a test. Assumes nothing.
 use mathlib.Core.Path.{_≡_, refl, sym, ap, ap₂, _∙_}
-use mathlib.Core.Bool.{Bool, true, false, _&&_}
+use mathlib.Core.Bool.{Bool, true, false, not, _&&_}
 use mathlib.Core.Logic.{_⊎_, inl, inr}
 use mathlib.Core.List.{List, [], _∷_}
 use Prim.Native.Nat.{ℕ, suc, _+_, _-_, _/_, _%_, _≤_, _<_}
 use native.Mathlib.Omega.{arith}
-use lib.Dec.{ltb}
-use borrow.Author.Tests.{ltb-true, ltb-false, lt-ltb, le-ltb}
+use lib.Dec.{eqb, ltb}
+use borrow.Author.Tests.{ltb-true, ltb-false, lt-ltb, le-ltb, eq-eqb, ne-eqb}
 use native.Mathlib.Nat.{sub-zero, add-zero}
 use Rattle.theory.proofs.Sets.{tell}
 use Rattle.ops.specs.Rows.{at}
@@ -45,22 +45,22 @@ abbrev same : ℕ → ℕ
 same s = s
 
 -- rule 4: each is declared
-declared-each : (vars vs : List ℕ) → eachBy (λ s v. ltb (codesIn vars v) 8) same 0 vs ≡ declaredAll vars vs
+declared-each : (vars vs : List ℕ) → eachBy (λ s v. not (eqb (codesIn vars v % 16) 15)) same 0 vs ≡ declaredAll vars vs
 declared-each vars [] = refl
 declared-each vars (v ∷ vs) = rw (declared-each vars vs)
 
 pub record Declared (b vars : List ℕ) (p count i : ℕ) : Type 0 where
-  pub left : Left (λ s v. ltb (codesIn vars v) 8) same b p count 0 i 0
+  pub left : Left (λ s v. not (eqb (codesIn vars v % 16) 15)) same b p count 0 i 0
 
 pub declared-start : (b vars : List ℕ) (p count : ℕ) → Declared b vars p count 0
-declared-start b vars p count = record { left = left-start (λ s v. ltb (codesIn vars v) 8) same b p count 0 }
+declared-start b vars p count = record { left = left-start (λ s v. not (eqb (codesIn vars v % 16) 15)) same b p count 0 }
 
 module _ {b vars : List ℕ} {p count i x : ℕ} (l : Declared b vars p count i) (e : x ≡ codesIn vars (at b (p + i))) (h : i < count) where
-  pub declared-next : x < 8 → Declared b vars p count (i + 1)
-  declared-next t = record { left = left-next (l .left) h (lt-ltb (codesIn vars (at b (p + i))) 8 (omega arith)) }
+  pub declared-next : (x % 16 ≡ 15 → ⊥) → Declared b vars p count (i + 1)
+  declared-next t = record { left = left-next (l .left) h (ap not (ne-eqb (codesIn vars (at b (p + i)) % 16) 15 (λ q. t (ap (λ (n : ℕ). n % 16) e ∙ q)))) }
 
-  pub declared-stops : 8 ≤ x → false ≡ declaredAll vars (bytesAt b p count)
-  declared-stops t = left-stops (l .left) h (le-ltb (codesIn vars (at b (p + i))) 8 (omega arith)) ∙ declared-each vars (bytesAt b p count)
+  pub declared-stops : x % 16 ≡ 15 → false ≡ declaredAll vars (bytesAt b p count)
+  declared-stops t = left-stops (l .left) h (ap not (eq-eqb (codesIn vars (at b (p + i)) % 16) 15 (ap (λ (n : ℕ). n % 16) (sym e) ∙ t))) ∙ declared-each vars (bytesAt b p count)
 
 pub declared-ends : {b vars : List ℕ} {p count i : ℕ} → Declared b vars p count i → count ≤ i → true ≡ declaredAll vars (bytesAt b p count)
 declared-ends {b} {vars} {p} {count} l h = left-ends (l .left) h ∙ declared-each vars (bytesAt b p count)

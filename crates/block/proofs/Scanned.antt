@@ -39,17 +39,15 @@ module _ {T : Table} {b base : List ℕ} {p : ℕ} (g : Begins T b base p) where
       (ap declarations (g .after .records-are) ∙ q .0, ap opsFrom (g .after .records-are) ∙ q .1)
 
   pub approve : (places₀ places labels : List ℕ) (ops : ℕ) → checkBy T b ≡ Accepted → ops ≡ length (recordsAt T b p) → places ≡ placesFrom p 0 places₀ (recordsAt T b p)
-      → labels ≡ labelsFrom T 0 (replicate 256 0) (recordsAt T b p) → Approved T b places₀ (g .classes) (g .types) places labels p (g .n) (g .globals) ops
+      → labels ≡ labelsFrom T 0 (replicate 256 0) (recordsAt T b p) → Approved T b places₀ base places labels p (g .n) (g .globals) ops
   unfolding ds
   approve places₀ places labels ops a c q l =
       record {
         accepted = a;
-        classes-are = ap classesOf (split .0) ∙ g .after .classes-are;
-        types-are = ap declaredTypes (split .0) ∙ g .after .types-are;
-        globals-are = g .after .globals-are ∙ ap globalCount (sym (ap classesOf (split .0) ∙ g .after .classes-are));
+        variables = ap length (split .0) ∙ g .after .count;
+        coded = rw (split .0) (g .after .coded);
+        globals-are = g .after .globals-are ∙ ap (λ (x : List (List ℕ)). globalCount (classesOf x)) (sym (split .0));
         few = g .after .few;
-        long-classes = g .after .long-classes;
-        long-types = g .after .long-types;
         start-is = g .after .place-is;
         ops-are = sym (split .1);
         count-is = c ∙ ap length (sym (split .1));
@@ -58,32 +56,32 @@ module _ {T : Table} {b base : List ℕ} {p : ℕ} (g : Begins T b base p) where
       }
 
 -- what the first scan leaves to the second
-begins-at : {T : Table} {b classes types vars : List ℕ} {p n globals : ℕ} → Declaring T b classes types vars p n globals → (p < length b → getD b p 0 ≡ 1 → ⊥) → Begins T b vars p
-begins-at {classes = classes} {types = types} {n = n} {globals = globals} d k = record { classes = classes; types = types; n = n; globals = globals; after = d; no-more = k }
+begins-at : {T : Table} {b vars : List ℕ} {p n globals : ℕ} → Declaring T b vars p n globals → (p < length b → getD b p 0 ≡ 1 → ⊥) → Begins T b vars p
+begins-at {n = n} {globals = globals} d k = record { n = n; globals = globals; after = d; no-more = k }
 
-pub begins-by : {T : Table} {b classes types vars : List ℕ} {rule p n globals : ℕ} → DeclaredBy T b classes types vars rule p n globals → rule ≡ 0 → Begins T b vars p
+pub begins-by : {T : Table} {b vars : List ℕ} {rule p n globals : ℕ} → DeclaredBy T b vars rule p n globals → rule ≡ 0 → Begins T b vars p
 begins-by (refuses z q) e = absurd (z e)
 begins-by (reads-on d k) e = begins-at d k
 
-pub scan-refused : {T : Table} {b classes types vars : List ℕ} {rule p n globals : ℕ} (places₀ places labels : List ℕ) → DeclaredBy T b classes types vars rule p n globals → (rule ≡ 0 → ⊥)
-    → Scanned T b places₀ classes types places labels rule p p n globals 0
+pub scan-refused : {T : Table} {b vars : List ℕ} {rule p n globals : ℕ} (places₀ places labels : List ℕ) → DeclaredBy T b vars rule p n globals → (rule ≡ 0 → ⊥)
+    → Scanned T b places₀ vars places labels rule p p n globals 0
 scan-refused places₀ places labels (refuses z q) k = rejected z q
 scan-refused places₀ places labels (reads-on d k) z = absurd (z refl)
 
-pub scan-done : {T : Table} {b classes types vars places₀ places labels : List ℕ} {rule₀ p n globals rule place ops : ℕ} → DeclaredBy T b classes types vars rule₀ p n globals → rule₀ ≡ 0
-    → ScannedBy T b p places₀ places labels rule place ops → Scanned T b places₀ classes types places labels rule place p n globals ops
+pub scan-done : {T : Table} {b vars places₀ places labels : List ℕ} {rule₀ p n globals rule place ops : ℕ} → DeclaredBy T b vars rule₀ p n globals → rule₀ ≡ 0
+    → ScannedBy T b p places₀ places labels rule place ops → Scanned T b places₀ vars places labels rule place p n globals ops
 unfolding begins-at
 scan-done d e (refuses-op z q) = rejected z q
 scan-done (refuses z u) e (accepts-ops a c q l) = absurd (z e)
 scan-done {places₀ = places₀} {places = places} {labels = labels} (reads-on d k) e (accepts-ops {ops = ops} a c q l) = approved (approve (begins-at d k) places₀ places labels ops a c q l)
 
 -- the check's answer
-pub check-by : {T : Table} {b places₀ classes types places labels : List ℕ} {rule place start n globals ops : ℕ} → Scanned T b places₀ classes types places labels rule place start n globals ops
+pub check-by : {T : Table} {b places₀ base places labels : List ℕ} {rule place start n globals ops : ℕ} → Scanned T b places₀ base places labels rule place start n globals ops
     → rule ≡ 0 → Accepted ≡ checkBy T b
 check-by (rejected z q) e = absurd (z e)
 check-by (approved a) e = sym (a .accepted)
 
-pub refuse-by : {T : Table} {b places₀ classes types places labels : List ℕ} {rule place start n globals ops : ℕ} → Scanned T b places₀ classes types places labels rule place start n globals ops
+pub refuse-by : {T : Table} {b places₀ base places labels : List ℕ} {rule place start n globals ops : ℕ} → Scanned T b places₀ base places labels rule place start n globals ops
     → (rule ≡ 0 → ⊥) → Refused rule place ≡ checkBy T b
 refuse-by (rejected z q) k = q
 refuse-by (approved a) k = absurd (k refl)

@@ -21,11 +21,11 @@ use Rattle.block.proofs.Codes.{coded-next, codes-closed, codes-open}
 use Rattle.block.proofs.OpRules.{Op, tests-alike, stopped-not, no-op, no-fit, op-fits}
 use Rattle.block.proofs.Views.{row-at, output-bytes, label-byte}
 use Rattle.block.specs.Checks.{asks, firstBroken, opRules, rulesOf, endRules, answer, checkBy}
-use Rattle.block.specs.Records.{Cut, cons, cutOf, isDeclaration, classOf, typeOf}
+use Rattle.block.specs.Records.{Cut, cons, cutOf, isDeclaration, classOf, typeOf, classesOf, declaredTypes}
 use Rattle.block.specs.Rules.{Seen, allGlobal, allBelow, rule3, rule4, markedBy, rule9, rule10, allSet}
 use Rattle.block.specs.Rules.{rule7end, passed, next}
 use Rattle.block.specs.Scan.{recordAt, Stands, checkAt, codesIn, openAll, codesBy, marked, numbered, LabelledAs, declaredSeen, recordRule, opTests, operandsOk, entryRule, opStands, opOk}
-use Rattle.block.specs.Scan.{placesFrom, labelsFrom, recordsAt, ScannedBy, refuses-op, accepts-ops, Marks, Begins, Reading, straightOk}
+use Rattle.block.specs.Scan.{placesFrom, labelsFrom, recordsAt, ScannedBy, refuses-op, accepts-ops, Marks, Begins, Reading}
 use Rattle.block.proofs.Accepts.{allMet, none-broken, numbered-rules}
 use Rattle.block.proofs.Fields.{kind-at, below-left}
 use Rattle.block.proofs.MarkSets.{marked-none, numbered-none, labelled-not, target-not}
@@ -283,21 +283,21 @@ module _ {T : Table} {b : List ℕ} {start : ℕ} {places₀ base vars labels ta
         (sym (s .labels-are ∙ ap (labelsFrom T ops labels) rest))
 
 -- the start, after the declarations
-pub begins-start : {T : Table} {b base : List ℕ} {p : ℕ} (places₀ : List ℕ) → Begins T b base p
-    → Reading T b p places₀ base base (replicate 256 0) (replicate 256 0) places₀ p 0 0
-begins-start {T = T} {b = b} {p = p} places₀ g =
+pub begins-start : {T : Table} {b base labels : List ℕ} {p : ℕ} (places₀ : List ℕ) → Begins T b base p → labels ≡ replicate 256 0
+    → Reading T b p places₀ base base labels (replicate 256 0) places₀ p 0 0
+begins-start {T = T} {b = b} {p = p} places₀ g z =
     record {
-      seen = declaredSeen (g .classes) (g .types) (g .n);
+      seen = declaredSeen (classesOf (g .after .before)) (declaredTypes (g .after .before));
       goes-on = g .after .goes-on;
       coded = g .after .coded;
       based = g .after .coded;
-      labels-so = sym (numbered-none 256 refl);
+      labels-so = sym (numbered-none 256 z);
       targets-so = sym (marked-none 256 refl);
       ops-so = refl;
       last-so = refl;
       count = sym (zero-add (length (recordsAt T b p)));
       places-are = refl;
-      labels-are = refl;
+      labels-are = ap (λ (ls : List ℕ). labelsFrom T 0 ls (recordsAt T b p)) (sym z);
       first-op = λ e. g .no-more;
       few = omega arith;
     }
@@ -350,37 +350,3 @@ module _ {T : Table} {b : List ℕ} {p k e : ℕ} (s : Stands T b p k) (d : Digi
         → marked targets′ ≡ markedBy (isJumping (roleNo (roleIn e))) (marked targets) (getD b (p + (outsIn e + insIn e + restIn e)) 0)
         → Marks T (recordAt T b p) op base vars vars′ labels labels′ targets targets′
     marks-closed c w l u = marks-by (codes-closed (rowIn e) (codesIn base) (codesIn vars) (bytesAt b (p + 1) (outsIn e)) z c (ap codesIn w)) l u
-
--- an op after which its basic block goes on
-pub record Straight (e : ℕ) (b : List ℕ) (p ops : ℕ) (vars : List ℕ) : Type 0 where
-  pub stands : opStands e b p ≡ true
-  pub goes : isClosing (roleNo (roleIn e)) ≡ false
-  pub met : (labels : List ℕ) → opOk e b p ops vars labels ≡ true
-
-pub straight : (e : ℕ) (b : List ℕ) (p ops : ℕ) (vars : List ℕ) {r : Bool} → r ≡ straightOk e b p ops vars → r ≡ true → Straight e b p ops vars
-straight e b p ops vars q t =
-    let rules : Bool = ltb ops maxOps && operandsOk e b p vars && testOk (testIn e) (take (restIn e) (drop (p + 1 + (outsIn e + insIn e)) b)) in
-    let both = and-l (opStands e b p && not (isClosing (roleNo (roleIn e)))) rules (sym q ∙ t) in
-    let goes = not-true (isClosing (roleNo (roleIn e))) (and-r (opStands e b p) (not (isClosing (roleNo (roleIn e)))) both) in
-    let n = numberOf (roleNo (roleIn e)) in
-    let l = ltb-false n 6 goes in
-    record {
-      stands = and-l (opStands e b p) (not (isClosing (roleNo (roleIn e)))) both;
-      goes = goes;
-      met = λ labels. rw (and-r (opStands e b p && not (isClosing (roleNo (roleIn e)))) rules (sym q ∙ t), ne-eqb n 2 (λ z. omega (arith, l)), ne-eqb n 3 (λ z. omega (arith, l)), ne-eqb n 5 (λ z. omega (arith, l)));
-    }
-
-module _ {T : Table} {e : ℕ} {b : List ℕ} {p ops : ℕ} {vars : List ℕ} (d : Digits T e (getD b p 0)) (h : p < length b) (k : Straight e b p ops vars) where
-  pub straight-inside : p + (outsIn e + insIn e + restIn e) < length b
-  straight-inside = stands-inside e b p (k .stands)
-
-  pub straight-few : ops < 256
-  straight-few =
-      ltb-true ops maxOps (and-l (ltb ops maxOps) _ (and-l (ltb ops maxOps && operandsOk e b p vars) _ (and-l (ltb ops maxOps && operandsOk e b p vars && testOk (testIn e) (take (restIn e) (drop (p + 1 + (outsIn e + insIn e)) b))) _ (k .met []))))
-
-  pub straight-next : {vars′ places : List ℕ} {n m last : ℕ} → n ≡ outsIn e → m ≡ outsIn e + insIn e + restIn e → codesIn vars′ ≡ openAll (codesIn vars) (bytesAt b (p + 1) n)
-      → (start : ℕ) (places₀ base labels targets : List ℕ) → Reading T b start places₀ base vars labels targets places p ops last
-      → Reading T b start places₀ base vars′ labels targets (set places ops (p % 65536)) (p + (1 + m)) (ops + 1) (getD b p 0)
-  straight-next n m w start places₀ base labels targets s =
-      let sound = sound-at s h d refl (k .stands) refl (k .met labels) in
-      again-at sound (m ∙ sym (d .body)) _ labels targets (marks-open (stands-at sound) d refl labels targets (k .goes) n w)

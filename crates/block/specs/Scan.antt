@@ -2,18 +2,21 @@
 use mathlib.Core.Path.{_≡_}
 use mathlib.Core.Bool.{Bool, true, false, cond, not, _&&_, _||_}
 use mathlib.Core.List.{List, [], _∷_, _++_}
-use Prim.Native.Nat.{ℕ, suc, _+_, _-_, _*_, _/_, _%_, _≤_, _<_}
+use Prim.Native.Nat.{ℕ, suc, _+_, _-_, _*_, _/_, _%_, _^_, _≤_, _<_}
+use lib.Bits.{bitAnd}
 use lib.Dec.{eqb, ltb, leb}
 use lib.ListN.{length, getD, take, drop, set, replicate}
 use Rattle.theory.specs.Machine.{All}
 use Rattle.theory.specs.Sets.{Vars, empty, has}
 use Rattle.ops.specs.Rows.{known, bodyLength, Table}
-use Rattle.ops.specs.Limits.{maxOps}
+use Rattle.ops.specs.Limits.{maxOps, labelCount}
+use Rattle.ops.specs.Plans.{ask, lengthIn, outAskIn, firstAskIn, secondAskIn, firstAtIn, secondAtIn, byteAtIn, byteTestIn, moreIn, setsIn}
+use Rattle.memory.specs.Bytes.{lowFirst}
 use Rattle.ops.specs.Rows.{Row, outsIn, insIn, restIn, testIn, roleIn, typesIn, rowIn, roleNo, isKnown, isClosing, isSetting, isJumping, testOk}
 use Rattle.ops.specs.Ops.{rowAt, bytesAt, outsBy, labelBy}
 use Rattle.block.specs.Checks.{Finding, asks, firstBroken, rulesOf, checkFrom, checkBy}
 use Rattle.block.specs.Records.{cutOf, recordsOf, isDeclaration, declarations, opsFrom, classesOf, declaredTypes, globalCount}
-use Rattle.block.specs.Rules.{Seen, start, keptIn, labelFree, markedBy}
+use Rattle.block.specs.Rules.{Seen, start, keptIn, labelFree, markedBy, allSet}
 use Rattle.block.specs.declared.Verdict.{Verdict}
 use Rattle.block.specs.declared.Verdict.the-variants.{Accepted, Refused}
 
@@ -35,21 +38,29 @@ pub record SetAt (xs : List ℕ) (i x : ℕ) (ys : List ℕ) : Type 0 where
 unfoldable pub checkAt : Table → Seen → List ℕ → ℕ → Verdict
 checkAt T s block place = checkFrom T s place ((cutOf T (drop place block)) .records) ((cutOf T (drop place block)) .tail)
 
--- the byte of each variable: its type, 4 more while it may be read, 8 if it is not declared (rules 4, 5 and 8 in one)
+-- the byte of each variable, a bit for each thing that speaks against its use: bit t that it has not the type t, bit 4 that it may not be
+-- read (rules 4, 5 and 8 in one); it has no type if it is not declared
 abbrev pub codesIn : List ℕ → ℕ → ℕ
-codesIn vars v = getD vars v 8
+codesIn vars v = getD vars v 15
+
+abbrev pub against : Bool → ℕ → ℕ
+against readable type = cond readable (15 - 2 ^ type) (31 - 2 ^ type)
 
 abbrev pub codeOf : List ℕ → List ℕ → Vars → ℕ → ℕ
-codeOf classes types written v = cond (ltb v (length classes)) (cond (keptIn classes v || written v) (getD types v 0 + 4) (getD types v 0)) 8
+codeOf classes types written v = cond (ltb v (length classes)) (against (keptIn classes v || written v) (getD types v 0)) 15
 
 pub record Coded (vars classes types : List ℕ) (written : Vars) : Type 0 where
   pub codes-are : codesIn vars ≡ codeOf classes types written
   pub types-small : (v : ℕ) → getD types v 0 < 4
   pub inside : (v : ℕ) → length classes ≤ v → written v ≡ false
 
+-- none of the bits that are asked for is there
+abbrev pub meets : ℕ → ℕ → Bool
+meets asked code = eqb (bitAnd (code % 32) asked) 0
+
 -- a variable with this byte may be read at a type; an output need only have it
 abbrev pub fitsAs : Bool → ℕ → ℕ → Bool
-fitsAs output code type = eqb code (type + 4) || (output && eqb code type)
+fitsAs output code type = meets (ask output type) code
 
 -- each operand fits, outputs first; the types are two bits of the number each, the first operand's lowest
 unfoldable pub operandsFit : List ℕ → ℕ → ℕ → List ℕ → Bool
@@ -59,11 +70,11 @@ operandsFit vars outs codes (v ∷ vs) = fitsAs (ltb 0 outs) (codesIn vars v) (c
 -- each is declared
 abbrev pub declaredAll : List ℕ → List ℕ → Bool
 declaredAll vars [] = true
-declaredAll vars (v ∷ vs) = ltb (codesIn vars v) 8 && declaredAll vars vs
+declaredAll vars (v ∷ vs) = not (eqb (codesIn vars v % 16) 15) && declaredAll vars vs
 
 -- the bytes once some variables are written: they may be read
 abbrev pub opened : ℕ → ℕ
-opened code = cond (ltb code 4) (code + 4) code
+opened code = code % 16
 
 abbrev pub openAll : (ℕ → ℕ) → List ℕ → ℕ → ℕ
 openAll codes vs v = cond (has vs v) (opened (codes v)) (codes v)
@@ -83,41 +94,60 @@ pub record LabelledAs (row : Row) (l op : ℕ) (labels labels′ : List ℕ) : T
   pub labels-so : numbered labels′ ≡ markedBy (isSetting (row .role)) (numbered labels) l
   pub numbers-so : labels′ ≡ labelledBy row l op labels
 
--- what is seen after n declarations
-abbrev pub declaredSeen : List ℕ → List ℕ → ℕ → Seen
-declaredSeen classes types n =
-    record { classes = take n classes; types = take n types; written = empty; labels = empty; targets = empty; ops = 0; last = 0 }
+-- by the plan of its kind: the op's output; whether it sets its label, or may jump to it; what that leaves
+abbrev pub outputBy : ℕ → List ℕ → ℕ → List ℕ
+outputBy h block place = cond (eqb (outAskIn h) 0) [] (getD block (place + 1) 0 ∷ [])
+
+abbrev pub setsLabel : ℕ → Bool
+setsLabel h = eqb (moreIn h) 2 && eqb (setsIn h) 1
+
+abbrev pub jumpsTo : ℕ → Bool
+jumpsTo h = eqb (moreIn h) 2 && not (eqb (setsIn h) 1)
+
+pub record LabelMarks (sets jumps : Bool) (l op : ℕ) (labels labels′ targets targets′ : List ℕ) : Type 0 where
+  pub labels-so : numbered labels′ ≡ markedBy sets (numbered labels) l
+  pub numbers-so : labels′ ≡ cond sets (set labels l (op + 1)) labels
+  pub targets-so : marked targets′ ≡ markedBy jumps (marked targets) l
+
+-- what is seen after declarations of variables of these classes and types
+abbrev pub declaredSeen : List ℕ → List ℕ → Seen
+declaredSeen classes types = record { classes = classes; types = types; written = empty; labels = empty; targets = empty; ops = 0; last = 0 }
 
 -- n declarations have been read up to a place, and the check goes on from there
-pub record Declaring (T : Table) (block classes types vars : List ℕ) (place n globals : ℕ) : Type 0 where
+pub record Declaring (T : Table) (block vars : List ℕ) (place n globals : ℕ) : Type 0 where
   pub before : List (List ℕ)
-  pub goes-on : checkAt T (declaredSeen classes types n) block place ≡ checkBy T block
+  pub goes-on : checkAt T (declaredSeen (classesOf before) (declaredTypes before)) block place ≡ checkBy T block
   pub records-are : recordsOf T block ≡ before ++ (cutOf T (drop place block)) .records
   pub all-declared : All (λ r. isDeclaration r ≡ true) before
-  pub classes-are : classesOf before ≡ take n classes
-  pub types-are : declaredTypes before ≡ take n types
-  pub globals-are : globals ≡ globalCount (take n classes)
+  pub count : length before ≡ n
+  pub globals-are : globals ≡ globalCount (classesOf before)
   pub place-is : place ≡ 3 * n
   pub reached : place ≤ length block
   pub few : n ≤ 64
-  pub long-classes : length classes ≡ 256
-  pub long-types : length types ≡ 256
-  pub coded : Coded vars (take n classes) (take n types) empty
+  pub coded : Coded vars (classesOf before) (declaredTypes before) empty
   pub long-vars : length vars ≡ 256
 
 -- the byte of a variable of this class and type
 abbrev pub codeFor : ℕ → ℕ → ℕ
-codeFor class type = cond (ltb class 2) (type % 4 + 4) (type % 4)
+codeFor class type = against (ltb class 2) (type % 4)
 
 -- rule 3 of the n-th variable's declaration, where so many are globals
 unfoldable pub declarationOk : ℕ → ℕ → ℕ → ℕ → Bool
 declarationOk class type globals n = leb class 2 && leb type 1 && (not (eqb class 0) || eqb globals n) && ltb n 64
 
+-- where the declarations have been read, no good one stands at the place
+abbrev pub Stopped : List ℕ → ℕ → ℕ → ℕ → Type 0
+Stopped block place n globals =
+    place < length block → getD block place 0 ≡ 1 → 3 ≤ length block - place → declarationOk (getD block (place + 1) 0) (getD block (place + 2) 0) globals n ≡ false
+
+-- the rule that a declaration at a place breaks, where no good one stands: 1 if it lacks bytes, else 3; 0 if there is none
+abbrev pub declaredRule : List ℕ → ℕ → ℕ
+declaredRule block place = cond (leb (length block) place) 0 (cond (not (eqb (getD block place 0) 1)) 0 (cond (ltb (length block - place) 3) 1 3))
+
 -- what the scan of the declarations answers: a refusal; or the place of the first record that is none
-pub data DeclaredBy (T : Table) (block classes types vars : List ℕ) : ℕ → ℕ → ℕ → ℕ → Type 0 where
-  refuses : {rule place n globals : ℕ} → (rule ≡ 0 → ⊥) → Refused rule place ≡ checkBy T block → DeclaredBy T block classes types vars rule place n globals
-  reads-on : {place n globals : ℕ} → Declaring T block classes types vars place n globals → (place < length block → getD block place 0 ≡ 1 → ⊥)
-      → DeclaredBy T block classes types vars 0 place n globals
+pub data DeclaredBy (T : Table) (block vars : List ℕ) : ℕ → ℕ → ℕ → ℕ → Type 0 where
+  refuses : {rule place n globals : ℕ} → (rule ≡ 0 → ⊥) → Refused rule place ≡ checkBy T block → DeclaredBy T block vars rule place n globals
+  reads-on : {place n globals : ℕ} → Declaring T block vars place n globals → (place < length block → getD block place 0 ≡ 1 → ⊥) → DeclaredBy T block vars 0 place n globals
 
 -- the rule that the record at a place breaks, 2 and 1 first; 0 if none
 unfoldable pub recordRule : Table → Seen → List ℕ → ℕ → ℕ
@@ -152,11 +182,44 @@ opOk e block place ops vars labels =
     ltb ops maxOps && operandsOk e block place vars && testOk (testIn e) (take (restIn e) (drop (place + 1 + (outsIn e + insIn e)) block))
     && labelFree (rowIn e) (numbered labels) (getD block (place + (outsIn e + insIn e + restIn e)) 0)
 
--- and its basic block goes on after it
-abbrev pub straightOk : ℕ → List ℕ → ℕ → ℕ → List ℕ → Bool
-straightOk e block place ops vars =
-    opStands e block place && not (isClosing (roleNo (roleIn e)))
-    && (ltb ops maxOps && operandsOk e block place vars && testOk (testIn e) (take (restIn e) (drop (place + 1 + (outsIn e + insIn e)) block)))
+-- both at once
+abbrev pub opPasses : ℕ → List ℕ → ℕ → ℕ → List ℕ → List ℕ → Bool
+opPasses e block place ops vars labels = opStands e block place && opOk e block place ops vars labels
+
+-- the same by the plan of its kind: the byte of the variable that stands so far into the record; the operands; the byte after them, of which those
+-- below 32 have a bit each in a number, 1 if they are refused; what else is asked
+abbrev pub codeAt : List ℕ → List ℕ → ℕ → ℕ
+codeAt block vars i = codesIn vars (getD block i 0)
+
+abbrev pub threeFit : ℕ → List ℕ → ℕ → List ℕ → Bool
+threeFit h block place vars =
+    meets (outAskIn h) (codeAt block vars (place + 1)) && meets (firstAskIn h) (codeAt block vars (place + firstAtIn h))
+    && meets (secondAskIn h) (codeAt block vars (place + secondAtIn h))
+
+abbrev pub refusedBytes : ℕ → ℕ
+refusedBytes t = cond (eqb t 1) 0xffffffff (cond (eqb t 2) 0xfffffc00 (cond (eqb t 4) 0xffff8888 (cond (eqb t 5) 0xffff0000 (cond (eqb t 6) 0xfffff8f8 (cond (eqb t 7) 0xfffff0f0 0)))))
+
+unfoldable pub byteOk : ℕ → ℕ → Bool
+byteOk t x = (eqb t 0 || ltb x 32) && eqb (refusedBytes t / 2 ^ (x % 32) % 2) 0
+
+abbrev pub labelFits : List ℕ → ℕ → Bool
+labelFits labels l = ltb l labelCount && not (numbered labels l)
+
+-- the bytes that these tests read are inside
+pub record Placed (h : ℕ) (block : List ℕ) (place : ℕ) : Type 0 where
+  pub whole : place + lengthIn h ≤ length block
+  pub operand : 1 < lengthIn h
+  pub first : firstAtIn h < lengthIn h
+  pub second : secondAtIn h < lengthIn h
+  pub byte : byteAtIn h < lengthIn h
+  pub constant : moreIn h ≡ 1 → 10 ≤ lengthIn h
+  pub inputs : moreIn h ≡ 3 → 5 < lengthIn h
+
+unfoldable pub moreOk : ℕ → List ℕ → ℕ → List ℕ → List ℕ → Bool
+moreOk h block place vars labels =
+    cond (eqb (moreIn h) 1) (ltb (lowFirst block (place + 2) 8) (2 ^ 32))
+    (cond (eqb (moreIn h) 2) (labelFits labels (getD block (place + lengthIn h - 1) 0))
+    (cond (eqb (moreIn h) 3) (meets (firstAskIn h) (codeAt block vars (place + 4)) && meets (firstAskIn h) (codeAt block vars (place + 5))) true))
 
 -- the places of ops that start at a place, the first of them the i-th; and the labels' numbers
 unfoldable pub placesFrom : ℕ → ℕ → List ℕ → List (List ℕ) → List ℕ
@@ -177,6 +240,10 @@ pub data ScannedBy (T : Table) (block : List ℕ) (start : ℕ) (places₀ place
   accepts-ops : {place ops : ℕ} → checkBy T block ≡ Accepted → ops ≡ length (recordsAt T block start) → places ≡ placesFrom start 0 places₀ (recordsAt T block start)
       → labels ≡ labelsFrom T 0 (replicate 256 0) (recordsAt T block start) → ScannedBy T block start places₀ places labels 0 place ops
 
+-- the rule that is broken at the end, after an op of the kind last; 0 if none
+abbrev pub endRule : ℕ → List ℕ → List ℕ → ℕ
+endRule last targets labels = cond (not (eqb last 0x04)) 10 (cond (allSet (marked targets) (numbered labels) labelCount) 0 7)
+
 -- the variables' bytes after an op, from those at the start of a basic block
 abbrev pub codesBy : Row → (ℕ → ℕ) → (ℕ → ℕ) → List ℕ → ℕ → ℕ
 codesBy row base codes outs = cond (isClosing (row .role)) base (openAll codes outs)
@@ -189,11 +256,9 @@ pub record Marks (T : Table) (r : List ℕ) (op : ℕ) (base vars vars′ labels
 
 -- the ops begin at a place, after the declarations
 pub record Begins (T : Table) (block base : List ℕ) (place : ℕ) : Type 0 where
-  pub classes : List ℕ
-  pub types : List ℕ
   pub n : ℕ
   pub globals : ℕ
-  pub after : Declaring T block classes types base place n globals
+  pub after : Declaring T block base place n globals
   pub no-more : place < length block → getD block place 0 ≡ 1 → ⊥
 
 -- ops have been read up to a place, and the check goes on from there: what has been seen, and that the arrays hold it
@@ -212,30 +277,19 @@ pub record Reading (T : Table) (b : List ℕ) (start : ℕ) (places₀ base vars
   pub first-op : ops ≡ 0 → p < length b → getD b p 0 ≡ 1 → ⊥
   pub few : ops ≤ 256
 
--- ops after which their basic block goes on have been read, from a place to another
-pub record ReadsOn (T : Table) (b : List ℕ) (p ops last : ℕ) (vars places : List ℕ) (p′ ops′ last′ : ℕ) (vars′ places′ : List ℕ) : Type 0 where
-  pub reached : p′ ≤ length b
-  pub further : p ≤ p′
-  pub then-so : (start : ℕ) (places₀ base labels targets : List ℕ) → Reading T b start places₀ base vars labels targets places p ops last
-      → Reading T b start places₀ base vars′ labels targets places′ p′ ops′ last′
-
 -- what the scan tells of an accepted block, with the declarations and ops as the definitions have them
-pub record Approved (T : Table) (block places₀ classes types places labels : List ℕ) (start n globals ops : ℕ) : Type 0 where
+pub record Approved (T : Table) (block places₀ base places labels : List ℕ) (start n globals ops : ℕ) : Type 0 where
   pub accepted : checkBy T block ≡ Accepted
-  pub classes-are : classesOf (declarations (recordsOf T block)) ≡ take n classes
-  pub types-are : declaredTypes (declarations (recordsOf T block)) ≡ take n types
+  pub variables : length (declarations (recordsOf T block)) ≡ n
+  pub coded : Coded base (classesOf (declarations (recordsOf T block))) (declaredTypes (declarations (recordsOf T block))) empty
   pub globals-are : globals ≡ globalCount (classesOf (declarations (recordsOf T block)))
   pub few : n ≤ 64
-  pub long-classes : length classes ≡ 256
-  pub long-types : length types ≡ 256
   pub start-is : start ≡ 3 * n
   pub ops-are : recordsAt T block start ≡ opsFrom (recordsOf T block)
   pub count-is : ops ≡ length (opsFrom (recordsOf T block))
   pub places-are : places ≡ placesFrom start 0 places₀ (opsFrom (recordsOf T block))
   pub labels-are : labels ≡ labelsFrom T 0 (replicate 256 0) (opsFrom (recordsOf T block))
 
-pub data Scanned (T : Table) (block places₀ classes types places labels : List ℕ) : ℕ → ℕ → ℕ → ℕ → ℕ → ℕ → Type 0 where
-  rejected : {rule place start n globals ops : ℕ} → (rule ≡ 0 → ⊥) → Refused rule place ≡ checkBy T block
-      → Scanned T block places₀ classes types places labels rule place start n globals ops
-  approved : {place start n globals ops : ℕ} → Approved T block places₀ classes types places labels start n globals ops
-      → Scanned T block places₀ classes types places labels 0 place start n globals ops
+pub data Scanned (T : Table) (block places₀ base places labels : List ℕ) : ℕ → ℕ → ℕ → ℕ → ℕ → ℕ → Type 0 where
+  rejected : {rule place start n globals ops : ℕ} → (rule ≡ 0 → ⊥) → Refused rule place ≡ checkBy T block → Scanned T block places₀ base places labels rule place start n globals ops
+  approved : {place start n globals ops : ℕ} → Approved T block places₀ base places labels start n globals ops → Scanned T block places₀ base places labels 0 place start n globals ops

@@ -2,25 +2,17 @@
 ghost use mathlib.Core.Path.{_≡_};
 ghost use Rattle.block.specs.Checks.{checkOf};
 use block::Verdict;
-use kinds::table;
+use plans::table;
 
 // Whether a block meets every rule; if not, the first rule that is broken and its place.
 pub fn check(block: &[u8]) -> Verdict
     ensures { λ r. ⌜ r ≡ checkOf (now (block .entry)) ⌝ }
 {
-    let mut classes = [0u8; 256];
-    let mut types = [0u8; 256];
+    let mut base = [15u8; 256];
     let mut places = [0u16; 256];
     let mut labels = [0u16; 256];
-    let kinds = table();
-    let s = scan::scan(
-        &kinds,
-        block,
-        &mut classes,
-        &mut types,
-        &mut places,
-        &mut labels,
-    );
+    let plans = table();
+    let s = scan::scan(&plans, block, &mut base, &mut places, &mut labels);
     let rule = s.rule;
     if rule == 0 {
         return Verdict::Accepted;

@@ -1,58 +1,112 @@
-// The tests of one op, and the rule that it breaks where one fails. e is the entry of its kind.
+// The tests of one op, and the rule that it breaks where one fails.
 ghost use mathlib.Core.Path.{_≡_};
-ghost use mathlib.Core.Bool.{false};
-ghost use Prim.Native.Nat.{_+_, _≤_, _<_};
-ghost use lib.ListN.{length};
+ghost use mathlib.Core.Bool.{false, _&&_};
+ghost use Prim.Native.Nat.{_+_, _-_, _≤_, _<_};
+ghost use lib.ListN.{length, getD};
 ghost use Rattle.ops.specs.Rows.{outsIn, insIn, restIn, testIn, asksFor};
+ghost use Rattle.ops.specs.Kinds.{kindTable};
+ghost use Rattle.ops.specs.Plans.{planOf, lengthIn, firstAskIn};
 ghost use Rattle.block.specs.Checks.{firstBroken};
-ghost use Rattle.block.specs.Scan.{opTests, entryRule, opStands, opOk, straightOk};
+ghost use Rattle.block.specs.Scan.{opTests, entryRule, Placed, codeAt, meets, threeFit, labelFits, moreOk, opPasses};
 use kinds::body_length;
-use kinds::is_closing;
 use kinds::is_known;
 use kinds::operand_count;
-use kinds::outs;
 use kinds::types;
+use ops::LABELS;
 use ops::MAX_OPS;
+use plans::byte_at;
+use plans::byte_test;
+use plans::first_ask;
+use plans::first_at;
+use plans::length;
+use plans::more;
+use plans::out_ask;
+use plans::second_ask;
+use plans::second_at;
 use rules::all_declared;
 use rules::all_typed;
+use rules::byte_ok;
+use rules::code;
+use rules::constant_ok;
+use rules::is_set;
 use rules::label_free;
-use rules::operands_fit;
+use rules::meets;
 use rules::rest_ok;
 
-// Whether an op stands at a place, whole.
-pub fn op_stands(e: u32, block: &[u8], at: usize) -> bool
-    requires { ⌜ at < length (now block) ⌝ }
-    ensures { λ r. ⌜ r ≡ opStands e (now (block .entry)) at ⌝ }
+// The output and the first two inputs of an op with this plan may be used so.
+fn three_fit(h: u32, block: &[u8], at: usize, vars: &[u8; 256]) -> bool
+    requires { ⌜ Placed h (now block) at ⌝ }
+    ensures { λ r. ⌜ r ≡ threeFit h (now (block .entry)) at (now (vars .entry)) ⌝ }
 {
-    is_known(e) & !(block.len() - at <= body_length(e)) & !(block[at] == 1)
+    let o = code(vars, block[at + 1]);
+    let a = code(vars, block[at + first_at(h)]);
+    let b = code(vars, block[at + second_at(h)]);
+    meets(out_ask(h), o) & meets(first_ask(h), a) & meets(second_ask(h), b)
 }
 
-// Whether the op, the op-th, meets every rule from 9 on: the fast test.
+// And two inputs more.
+fn inputs_fit(h: u32, block: &[u8], at: usize, vars: &[u8; 256]) -> bool
+    requires { ⌜ at + 5 < length (now block) ⌝ }
+    ensures { λ r. ⌜ r ≡ (meets (firstAskIn h) (codeAt (now (block .entry)) (now (vars .entry)) (at + 4)) && meets (firstAskIn h) (codeAt (now (block .entry)) (now (vars .entry)) (at + 5))) ⌝ }
+{
+    let a = code(vars, block[at + 4]);
+    let b = code(vars, block[at + 5]);
+    meets(first_ask(h), a) & meets(first_ask(h), b)
+}
+
+// Its label, the last byte, is below the limit and not set yet.
+fn label_ok(h: u32, block: &[u8], at: usize, labels: &[u16; 256]) -> bool
+    requires { ⌜ (at + lengthIn h ≤ length (now block)) × (1 < lengthIn h) ⌝ }
+    ensures { λ r. ⌜ r ≡ labelFits (now (labels .entry)) (getD (now (block .entry)) (at + lengthIn h - 1) 0) ⌝ }
+{
+    let l = block[at + length(h) - 1];
+    (l < LABELS) & !is_set(labels, l)
+}
+
+// What else its plan asks.
+fn more_ok(h: u32, block: &[u8], at: usize, vars: &[u8; 256], labels: &[u16; 256]) -> bool
+    requires { ⌜ Placed h (now block) at ⌝ }
+    ensures { λ r. ⌜ r ≡ moreOk h (now (block .entry)) at (now (vars .entry)) (now (labels .entry)) ⌝ }
+{
+    let m = more(h);
+    if m % 2 == 1 {
+        if m == 1 {
+            return constant_ok(block, at + 2);
+        }
+        return inputs_fit(h, block, at, vars);
+    }
+    if m == 0 {
+        return true;
+    }
+    label_ok(h, block, at, labels)
+}
+
+// Whether an op stands at a place, whole, and meets every rule: the fast test. h is the plan of its kind.
 pub fn op_ok(
-    e: u32,
+    h: u32,
     block: &[u8],
     at: usize,
-    op: usize,
+    ops: usize,
     vars: &[u8; 256],
     labels: &[u16; 256],
 ) -> bool
-    requires { ⌜ (at + (outsIn e + insIn e + restIn e) < length (now block)) × (asksFor (testIn e) ≤ restIn e) ⌝ }
-    ensures { λ r. ⌜ r ≡ opOk e (now (block .entry)) at op (now (vars .entry)) (now (labels .entry)) ⌝ }
+    requires { ⌜ (at < length (now block)) × (h ≡ planOf (getD kindTable (getD (now block) at 0) 0)) ⌝ }
+    ensures { λ r. ⌜ r ≡ opPasses (getD kindTable (getD (now (block .entry)) at 0) 0) (now (block .entry)) at ops (now (vars .entry)) (now (labels .entry)) ⌝ }
 {
-    if MAX_OPS <= op {
+    if block.len() - at < length(h) {
         return false;
     }
-    let count = operand_count(e);
-    if !operands_fit(block, at + 1, outs(e), count, types(e), vars) {
+    if MAX_OPS <= ops {
         return false;
     }
-    if !rest_ok(e, block, at + 1 + count) {
+    let x = block[at + byte_at(h)];
+    if !(three_fit(h, block, at, vars) & byte_ok(byte_test(h), x)) {
         return false;
     }
-    label_free(e, block, at, labels)
+    more_ok(h, block, at, vars, labels)
 }
 
-// The rule from 9 on that it breaks, where the fast test fails: 8 if no other.
+// The rule from 9 on that it breaks, where the fast test fails: 8 if no other. e is the entry of its kind.
 fn broken_rule(
     e: u32,
     block: &[u8],
@@ -105,22 +159,4 @@ pub fn record_rule(
         return 3;
     }
     broken_rule(e, block, at, ops, vars, labels)
-}
-
-// Whether an op stands at a place that meets every rule and after which its basic block goes on.
-pub fn straight_ok(e: u32, block: &[u8], at: usize, op: usize, vars: &[u8; 256]) -> bool
-    requires { ⌜ (at < length (now block)) × (asksFor (testIn e) ≤ restIn e) ⌝ }
-    ensures { λ r. ⌜ r ≡ straightOk e (now (block .entry)) at op (now (vars .entry)) ⌝ }
-{
-    if !op_stands(e, block, at) {
-        return false;
-    }
-    if is_closing(e) | (MAX_OPS <= op) {
-        return false;
-    }
-    let count = operand_count(e);
-    if !operands_fit(block, at + 1, outs(e), count, types(e), vars) {
-        return false;
-    }
-    rest_ok(e, block, at + 1 + count)
 }

@@ -2,6 +2,7 @@ pub mod Lawful
 pub mod Ranges
 pub mod Table
 pub mod Entry
+pub mod Plans
 pub mod Traits
 pub mod Inputs
 pub mod Fits

@@ -64,7 +64,7 @@ all-right : every right 0 kindTable ≡ true
 unfolding kindTable
 all-right = refl
 
-table-long : length kindTable ≡ 256
+pub table-long : length kindTable ≡ 256
 unfolding kindTable
 table-long = refl
 

@@ -4,4 +4,5 @@ pub mod Eval
 pub mod Ops
 pub mod Lawful
 pub mod Kinds
+pub mod Plans
 pub mod Evaluate

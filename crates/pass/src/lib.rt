@@ -1,26 +1,25 @@
 // The pass: fold, prune and the result in the lent buffer.
 ghost use mathlib.Core.Path.{_≡_};
 ghost use Prim.Native.Nat.{_*_, _≤_};
-ghost use lib.ListN.{length, take};
+ghost use lib.ListN.{length};
 ghost use Rattle.ops.specs.Kinds.{kindTable};
 ghost use Rattle.sets.specs.Words.{members};
-ghost use Rattle.block.specs.Rules.{keptIn};
 ghost use Rattle.passes.specs.Passes.{passOf};
-ghost use Rattle.passes.specs.Ready.{Ready};
+ghost use Rattle.passes.specs.Ready.{Ready, outlivingIn};
 use emit::copy;
 use kinds::table;
 use passes::Written;
 use scan::scan;
 
-// The variables that outlive a basic block, of n with these classes.
-fn outliving(classes: &[u8], n: usize) -> [u64; 4]
-    requires { ⌜ (n ≤ 256) × (n ≤ length (now classes)) ⌝ }
-    ensures { λ r. ⌜ members r ≡ keptIn (take n (now (classes .entry))) ⌝ }
+// The variables that outlive a basic block, of n with these bytes.
+fn outliving(base: &[u8; 256], n: usize) -> [u64; 4]
+    requires { ⌜ (n ≤ 256) × (length (now base) ≡ 256) ⌝ }
+    ensures { λ r. ⌜ members r ≡ outlivingIn (now (base .entry)) n ⌝ }
 {
     let mut kept = sets::empty();
     let mut i: usize = 0;
     while i < n {
-        if classes[i] < 2 {
+        if base[i] < 15 {
             sets::add(&mut kept, i as u8);
         }
         i += 1;
@@ -121,19 +120,11 @@ fn write_long(
 pub fn pass(block: &[u8], out: &mut [u8]) -> Written
     ensures { λ r. ⌜ (r ≡ (passOf (now (block .entry)) (now (out .entry))) .answer) × (now (out .exit) ≡ (passOf (now (block .entry)) (now (out .entry))) .out) ⌝ }
 {
-    let mut classes = [0u8; 256];
-    let mut types = [0u8; 256];
+    let mut base = [15u8; 256];
     let mut places = [0u16; 256];
     let mut labels = [0u16; 256];
-    let kinds = table();
-    let s = scan(
-        &kinds,
-        block,
-        &mut classes,
-        &mut types,
-        &mut places,
-        &mut labels,
-    );
+    let plans = plans::table();
+    let s = scan(&plans, block, &mut base, &mut places, &mut labels);
     let rule = s.rule;
     if rule != 0 {
         return Written::Refused {
@@ -141,7 +132,8 @@ pub fn pass(block: &[u8], out: &mut [u8]) -> Written
             place: s.place,
         };
     }
-    let kept = outliving(&classes, s.variables);
+    let kinds = table();
+    let kept = outliving(&base, s.variables);
     let globals = sets::below(s.globals);
     if s.ops <= 64 {
         return write_short(&kinds, block, s.start, s.ops, &globals, &kept, out);

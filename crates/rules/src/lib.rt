@@ -1,6 +1,6 @@
 // The rules of one op, each by itself. e is the entry of its kind.
 ghost use mathlib.Core.Path.{_≡_};
-ghost use mathlib.Core.Bool.{not, _&&_, _||_};
+ghost use mathlib.Core.Bool.{true, not, _&&_, _||_};
 ghost use Prim.Native.Nat.{_+_, _%_, _≤_, _<_, _^_};
 ghost use lib.Dec.{eqb, ltb};
 ghost use lib.ListN.{length, getD, take, drop};
@@ -8,7 +8,8 @@ ghost use Rattle.memory.specs.Bytes.{lowFirst};
 ghost use Rattle.ops.specs.Rows.{outsIn, insIn, restIn, testIn, rowIn, condOk, labelOk, asksFor, testOk};
 ghost use Rattle.ops.specs.Ops.{bytesAt};
 ghost use Rattle.block.specs.Rules.{labelFree, allSet};
-ghost use Rattle.block.specs.Scan.{codesIn, declaredAll, fitsAs, operandsFit, marked, numbered};
+ghost use Rattle.ops.specs.Plans.{ask};
+ghost use Rattle.block.specs.Scan.{codesIn, declaredAll, meets, operandsFit, refusedBytes, byteOk, marked, numbered};
 use kinds::body_length;
 use kinds::is_jumping;
 use kinds::is_setting;
@@ -32,7 +33,7 @@ pub fn all_declared(block: &[u8], p: usize, count: usize, vars: &[u8; 256]) -> b
 {
     let mut i = 0;
     while i < count {
-        if 8 <= code(vars, block[p + i]) {
+        if code(vars, block[p + i]) % 16 == 15 {
             return false;
         }
         i += 1;
@@ -40,13 +41,18 @@ pub fn all_declared(block: &[u8], p: usize, count: usize, vars: &[u8; 256]) -> b
     true
 }
 
-// Whether a variable with this byte may be read at the lowest type of codes, or, as an output, only has it.
-fn fits(code: u8, codes: u32, output: bool) -> bool
-    ensures { λ r. ⌜ r ≡ fitsAs output code (codes % 4) ⌝ }
+// Whether none of the bits that are asked for is in a variable's byte.
+pub fn meets(asked: u32, code: u8) -> bool
+    ensures { λ r. ⌜ r ≡ meets asked code ⌝ }
 {
-    let x = code as u32;
-    let ty = codes % 4;
-    (x == ty + 4) | (output & (x == ty))
+    ((code % 32) as u32 & asked) == 0
+}
+
+// What an output asks of a variable, of the lowest type of codes.
+fn type_ask(codes: u32) -> u32
+    ensures { λ r. ⌜ r ≡ ask true (codes % 4) ⌝ }
+{
+    1u32 << (codes % 4)
 }
 
 // Rule 5: each of count variables named from p on has its type, two bits of codes.
@@ -57,31 +63,7 @@ pub fn all_typed(block: &[u8], p: usize, count: usize, codes: u32, vars: &[u8; 2
     let mut i = 0;
     let mut rest = codes;
     while i < count {
-        if !fits(code(vars, block[p + i]), rest, true) {
-            return false;
-        }
-        i += 1;
-        rest = rest / 4;
-    }
-    true
-}
-
-// Rules 4, 5 and 8 together: each of count variables named from p on fits its type, two bits of codes; the first outs are outputs.
-pub fn operands_fit(
-    block: &[u8],
-    p: usize,
-    outs: usize,
-    count: usize,
-    codes: u32,
-    vars: &[u8; 256],
-) -> bool
-    requires { ⌜ p + count ≤ length (now block) ⌝ }
-    ensures { λ r. ⌜ r ≡ operandsFit (now (vars .entry)) outs codes (bytesAt (now (block .entry)) p count) ⌝ }
-{
-    let mut i = 0;
-    let mut rest = codes;
-    while i < count {
-        if !fits(code(vars, block[p + i]), rest, i < outs) {
+        if !meets(type_ask(rest), code(vars, block[p + i])) {
             return false;
         }
         i += 1;
@@ -91,7 +73,7 @@ pub fn operands_fit(
 }
 
 // A constant is below 2^32.
-fn constant_ok(block: &[u8], p: usize) -> bool
+pub fn constant_ok(block: &[u8], p: usize) -> bool
     requires { ⌜ p + 8 ≤ length (now block) ⌝ }
     ensures { λ r. ⌜ r ≡ ltb (lowFirst (now (block .entry)) p 8) (2 ^ 32) ⌝ }
 {
@@ -123,8 +105,32 @@ pub fn rest_ok(e: u32, block: &[u8], p: usize) -> bool
     }
 }
 
+// The test of one byte after the operands by its number: the bytes below 32 that it refuses, a bit each. With an arm for each number below 8 it is
+// one load.
+fn refused_bytes(t: u32) -> u32
+    ensures { λ r. ⌜ r ≡ refusedBytes t ⌝ }
+{
+    match t {
+        0 => 0,
+        1 => 0xffff_ffff,
+        2 => 0xffff_fc00,
+        3 => 0,
+        4 => 0xffff_8888,
+        5 => 0xffff_0000,
+        6 => 0xffff_f8f8,
+        7 => 0xffff_f0f0,
+        _ => 0,
+    }
+}
+
+pub fn byte_ok(t: u32, x: u8) -> bool
+    ensures { λ r. ⌜ r ≡ byteOk t x ⌝ }
+{
+    ((t == 0) | (x < 32)) & ((refused_bytes(t) >> (x % 32)) % 2 == 0)
+}
+
 // Whether a label is set.
-fn is_set(labels: &[u16; 256], l: u8) -> bool
+pub fn is_set(labels: &[u16; 256], l: u8) -> bool
     ensures { λ r. ⌜ r ≡ numbered (now (labels .entry)) l ⌝ }
 {
     labels[l as usize] != 0

@@ -50,19 +50,11 @@ fn run_ops(
 pub fn run(block: &[u8], globals: &mut [u64], memory: &mut [u8]) -> Ending
     ensures { λ r. ⌜ ranAs r (now (globals .exit)) (now (memory .exit)) ≡ runOf (now (block .entry)) (now (globals .entry)) (now (memory .entry)) ⌝ }
 {
-    let mut classes = [0u8; 256];
-    let mut types = [0u8; 256];
+    let mut base = [15u8; 256];
     let mut places = [0u16; 256];
     let mut labels = [0u16; 256];
-    let kinds = table();
-    let s = scan(
-        &kinds,
-        block,
-        &mut classes,
-        &mut types,
-        &mut places,
-        &mut labels,
-    );
+    let plans = plans::table();
+    let s = scan(&plans, block, &mut base, &mut places, &mut labels);
     let rule = s.rule;
     if rule != 0 {
         return Ending::Refused {
@@ -70,12 +62,13 @@ pub fn run(block: &[u8], globals: &mut [u64], memory: &mut [u8]) -> Ending
             place: s.place,
         };
     }
-    if !lent_ok(&types, s.variables, s.globals, globals, memory) {
+    if !lent_ok(&base, s.globals, globals, memory) {
         return Ending::Refused {
             number: 11,
             place: 0,
         };
     }
+    let kinds = table();
     run_ops(
         &kinds,
         block,

@@ -3,35 +3,31 @@ use mathlib.Core.Path.{refl}
 use native.Mathlib.Omega.{arith}
 use borrow.Author.Tests.{not-true, not-false}
 use borrow.Author.Needs.{needs}
-use Rattle.ops.proofs.Entry.{digits}
-use Rattle.ops.specs.Kinds.{kindTable}
-use Rattle.block.proofs.Scanning.{last-inside, marks-open, marks-closed}
+use Rattle.block.proofs.Marking.{whole-here, marks-opened, marks-ended}
 use Rattle.op_marks.proofs.mark_op.Statement.{statement}
 use Rattle.op_marks.proofs.mark_op.Tie as tie
 
-is-closing-requires : tie.Need-is-closing-requires
-is-closing-requires c κs = search needs
-
-add-open-all : tie.Need-add-open-all
-add-open-all c = search needs
-
-outs-requires : tie.Need-outs-requires
-outs-requires c κs = search needs
-
-open-all-requires : tie.Need-open-all-requires
-open-all-requires c κs = omega (arith, last-inside (c .before .before .before .before .before .pre .0) (digits kindTable (c .before .before .before .before .before .pre .2)), c .before .outs .ensures)
+open-output-requires : tie.Need-open-output-requires
+open-output-requires c κs =
+    let p = c .before .before .before .before .pre in
+    let w = whole-here (p .0) (p .2) (p .3) in
+    omega (arith, w .0, w .1)
 
 returns : tie.Need-returns
-returns c = marks-open (c .before .before .before .before .before .before .pre .0) (digits kindTable (c .before .before .before .before .before .before .pre .2)) (c .before .before .before .before .is-closing .ensures) _ _ (not-true _ (c .before .before .before .if1 .taken)) (c .before .before .outs .ensures) (c .open-all .ensures)
+returns c =
+    let s = c .before .before .before .before .before in
+    marks-opened (s .pre .0) (s .pre .2) (s .pre .3) (s .args .labels .now) (s .args .targets .now) (c .before .before .before .closes .ensures) (not-true _ (c .before .before .if1 .taken)) (c .open-output .ensures)
 
 mark-label-requires : tie.Need-mark-label-requires
-mark-label-requires c κs = (last-inside (c .before .before .before .before .before .pre .0) (digits kindTable (c .before .before .before .before .before .pre .2)), c .before .before .before .before .before .pre .1)
-
-mark-target-requires : tie.Need-mark-target-requires
-mark-target-requires c κs = last-inside (c .before .before .before .before .before .before .before .pre .0) (digits kindTable (c .before .before .before .before .before .before .before .pre .2))
+mark-label-requires c κs =
+    let p = c .before .before .before .before .before .before .pre in
+    let w = whole-here (p .0) (p .2) (p .3) in
+    (w .0, w .1, p .1)
 
 returns-2 : tie.Need-returns-2
-returns-2 c = marks-closed (c .before .before .before .before .before .before .before .before .pre .0) (digits kindTable (c .before .before .before .before .before .before .before .before .pre .2)) (c .before .before .before .before .before .before .is-closing .ensures) (not-false _ (c .before .before .before .before .before .if1 .left)) refl (c .before .before .mark-label .ensures) (c .mark-target .ensures)
+returns-2 c =
+    let s = c .before .before .before .before .before .before .before in
+    marks-ended (s .pre .0) (s .pre .2) (s .pre .3) (c .before .before .before .before .before .closes .ensures) (not-false _ (c .before .before .before .before .if1 .left)) refl (c .mark-label .ensures)
 
 pub mark-op-spec : {M : Type 1} → statement M
-mark-op-spec = tie.close (tie.spec is-closing-requires add-open-all outs-requires open-all-requires returns mark-label-requires mark-target-requires returns-2)
+mark-op-spec = tie.close (tie.spec (λ c κs. search needs) open-output-requires returns mark-label-requires returns-2)

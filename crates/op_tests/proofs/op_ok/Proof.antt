@@ -1,59 +1,67 @@
 -- `op_ok` is the fast test of an op. Assumes nothing.
+use mathlib.Core.Path.{_≡_, refl, sym, ap₂, _∙_}
+use mathlib.Core.Bool.{_&&_}
+use Prim.Native.Nat.{ℕ, _+_, _≤_, _-_, _<_}
 use native.Mathlib.Omega.{arith}
-use borrow.Author.Tests.{not-true, not-false}
+use lib.ListN.{length, getD}
 use borrow.Author.Needs.{needs}
-use Rattle.block.proofs.OpRules.{Op, count-inside, rest-inside, fit-by, rest-by, ok-late, ok-misfit, ok-rest, ok-free}
+use borrow.Author.Tests.{not-true, not-false}
+use Rattle.ops.specs.Plans.{lengthIn, byteAtIn, byteTestIn}
+use Rattle.block.specs.Scan.{Placed, threeFit, byteOk}
+use Rattle.block.proofs.Quick.{fails-short, fails-late, placed, fails-fit, passes-so, both-so}
 use Rattle.op_tests.proofs.op_ok.Statement.{statement}
 use Rattle.op_tests.proofs.op_ok.Tie as tie
 
-abbrev op : tie.Start → Op
-op s = record {
-  e = s .args .e;
-  b = s .args .block .now;
-  p = s .args .at;
-  ops = s .args .op;
-  vars = s .args .vars .now;
-  labels = s .args .labels .now;
-}
-
 returns : tie.Need-returns
-returns c = ok-late (op (c .before .before)) (c .if1 .taken)
-
-operand-count-requires : tie.Need-operand-count-requires
-operand-count-requires c κs = search needs
-
-add-operands-fit : tie.Need-add-operands-fit
-add-operands-fit c = search needs
-
-outs-requires : tie.Need-outs-requires
-outs-requires c κs = search needs
-
-types-requires : tie.Need-types-requires
-types-requires c κs = search needs
-
-operands-fit-requires : tie.Need-operands-fit-requires
-operands-fit-requires c κs = count-inside (op (c .before .before .before .before .before)) (c .before .before .operand-count .ensures) (c .before .before .before .before .before .pre .0)
+returns c =
+    let s = c .before .before .before in
+    fails-short (s .args .block .now) (s .args .at) (s .args .ops) (s .args .vars .now) (s .args .labels .now) (getD (s .args .block .now) (s .args .at) 0) refl refl (s .pre .1) (omega (arith, c .if1 .taken, c .before .length .ensures))
 
 returns-2 : tie.Need-returns-2
-returns-2 c = ok-misfit (op (c .before .before .before .before .before .before .before)) (c .before .before .before .before .before .if1 .left) (fit-by (op (c .before .before .before .before .before .before .before)) (c .before .before .before .before .operand-count .ensures) (c .before .before .before .outs .ensures) (c .before .before .types .ensures) (c .before .operands-fit .ensures) (not-true _ (c .if2 .taken)))
+returns-2 c =
+    let s = c .before .before .before .before in
+    fails-late (s .args .block .now) (s .args .at) (s .args .ops) (s .args .vars .now) (s .args .labels .now) (getD (s .args .block .now) (s .args .at) 0) refl refl (s .pre .1) (c .if2 .taken)
 
-add-rest-ok : tie.Need-add-rest-ok
-add-rest-ok c = search needs
+-- what the first tests leave
+abbrev start : tie.Else2 → tie.Start
+start k = k .before .before .before .before
 
-add-rest-ok-2 : tie.Need-add-rest-ok-2
-add-rest-ok-2 c = omega (arith, count-inside (op (c .before .before .before .before .before .before .before)) (c .before .before .before .before .operand-count .ensures) (c .before .before .before .before .before .before .before .pre .0))
+whole : (k : tie.Else2) → lengthIn (start k .args .h) ≤ length (start k .args .block .now) - start k .args .at
+whole k = omega (arith, k .before .if1 .left, k .before .before .length .ensures)
 
-rest-ok-requires : tie.Need-rest-ok-requires
-rest-ok-requires c κs = (rest-inside (op (c .before .before .before .before .before .before .before)) (c .before .before .before .before .operand-count .ensures) (c .before .before .before .before .before .before .before .pre .0), c .before .before .before .before .before .before .before .pre .1)
+inside : (k : tie.Else2) → Placed (start k .args .h) (start k .args .block .now) (start k .args .at)
+inside k =
+    let s = start k in
+    placed (s .args .block .now) (s .args .at) (s .args .ops) (s .args .vars .now) (s .args .labels .now) (getD (s .args .block .now) (s .args .at) 0) refl refl (s .pre .1) (whole k) (s .pre .0) (k .if2 .left)
+
+shared-slice-read-x : tie.Need-shared-slice-read-x
+shared-slice-read-x c = let p = inside (c .before .before) in omega (arith, p .whole, p .byte, c .before .byte-at .ensures)
+
+-- the tests of the operands and of the byte, as the plan has them
+abbrev entered : tie.After-byte-ok → tie.Else2
+entered k = k .before .before .before .before .before
+
+tests : (k : tie.After-byte-ok) → let a = start (entered k) .args in
+    (k .before .before .three-fit .result && k .byte-ok .result) ≡ (threeFit (a .h) (a .block .now) (a .at) (a .vars .now) && byteOk (byteTestIn (a .h)) (getD (a .block .now) (a .at + byteAtIn (a .h)) 0))
+tests k =
+    let a = start (entered k) .args in
+    both-so (k .before .before .three-fit .ensures)
+    (k .byte-ok .ensures ∙ ap₂ (λ (t i : ℕ). byteOk t (getD (a .block .now) (a .at + i) 0)) (k .before .byte-test .ensures) (k .before .before .before .before .byte-at .ensures))
 
 returns-3 : tie.Need-returns-3
-returns-3 c = ok-rest (op (c .before .before .before .before .before .before .before .before .before)) (c .before .before .before .before .before .before .before .if1 .left) (fit-by (op (c .before .before .before .before .before .before .before .before .before)) (c .before .before .before .before .before .before .operand-count .ensures) (c .before .before .before .before .before .outs .ensures) (c .before .before .before .before .types .ensures) (c .before .before .before .operands-fit .ensures) (not-false _ (c .before .before .if2 .left))) (rest-by (op (c .before .before .before .before .before .before .before .before .before)) (c .before .before .before .before .before .before .operand-count .ensures) (c .before .rest-ok .ensures) (not-true _ (c .if3 .taken)))
-
-label-free-requires : tie.Need-label-free-requires
-label-free-requires c κs = c .before .before .before .before .before .before .before .before .before .pre .0
+returns-3 c =
+    let k = entered (c .before) in
+    let s = start k in
+    fails-fit (s .args .block .now) (s .args .at) (s .args .ops) (s .args .vars .now) (s .args .labels .now) (getD (s .args .block .now) (s .args .at) 0) refl refl (s .pre .1) (whole k) (s .pre .0) (k .if2 .left) (sym (tests (c .before)) ∙ not-true _ (c .if3 .taken))
 
 returns-4 : tie.Need-returns-4
-returns-4 c = ok-free (op (c .before .before .before .before .before .before .before .before .before .before)) (c .before .before .before .before .before .before .before .before .if1 .left) (fit-by (op (c .before .before .before .before .before .before .before .before .before .before)) (c .before .before .before .before .before .before .before .operand-count .ensures) (c .before .before .before .before .before .before .outs .ensures) (c .before .before .before .before .before .types .ensures) (c .before .before .before .before .operands-fit .ensures) (not-false _ (c .before .before .before .if2 .left))) (rest-by (op (c .before .before .before .before .before .before .before .before .before .before)) (c .before .before .before .before .before .before .before .operand-count .ensures) (c .before .before .rest-ok .ensures) (not-false _ (c .before .if3 .left))) (c .label-free .ensures)
+returns-4 c =
+    let k = entered (c .before .before) in
+    let s = start k in
+    passes-so (s .args .block .now) (s .args .at) (s .args .ops) (s .args .vars .now) (s .args .labels .now) (getD (s .args .block .now) (s .args .at) 0) refl refl (s .pre .1) (whole k) (s .pre .0) (k .if2 .left) (sym (tests (c .before .before)) ∙ not-false _ (c .before .if3 .left)) (c .more-ok .ensures)
 
 pub op-ok-spec : {M : Type 1} → statement M
-op-ok-spec = tie.close (tie.spec returns operand-count-requires add-operands-fit outs-requires types-requires operands-fit-requires returns-2 add-rest-ok add-rest-ok-2 rest-ok-requires returns-3 label-free-requires returns-4)
+op-ok-spec =
+    tie.close
+    (tie.spec (λ c. search needs) (λ c κs. search needs) returns returns-2 (λ c κs. search needs) (λ c. search needs) shared-slice-read-x (λ c κs. inside (c .before .before)) (λ c κs. search needs)
+    (λ c κs. search needs) returns-3 (λ c κs. inside (c .before .before .before .before .before .before)) returns-4)

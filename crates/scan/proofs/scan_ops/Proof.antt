@@ -1,119 +1,90 @@
--- `scan_ops` reads the ops: those after which their basic block goes on, then one that ends it. Assumes nothing.
-use mathlib.Core.Path.{_≡_, sym, ap, _∙_}
-use mathlib.Core.List.{List}
-use Prim.Native.Nat.{ℕ, suc, _+_, _-_, _≤_, _<_}
+-- `scan_ops` reads the ops. Assumes nothing.
+use mathlib.Core.Path.{_≡_, refl}
+use mathlib.Core.Bool.{true}
+use Prim.Native.Nat.{ℕ, _+_, _-_, _≤_, _<_}
 use native.Mathlib.Omega.{arith}
 use lib.ListN.{length, getD}
 use borrow.Author.Tests.{not-true, not-false}
 use borrow.Author.Needs.{needs}
 use Rattle.ops.specs.Kinds.{kindTable, rowOf}
-use Rattle.ops.proofs.Entry.{digits}
-use Rattle.ops.proofs.Table.{asks-few}
+use Rattle.ops.specs.Plans.{planOf}
 use Rattle.block.specs.Scan.{Reading}
-use Rattle.block.proofs.Scanning.{Sound, stopped-at, unfit-at, sound-at, op-inside, few-ops-here, whole-op, stands-at, again-at}
-use Rattle.block.proofs.Scanning.{scanning-10, scanning-7, scanning-0, begins-start, begins-inside}
+use Rattle.block.proofs.Scanning.{few-ops-here, stands-at, begins-start, begins-inside}
+use Rattle.block.proofs.Turning.{plan-of, fails-at, sound, is-op, inside, further, again, ends-at}
 use Rattle.scan.proofs.scan_ops.Statement.{statement}
 use Rattle.scan.proofs.scan_ops.Tie as tie
 
 abbrev Inv-loop : tie.InvT-loop
-Inv-loop kinds block start base places₀ labels₀ vars₀ targets₀ at₀ ops₀ last₀ places labels vars targets at ops last =
+Inv-loop plans block start base places₀ labels₀ vars₀ targets₀ at₀ ops₀ last₀ places labels vars targets at ops last =
     (at ≤ length block) × Reading rowOf block start places₀ base vars labels targets places at ops last
 
 abbrev μ-loop : tie.MeasureT-loop
-μ-loop kinds block start base places₀ labels₀ vars₀ targets₀ at₀ ops₀ last₀ places labels vars targets at ops last = length block - at
-
-fits-next : (p n m l : ℕ) → p + suc n ≤ l → m ≡ n → l < 18446744073709551616 → p + (1 + m) < 18446744073709551616
-fits-next p n m l h e f = omega arith
-
--- the entry of a kind in the lent table
-entered : {ks : List ℕ} {e : ℕ} (k : ℕ) → e ≡ getD ks k 0 → ks ≡ kindTable → e ≡ getD kindTable k 0
-entered k q z = q ∙ ap (λ (ks : List ℕ). getD ks k 0) z
-
--- what is known once the op that ends a basic block passes the tests
-sound : (c : tie.Else3 Inv-loop μ-loop) → Sound (c .before .before .before .before .before .before .before .before .before .scan-straight .ensures .then-so _ _ _ _ _ (c .before .before .before .before .before .before .before .before .before .before .before .before .before .loop .inv .1))
-sound c =
-    sound-at (c .before .before .before .before .before .before .before .before .before .scan-straight .ensures .then-so _ _ _ _ _ (c .before .before .before .before .before .before .before .before .before .before .before .before .before .loop .inv .1)) (c .before .before .before .before .before .before .before .before .if1 .taken) (digits kindTable (entered _ (c .before .before .before .before .before .before .entry .ensures) (c .before .before .before .before .before .before .before .before .before .before .before .before .before .before .before .before .before .pre .1))) (c .before .before .before .before .before .op-stands .ensures) (not-false _ (c .before .before .before .before .if2 .left)) (c .before .op-ok .ensures) (not-false _ (c .if3 .left))
+μ-loop plans block start base places₀ labels₀ vars₀ targets₀ at₀ ops₀ last₀ places labels vars targets at ops last = length block - at
 
 loop-holds : tie.Need-loop-holds Inv-loop μ-loop
-loop-holds c = (begins-inside (c .before .before .before .pre .0), begins-start _ (c .before .before .before .pre .0))
+loop-holds c = let p = c .before .before .pre in (begins-inside (p .0), begins-start _ (p .0) (p .2))
 
-scan-straight-requires : tie.Need-scan-straight-requires Inv-loop μ-loop
-scan-straight-requires c κs = (c .before .before .before .loop .inv .0, c .before .before .before .before .before .before .before .pre .1)
+-- the plan of the op that is read
+abbrev turn : tie.After-plan Inv-loop μ-loop → tie.In-loop Inv-loop μ-loop
+turn k = k .before .before
 
-shared-slice-read-kind : tie.Need-shared-slice-read-kind Inv-loop μ-loop
-shared-slice-read-kind c = search needs
+its-plan : (k : tie.After-plan Inv-loop μ-loop) → let l = turn k .before in
+    k .plan .result ≡ planOf (getD kindTable (getD (l .before .before .before .args .block .now) (l .loop .at) 0) 0)
+its-plan k =
+    let l = turn k .before in
+    let s = l .before .before .before in
+    let small : getD (s .args .block .now) (l .loop .at) 0 < 256 = omega (arith, k .before .shared-slice-known2 .given (l .loop .at)) in
+    plan-of _ small (k .plan .ensures) (s .pre .1)
 
-entry-requires : tie.Need-entry-requires Inv-loop μ-loop
-entry-requires c κs = search needs
-
-op-stands-requires : tie.Need-op-stands-requires Inv-loop μ-loop
-op-stands-requires c κs = c .before .before .if1 .taken
-
-stopped-requires : tie.Need-stopped-requires Inv-loop μ-loop
-stopped-requires c κs = (c .before .before .before .before .before .before .if1 .taken, asks-few _ (entered _ (c .before .before .before .before .entry .ensures) (c .before .before .before .before .before .before .before .before .before .before .before .before .before .before .before .pre .1)))
-
-returns : tie.Need-returns Inv-loop μ-loop
-returns c = stopped-at (c .before .before .before .before .before .before .before .before .scan-straight .ensures .then-so _ _ _ _ _ (c .before .before .before .before .before .before .before .before .before .before .before .before .loop .inv .1)) (c .before .before .before .before .before .before .before .if1 .taken) (digits kindTable (entered _ (c .before .before .before .before .before .entry .ensures) (c .before .before .before .before .before .before .before .before .before .before .before .before .before .before .before .before .pre .1))) (c .before .before .before .before .op-stands .ensures) (not-true _ (c .before .before .before .if2 .taken)) (c .stopped .ensures)
+-- it passes the tests
+abbrev planned : tie.Else1 Inv-loop μ-loop → tie.After-plan Inv-loop μ-loop
+planned c = c .before .before .before .before
 
 op-ok-requires : tie.Need-op-ok-requires Inv-loop μ-loop
-op-ok-requires c κs = (op-inside _ (c .before .before .before .before .before .before .before .before .before .before .before .before .before .before .before .args .block .now) _ (c .before .before .before .op-stands .ensures) (not-false _ (c .before .before .if2 .left)), asks-few _ (entered _ (c .before .before .before .before .entry .ensures) (c .before .before .before .before .before .before .before .before .before .before .before .before .before .before .before .pre .1)))
+op-ok-requires c κs = (c .before .before .before .before .loop-test .taken, its-plan (c .before .before))
 
-stopped-requires-2 : tie.Need-stopped-requires-2 Inv-loop μ-loop
-stopped-requires-2 c κs = (c .before .before .before .before .before .before .before .before .before .before .if1 .taken, asks-few _ (entered _ (c .before .before .before .before .before .before .before .before .entry .ensures) (c .before .before .before .before .before .before .before .before .before .before .before .before .before .before .before .before .before .before .before .pre .1)))
+returns : tie.Need-returns Inv-loop μ-loop
+returns c =
+    let o = c .before .before .before .before in
+    let k = turn (o .before .before .before) in
+    fails-at (k .before .loop .inv .1) (k .loop-test .taken) (o .op-ok .ensures) (not-true _ (c .before .before .before .if1 .taken)) (c .stopped .ensures)
 
-returns-2 : tie.Need-returns-2 Inv-loop μ-loop
-returns-2 c = unfit-at (c .before .before .before .before .before .before .before .before .before .before .before .before .scan-straight .ensures .then-so _ _ _ _ _ (c .before .before .before .before .before .before .before .before .before .before .before .before .before .before .before .before .loop .inv .1)) (c .before .before .before .before .before .before .before .before .before .before .before .if1 .taken) (digits kindTable (entered _ (c .before .before .before .before .before .before .before .before .before .entry .ensures) (c .before .before .before .before .before .before .before .before .before .before .before .before .before .before .before .before .before .before .before .before .pre .1))) (c .before .before .before .before .before .before .before .before .op-stands .ensures) (not-false _ (c .before .before .before .before .before .before .before .if2 .left)) (c .before .before .before .before .op-ok .ensures) (not-true _ (c .before .before .before .if3 .taken)) (c .stopped2 .ensures)
+passed : (c : tie.Else1 Inv-loop μ-loop) → c .before .op-ok .result ≡ true
+passed c = not-false _ (c .if1 .left)
+
+-- the turn, what it read, and the lent arrays before it
+abbrev reading : tie.Else1 Inv-loop μ-loop → tie.In-loop Inv-loop μ-loop
+reading c = turn (planned c)
 
 mark-op-requires : tie.Need-mark-op-requires Inv-loop μ-loop
-mark-op-requires c κs = (stands-at (sound (c .before .before .before)), omega (arith, few-ops-here (sound (c .before .before .before))), entered _ (c .before .before .before .before .before .before .before .before .before .entry .ensures) (c .before .before .before .before .before .before .before .before .before .before .before .before .before .before .before .before .before .before .before .before .pre .1))
+mark-op-requires c κs =
+    let e = c .before .before .before in
+    let k = reading e in
+    let s = sound (k .before .loop .inv .1) (k .loop-test .taken) (e .before .op-ok .ensures) (passed e) in
+    (stands-at s, omega (arith, few-ops-here s), its-plan (planned e), is-op (k .before .loop .inv .1) (k .loop-test .taken) (e .before .op-ok .ensures) (passed e))
 
-cast-places : tie.Need-cast-places Inv-loop μ-loop
-cast-places c = search needs
+few : (c : tie.Else1 Inv-loop μ-loop) → reading c .before .loop .ops < 256
+few c = let k = reading c in few-ops-here (sound (k .before .loop .inv .1) (k .loop-test .taken) (c .before .op-ok .ensures) (passed c))
 
-mul-places : tie.Need-mul-places Inv-loop μ-loop
-mul-places c = omega (arith, few-ops-here (sound (c .before .before .before .before)))
-
-element-write-places : tie.Need-element-write-places Inv-loop μ-loop
-element-write-places c = omega (arith, few-ops-here (sound (c .before .before .before .before)))
-
-add-ops : tie.Need-add-ops Inv-loop μ-loop
-add-ops c = omega (arith, few-ops-here (sound (c .before .before .before .before)))
-
-body-length-requires : tie.Need-body-length-requires Inv-loop μ-loop
-body-length-requires c κs = search needs
-
-add-at : tie.Need-add-at Inv-loop μ-loop
-add-at c = omega (arith, whole-op (sound (c .before .before .before .before .before)), c .body-length .ensures ∙ sym ((digits kindTable (entered _ (c .before .before .before .before .before .before .before .before .before .before .before .entry .ensures) (c .before .before .before .before .before .before .before .before .before .before .before .before .before .before .before .before .before .before .before .before .before .before .pre .1))) .body))
-
-add-at-2 : tie.Need-add-at-2 Inv-loop μ-loop
-add-at-2 c = record { fits = fits-next _ _ _ _ (whole-op (sound (c .before .before .before .before .before))) (c .body-length .ensures ∙ sym ((digits kindTable (entered _ (c .before .before .before .before .before .before .before .before .before .before .before .entry .ensures) (c .before .before .before .before .before .before .before .before .before .before .before .before .before .before .before .before .before .before .before .before .before .before .pre .1))) .body)) (c .before .before .before .before .before .before .before .before .before .before .before .before .before .before .before .before .before .before .before .before .before .before .good .1 .0 .0) }
-
-loop-less : tie.Need-loop-less Inv-loop μ-loop
-loop-less c = omega (arith, whole-op (sound (c .before .before .before .before .before)), c .body-length .ensures ∙ sym ((digits kindTable (entered _ (c .before .before .before .before .before .before .before .before .before .before .before .entry .ensures) (c .before .before .before .before .before .before .before .before .before .before .before .before .before .before .before .before .before .before .before .before .before .before .pre .1))) .body), c .before .before .before .before .before .before .before .before .before .before .before .before .before .before .before .before .before .loop-test .taken, c .before .before .before .before .before .before .before .before .before .before .before .before .before .before .scan-straight .ensures .further)
+-- the place after the op
+after : (m : tie.After-length Inv-loop μ-loop) → let k = reading (m .before .before .before .before .before) in
+    (k .before .loop .at + m .length .result ≤ length (k .before .before .before .before .args .block .now)) × (0 < m .length .result)
+after m =
+    let e = m .before .before .before .before .before in
+    let k = reading e in
+    (inside (k .before .loop .inv .1) (k .loop-test .taken) (e .before .op-ok .ensures) (passed e) (its-plan (planned e)) (m .length .ensures),
+    further (k .before .loop .inv .1) (k .loop-test .taken) (e .before .op-ok .ensures) (passed e) (its-plan (planned e)) (m .length .ensures))
 
 loop-again : tie.Need-loop-again Inv-loop μ-loop
-loop-again c = (omega (arith, whole-op (sound (c .before .before .before .before .before)), c .body-length .ensures ∙ sym ((digits kindTable (entered _ (c .before .before .before .before .before .before .before .before .before .before .before .entry .ensures) (c .before .before .before .before .before .before .before .before .before .before .before .before .before .before .before .before .before .before .before .before .before .before .pre .1))) .body)), again-at (sound (c .before .before .before .before .before)) (c .body-length .ensures ∙ sym ((digits kindTable (entered _ (c .before .before .before .before .before .before .before .before .before .before .before .entry .ensures) (c .before .before .before .before .before .before .before .before .before .before .before .before .before .before .before .before .before .before .before .before .before .before .pre .1))) .body)) _ _ _ (c .before .mark-op .ensures))
-
-loop-less-2 : tie.Need-loop-less-2 Inv-loop μ-loop
-loop-less-2 c = omega (arith, c .if1 .left, c .before .before .before .before .loop-test .taken)
-
-loop-again-2 : tie.Need-loop-again-2 Inv-loop μ-loop
-loop-again-2 c = (c .before .scan-straight .ensures .reached, (c .before .scan-straight .ensures .then-so _ _ _ _ _ (c .before .before .before .before .before .loop .inv .1)))
-
-returns-3 : tie.Need-returns-3 Inv-loop μ-loop
-returns-3 c = scanning-10 (c .before .before .loop .inv .1) (c .before .loop-test .left) (c .if4 .taken)
-
-cast-all-set : tie.Need-cast-all-set Inv-loop μ-loop
-cast-all-set c = search needs
-
-all-set-requires : tie.Need-all-set-requires Inv-loop μ-loop
-all-set-requires c κs = search needs
-
-returns-4 : tie.Need-returns-4 Inv-loop μ-loop
-returns-4 c = scanning-7 (c .before .before .before .before .before .before .loop .inv .1) (c .before .before .before .before .before .loop-test .left) (c .before .before .before .before .if4 .left) (c .before .all-set .ensures) (not-true _ (c .if5 .taken))
-
-returns-5 : tie.Need-returns-5 Inv-loop μ-loop
-returns-5 c = scanning-0 (c .before .before .before .before .before .before .loop .inv .1) (c .before .before .before .before .before .loop-test .left) (c .before .before .before .before .if4 .left) (c .before .all-set .ensures) (not-false _ (c .if5 .left))
+loop-again c =
+    let e = c .before .before .before .before .before in
+    let k = reading e in
+    (after c .0, again (k .before .loop .inv .1) (k .loop-test .taken) (e .before .op-ok .ensures) (passed e) (its-plan (planned e)) (c .length .ensures) _ _ _ (c .before .mark-op .ensures))
 
 pub scan-ops-spec : {M : Type 1} → statement M
-scan-ops-spec = tie.close (tie.spec Inv-loop μ-loop loop-holds scan-straight-requires shared-slice-read-kind entry-requires op-stands-requires stopped-requires returns op-ok-requires stopped-requires-2 returns-2 mark-op-requires cast-places mul-places element-write-places add-ops body-length-requires add-at add-at-2 loop-less loop-again loop-less-2 loop-again-2 returns-3 cast-all-set all-set-requires returns-4 returns-5)
+scan-ops-spec =
+    tie.close
+    (tie.spec Inv-loop μ-loop loop-holds (λ c. search needs) (λ c κs. search needs) op-ok-requires (λ c κs. c .before .before .before .before .before .before .before .before .loop-test .taken) returns mark-op-requires (λ c. search needs)
+    (λ c. omega (arith, few (c .before .before .before .before))) (λ c. few (c .before .before .before .before)) (λ c. omega (arith, few (c .before .before .before .before))) (λ c κs. search needs)
+    (λ c. omega (arith, after c .0)) (λ c. omega (arith, after c)) loop-again (λ c κs. search needs)
+    (λ c. ends-at (c .before .before .before .before .loop .inv .1) (c .before .before .before .loop-test .left) (c .end-rule .ensures)))

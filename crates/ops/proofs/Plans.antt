@@ -1,0 +1,247 @@
+-- The digits of a plan are those that its entry gives, and the shapes that ops have: one computed test over the table. Assumes nothing.
+use mathlib.Core.Path.{_≡_, refl, sym, ap, _∙_}
+use mathlib.Core.Bool.{Bool, true, false, cond, not, _&&_, _||_, Bool·beq}
+use mathlib.Core.List.{List, [], _∷_}
+use mathlib.Core.Logic.{_⊎_, inl, inr}
+use Prim.Native.Nat.{ℕ, zero, suc, _+_, _-_, _*_, _≤_, _<_}
+use native.Mathlib.Omega.{arith}
+use lib.Dec.{eqb, ltb, leb}
+use lib.ListN.{length, getD}
+use borrow.Author.Tests.{eqb-true, ltb-true, ltb-false, leb-true}
+use Rattle.theory.proofs.Sets.{and-l, and-r, tell, clash}
+use Rattle.ops.specs.Rows.{outsIn, insIn, restIn, testIn, roleIn, typesIn, typesOf, roleNo, isKnown, isClosing, isSetting, isJumping}
+use Rattle.ops.specs.Kinds.{kindTable}
+use Rattle.ops.specs.Plans.{typeIn, noOp, lengthBy, outAskBy, secondBy, inAskBy, inAtBy, byteTestBy, byteAtBy, moreBy, flag, planOf, planned, planTable}
+use Rattle.ops.specs.Plans.{lengthIn, outAskIn, firstAskIn, secondAskIn, firstAtIn, secondAtIn, byteAtIn, byteTestIn, moreIn, closesIn, setsIn}
+use Rattle.ops.proofs.Ranges.{every, listed, beq-same}
+use Rattle.ops.proofs.Table.{table-long, beyond}
+
+-- the plan of an entry
+pub record Plan (e h : ℕ) : Type 0 where
+  pub length-so : lengthIn h ≡ lengthBy e
+  pub out-ask : outAskIn h ≡ outAskBy e
+  pub first-ask : firstAskIn h ≡ inAskBy e (outsIn e)
+  pub second-ask : secondAskIn h ≡ inAskBy e (secondBy e)
+  pub first-at : firstAtIn h ≡ inAtBy e (outsIn e)
+  pub second-at : secondAtIn h ≡ inAtBy e (secondBy e)
+  pub byte-at : byteAtIn h ≡ byteAtBy e
+  pub byte-test : byteTestIn h ≡ byteTestBy e
+  pub more-so : moreIn h ≡ moreBy e
+  pub closes-so : closesIn h ≡ flag (ltb (roleIn e) 6)
+  pub sets-so : setsIn h ≡ flag (eqb (roleIn e) 2)
+  pub no-op-so : eqb (lengthIn h) 15 ≡ noOp e
+
+-- both parts of a test that passes
+abbrev Both : Bool → Bool → Type 0
+Both a b = (a ≡ true) × (b ≡ true)
+
+both : (a b : Bool) → (a && b) ≡ true → Both a b
+both a b h = (and-l a b h, and-r a b h)
+
+abbrev digitsOk : ℕ → ℕ → Bool
+digitsOk k e =
+    let h = planOf e in
+    eqb (lengthIn h) (lengthBy e)
+    && (eqb (outAskIn h) (outAskBy e)
+    && (eqb (firstAskIn h) (inAskBy e (outsIn e))
+    && (eqb (secondAskIn h) (inAskBy e (secondBy e))
+    && (eqb (firstAtIn h) (inAtBy e (outsIn e))
+    && (eqb (secondAtIn h) (inAtBy e (secondBy e))
+    && (eqb (byteAtIn h) (byteAtBy e)
+    && (eqb (byteTestIn h) (byteTestBy e)
+    && (eqb (moreIn h) (moreBy e) && (eqb (closesIn h) (flag (ltb (roleIn e) 6)) && (eqb (setsIn h) (flag (eqb (roleIn e) 2)) && Bool·beq (eqb (lengthIn h) 15) (noOp e)))))))))))
+
+digits-right : every digitsOk 0 kindTable ≡ true
+unfolding planOf kindTable typesOf
+digits-right = refl
+
+by-digits : (k e : ℕ) → digitsOk k e ≡ true → Plan e (planOf e)
+by-digits k e t =
+    let (a1, t1) = both _ _ t in
+    let (a2, t2) = both _ _ t1 in
+    let (a3, t3) = both _ _ t2 in
+    let (a4, t4) = both _ _ t3 in
+    let (a5, t5) = both _ _ t4 in
+    let (a6, t6) = both _ _ t5 in
+    let (a7, t7) = both _ _ t6 in
+    let (a8, t8) = both _ _ t7 in
+    let (a9, t9) = both _ _ t8 in
+    let (a10, t10) = both _ _ t9 in
+    let (a11, a12) = both _ _ t10 in
+    record {
+      length-so = eqb-true _ _ a1;
+      out-ask = eqb-true _ _ a2;
+      first-ask = eqb-true _ _ a3;
+      second-ask = eqb-true _ _ a4;
+      first-at = eqb-true _ _ a5;
+      second-at = eqb-true _ _ a6;
+      byte-at = eqb-true _ _ a7;
+      byte-test = eqb-true _ _ a8;
+      more-so = eqb-true _ _ a9;
+      closes-so = eqb-true _ _ a10;
+      sets-so = eqb-true _ _ a11;
+      no-op-so = beq-same _ _ a12;
+    }
+
+-- a test that every entry of the table passes, and 0, holds for every kind
+for-each : (f : ℕ → ℕ → Bool) → every f 0 kindTable ≡ true → ((k : ℕ) → f k 0 ≡ true) → (k : ℕ) → f k (getD kindTable k 0) ≡ true
+for-each f t z k = go (tell (ltb k 256))
+  where
+    go : (ltb k 256 ≡ true) ⊎ (ltb k 256 ≡ false) → f k (getD kindTable k 0) ≡ true
+    go (inl h) = listed f kindTable t k (rw table-long (ltb-true k 256 h))
+    go (inr h) = rw (beyond k (ltb-false k 256 h)) (z k)
+
+pub plan : (k : ℕ) {e : ℕ} → e ≡ getD kindTable k 0 → Plan e (planOf e)
+unfolding planOf typesOf
+plan k q = rw q (by-digits k (getD kindTable k 0) (for-each digitsOk digits-right (λ k. refl) k))
+
+-- what an op of an entry has: at most one output, and inputs, bytes and label as one of four sorts
+pub data Sort (e : ℕ) : Type 0 where
+  plainly : insIn e < 3 → moreBy e ≡ 0 → byteTestBy e ≡ testIn e → (isSetting (roleNo (roleIn e)) || isJumping (roleNo (roleIn e))) ≡ false → Sort e
+  four-inputs : insIn e ≡ 4 → outsIn e ≡ 1 → typeIn e 3 ≡ typeIn e 1 → typeIn e 4 ≡ typeIn e 1 → moreBy e ≡ 3 → byteTestBy e ≡ testIn e
+      → (isSetting (roleNo (roleIn e)) || isJumping (roleNo (roleIn e))) ≡ false → Sort e
+  constant-sort : insIn e ≡ 0 → outsIn e ≡ 1 → moreBy e ≡ 1 → testIn e ≡ 8 → (isSetting (roleNo (roleIn e)) || isJumping (roleNo (roleIn e))) ≡ false → Sort e
+  labelled : insIn e < 3 → moreBy e ≡ 2 → (testIn e ≡ 1) ⊎ (testIn e ≡ 3) → testIn e ≡ 2 * restIn e - 1 → (isSetting (roleNo (roleIn e)) || isJumping (roleNo (roleIn e))) ≡ true → Sort e
+
+pub record Sorted (k e : ℕ) : Type 0 where
+  pub few-outs : outsIn e < 2
+  pub has-byte : 1 ≤ outsIn e + insIn e + restIn e
+  pub short : outsIn e + insIn e + restIn e ≤ 9
+  pub sort : Sort e
+  pub is-known : isKnown (roleNo (roleIn e)) ≡ true
+  pub not-one : eqb k 1 ≡ false
+  pub closes : isClosing (roleNo (roleIn e)) ≡ ltb (roleIn e) 6
+  pub sets : isSetting (roleNo (roleIn e)) ≡ eqb (roleIn e) 2
+
+abbrev jumps : ℕ → Bool
+jumps e = isSetting (roleNo (roleIn e)) || isJumping (roleNo (roleIn e))
+
+abbrev sortOk : ℕ → Bool
+sortOk e =
+    cond (eqb (moreBy e) 0) (ltb (insIn e) 3 && (eqb (byteTestBy e) (testIn e) && not (jumps e)))
+    (cond (eqb (moreBy e) 3) (eqb (insIn e) 4 && (eqb (outsIn e) 1 && (eqb (typeIn e 3) (typeIn e 1) && (eqb (typeIn e 4) (typeIn e 1) && (eqb (byteTestBy e) (testIn e) && not (jumps e))))))
+    (cond (eqb (moreBy e) 1) (ltb (insIn e) 1 && (eqb (outsIn e) 1 && (eqb (testIn e) 8 && not (jumps e))))
+    (ltb (insIn e) 3 && (eqb (moreBy e) 2 && ((eqb (testIn e) 1 || eqb (testIn e) 3) && (eqb (testIn e) (2 * restIn e - 1) && jumps e))))))
+
+abbrev opOk : ℕ → ℕ → Bool
+opOk k e =
+    noOp e
+    || (ltb (outsIn e) 2
+    && (leb 1 (outsIn e + insIn e + restIn e)
+    && (leb (outsIn e + insIn e + restIn e) 9 && (sortOk e && (isKnown (roleNo (roleIn e)) && (not (eqb k 1) && (Bool·beq (isClosing (roleNo (roleIn e))) (ltb (roleIn e) 6) && Bool·beq (isSetting (roleNo (roleIn e))) (eqb (roleIn e) 2))))))))
+
+ops-right : every opOk 0 kindTable ≡ true
+unfolding kindTable typesOf roleNo
+ops-right = refl
+
+pub not-so : (b : Bool) → not b ≡ true → b ≡ false
+not-so false h = refl
+not-so true h = sym h
+
+pub or-not : (a b : Bool) → a ≡ false → (a || b) ≡ true → b ≡ true
+or-not false b e h = h
+or-not true b e h = absurd (clash true refl e)
+
+by-sort : (e : ℕ) → sortOk e ≡ true → Sort e
+by-sort e h = go0 (tell (eqb (moreBy e) 0))
+  where
+    go3 : (ltb (insIn e) 3 && (eqb (moreBy e) 2 && ((eqb (testIn e) 1 || eqb (testIn e) 3) && (eqb (testIn e) (2 * restIn e - 1) && jumps e)))) ≡ true → Sort e
+    go3 t =
+        let (a1, t1) = both _ _ t in
+        let (a2, t2) = both _ _ t1 in
+        let (a3, t3) = both _ _ t2 in
+        let (a4, a5) = both _ _ t3 in
+        labelled (ltb-true _ _ a1) (eqb-true _ _ a2) (one-of (tell (eqb (testIn e) 1)) a3) (eqb-true _ _ a4) a5
+      where
+        one-of : (eqb (testIn e) 1 ≡ true) ⊎ (eqb (testIn e) 1 ≡ false) → (eqb (testIn e) 1 || eqb (testIn e) 3) ≡ true → (testIn e ≡ 1) ⊎ (testIn e ≡ 3)
+        one-of (inl z) t = inl (eqb-true _ _ z)
+        one-of (inr z) t = inr (eqb-true _ _ (or-not (eqb (testIn e) 1) (eqb (testIn e) 3) z t))
+
+    go2 : (eqb (moreBy e) 1 ≡ true) ⊎ (eqb (moreBy e) 1 ≡ false) → eqb (moreBy e) 0 ≡ false → eqb (moreBy e) 3 ≡ false → Sort e
+    go2 (inl z) y x =
+        let t : (ltb (insIn e) 1 && (eqb (outsIn e) 1 && (eqb (testIn e) 8 && not (jumps e)))) ≡ true = rw (y, x, z) at h in
+        let (a1, t1) = both (ltb (insIn e) 1) (eqb (outsIn e) 1 && (eqb (testIn e) 8 && not (jumps e))) t in
+        let (a2, t2) = both _ _ t1 in
+        let (a3, a4) = both _ _ t2 in
+        let l : insIn e < 1 = ltb-true _ _ a1 in
+        constant-sort (omega arith) (eqb-true _ _ a2) (eqb-true _ _ z) (eqb-true _ _ a3) (not-so _ a4)
+    go2 (inr z) y x = go3 (rw (y, x, z) at h)
+
+    go1 : (eqb (moreBy e) 3 ≡ true) ⊎ (eqb (moreBy e) 3 ≡ false) → eqb (moreBy e) 0 ≡ false → Sort e
+    go1 (inl z) y =
+        let t : (eqb (insIn e) 4 && (eqb (outsIn e) 1 && (eqb (typeIn e 3) (typeIn e 1) && (eqb (typeIn e 4) (typeIn e 1) && (eqb (byteTestBy e) (testIn e) && not (jumps e)))))) ≡ true =
+        rw (y, z) at h in
+        let (a1, t1) = both _ _ t in
+        let (a2, t2) = both _ _ t1 in
+        let (a3, t3) = both _ _ t2 in
+        let (a4, t4) = both _ _ t3 in
+        let (a5, a6) = both _ _ t4 in
+        four-inputs (eqb-true _ _ a1) (eqb-true _ _ a2) (eqb-true _ _ a3) (eqb-true _ _ a4) (eqb-true _ _ z) (eqb-true _ _ a5) (not-so _ a6)
+    go1 (inr z) y = go2 (tell (eqb (moreBy e) 1)) y z
+
+    go0 : (eqb (moreBy e) 0 ≡ true) ⊎ (eqb (moreBy e) 0 ≡ false) → Sort e
+    go0 (inl z) =
+        let t : (ltb (insIn e) 3 && (eqb (byteTestBy e) (testIn e) && not (jumps e))) ≡ true = rw z at h in
+        let (a1, t1) = both _ _ t in
+        let (a2, a3) = both _ _ t1 in
+        plainly (ltb-true _ _ a1) (eqb-true _ _ z) (eqb-true _ _ a2) (not-so _ a3)
+    go0 (inr z) = go1 (tell (eqb (moreBy e) 3)) z
+
+pub sorted : (k : ℕ) {e : ℕ} → e ≡ getD kindTable k 0 → noOp e ≡ false → Sorted k e
+unfolding typesOf roleNo
+sorted k {e} q n =
+    let t : opOk k e ≡ true = rw q (for-each opOk ops-right (λ k. refl) k) in
+    let (a1, t1) = both _ _ (or-not (noOp e) _ n t) in
+    let (a2, t2) = both _ _ t1 in
+    let (a3, t3) = both _ _ t2 in
+    let (a4, t4) = both _ _ t3 in
+    let (a5, t5) = both _ _ t4 in
+    let (a6, t6) = both _ _ t5 in
+    let (a7, a8) = both _ _ t6 in
+    record {
+      few-outs = ltb-true _ _ a1;
+      has-byte = leb-true _ _ a2;
+      short = leb-true _ _ a3;
+      sort = by-sort e a4;
+      is-known = a5;
+      not-one = not-so _ a6;
+      closes = beq-same _ _ a7;
+      sets = beq-same _ _ a8;
+    }
+
+-- an entry that is none: its kind is unknown, or declares; no byte passes its test
+abbrev noneOk : ℕ → ℕ → Bool
+noneOk k e = not (noOp e) || (not (isKnown (roleNo (roleIn e))) || eqb k 1)
+
+abbrev noPlanOk : ℕ → ℕ → Bool
+noPlanOk k e = not (noOp e) || (eqb (inAtBy e (outsIn e)) 1 && (eqb (inAtBy e (secondBy e)) 1 && (leb (byteAtBy e) 7 && eqb (moreBy e) 0)))
+
+no-plan-right : every noPlanOk 0 kindTable ≡ true
+unfolding kindTable
+no-plan-right = refl
+
+pub record NoPlan (e : ℕ) : Type 0 where
+  pub first : inAtBy e (outsIn e) ≡ 1
+  pub second : inAtBy e (secondBy e) ≡ 1
+  pub byte : byteAtBy e ≤ 7
+  pub more : moreBy e ≡ 0
+
+pub no-plan : (k : ℕ) {e : ℕ} → e ≡ getD kindTable k 0 → noOp e ≡ true → NoPlan e
+no-plan k {e} q n =
+    let t : noPlanOk k e ≡ true = rw q (for-each noPlanOk no-plan-right (λ k. refl) k) in
+    let (a1, t1) = both _ _ (or-not (not (noOp e)) _ (ap not n) t) in
+    let (a2, t2) = both _ _ t1 in
+    let (a3, a4) = both _ _ t2 in
+    record { first = eqb-true _ _ a1; second = eqb-true _ _ a2; byte = leb-true _ _ a3; more = eqb-true _ _ a4 }
+
+none-right : every noneOk 0 kindTable ≡ true
+unfolding kindTable roleNo
+none-right = refl
+
+pub no-op-so : (k : ℕ) {e : ℕ} → e ≡ getD kindTable k 0 → noOp e ≡ true → (isKnown (roleNo (roleIn e)) ≡ false) ⊎ (k ≡ 1)
+unfolding roleNo
+no-op-so k {e} q n = go (tell (isKnown (roleNo (roleIn e)))) (or-not (not (noOp e)) _ (ap not n) (rw q (for-each noneOk none-right (λ k. refl) k)))
+  where
+    go : (isKnown (roleNo (roleIn e)) ≡ true) ⊎ (isKnown (roleNo (roleIn e)) ≡ false) → (not (isKnown (roleNo (roleIn e))) || eqb k 1) ≡ true → (isKnown (roleNo (roleIn e)) ≡ false) ⊎ (k ≡ 1)
+    go (inl z) t = inr (eqb-true k 1 (or-not (not (isKnown (roleNo (roleIn e)))) (eqb k 1) (ap not z) t))
+    go (inr z) t = inl z

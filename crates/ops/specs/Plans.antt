@@ -1,0 +1,99 @@
+-- What a fast test of an op goes by, worked out from the entry of its kind and held in one number: its plan. Assumes nothing.
+use Prim.Native.Nat.{ℕ, suc, _+_, _*_, _/_, _%_, _^_}
+use mathlib.Core.Bool.{Bool, true, false, cond, _&&_, _||_}
+use mathlib.Core.List.{List, [], _∷_}
+use lib.Dec.{eqb, ltb}
+use lib.ListN.{getD}
+use Rattle.ops.specs.Rows.{outsIn, insIn, restIn, testIn, roleIn, typesIn, typesOf}
+use Rattle.ops.specs.Kinds.{kindTable}
+
+-- a variable's byte has a bit for each thing that speaks against its use: bit t that it has not the type t, bit 4 that it may not be read.
+-- What an operand of a type asks: that none of these bits is there; an output need only have the type
+abbrev pub ask : Bool → ℕ → ℕ
+ask output type = cond output (2 ^ type) (2 ^ type + 16)
+
+-- the type of the i-th operand
+abbrev pub typeIn : ℕ → ℕ → ℕ
+typeIn e i = getD (typesOf (outsIn e + insIn e) (typesIn e)) i 0
+
+-- no op: unknown, or a declaration
+abbrev pub noOp : ℕ → Bool
+noOp e = ltb (roleIn e) 2
+
+-- the length of the record, 15 if it is no op
+abbrev pub lengthBy : ℕ → ℕ
+lengthBy e = cond (noOp e) 15 (1 + (outsIn e + insIn e + restIn e))
+
+-- what the output asks, and the first two inputs (one twice); and where these stand in the record
+abbrev pub outAskBy : ℕ → ℕ
+outAskBy e = cond (ltb 0 (outsIn e)) (ask true (typeIn e 0)) 0
+
+abbrev pub secondBy : ℕ → ℕ
+secondBy e = cond (ltb 1 (insIn e)) (suc (outsIn e)) (outsIn e)
+
+abbrev pub inAskBy : ℕ → ℕ → ℕ
+inAskBy e i = cond (ltb 0 (insIn e)) (ask false (typeIn e i)) 0
+
+abbrev pub inAtBy : ℕ → ℕ → ℕ
+inAtBy e i = cond (ltb 0 (insIn e)) (1 + i) 1
+
+-- the test of one byte after the operands, that of a branch being its condition's; 1, which no byte passes, if it is no op; and where the byte stands
+abbrev pub byteTestBy : ℕ → ℕ
+byteTestBy e = let t = testIn e in cond (noOp e) 1 (cond (eqb t 3) 2 (cond (ltb 1 t && ltb t 8) t 0))
+
+abbrev pub byteAtBy : ℕ → ℕ
+byteAtBy e = cond (eqb (byteTestBy e) 0) 0 (1 + (outsIn e + insIn e))
+
+-- what else is asked: 1, that the constant is below 2^32; 2, of the label; 3, of two more inputs
+abbrev pub moreBy : ℕ → ℕ
+moreBy e = cond (eqb (insIn e) 4) 3 (cond (eqb (testIn e) 8) 1 (cond (eqb (testIn e) 1 || eqb (testIn e) 3) 2 0))
+
+abbrev pub flag : Bool → ℕ
+flag b = cond b 1 0
+
+-- the plan, in digits from the lowest
+unfoldable pub planOf : ℕ → ℕ
+planOf e =
+    lengthBy e + 2 ^ 4 * outAskBy e + 2 ^ 8 * inAskBy e (outsIn e) + 2 ^ 13 * inAskBy e (secondBy e) + 2 ^ 18 * inAtBy e (outsIn e) + 2 ^ 20 * inAtBy e (secondBy e)
+    + 2 ^ 22 * byteAtBy e + 2 ^ 25 * byteTestBy e + 2 ^ 28 * moreBy e + 2 ^ 30 * flag (ltb (roleIn e) 6) + 2 ^ 31 * flag (eqb (roleIn e) 2)
+
+abbrev pub planned : List ℕ → List ℕ
+planned [] = []
+planned (e ∷ es) = planOf e ∷ planned es
+
+abbrev pub planTable : List ℕ
+planTable = planned kindTable
+
+-- its digits
+abbrev pub lengthIn : ℕ → ℕ
+lengthIn h = h % 16
+
+abbrev pub outAskIn : ℕ → ℕ
+outAskIn h = h / 16 % 16
+
+abbrev pub firstAskIn : ℕ → ℕ
+firstAskIn h = h / 256 % 32
+
+abbrev pub secondAskIn : ℕ → ℕ
+secondAskIn h = h / 8192 % 32
+
+abbrev pub firstAtIn : ℕ → ℕ
+firstAtIn h = h / 262144 % 4
+
+abbrev pub secondAtIn : ℕ → ℕ
+secondAtIn h = h / 1048576 % 4
+
+abbrev pub byteAtIn : ℕ → ℕ
+byteAtIn h = h / 4194304 % 8
+
+abbrev pub byteTestIn : ℕ → ℕ
+byteTestIn h = h / 33554432 % 8
+
+abbrev pub moreIn : ℕ → ℕ
+moreIn h = h / 268435456 % 4
+
+abbrev pub closesIn : ℕ → ℕ
+closesIn h = h / 1073741824 % 2
+
+abbrev pub setsIn : ℕ → ℕ
+setsIn h = h / 2147483648
