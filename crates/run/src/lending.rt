@@ -35,7 +35,7 @@ pub fn copy_out(values: &[u64; 256], globals: &mut [u64])
 fn fits_type(ty: u8, x: u64) -> bool
     ensures { λ r. ⌜ r ≡ narrowOk (bitsOf ty) x ⌝ }
 {
-    ty != 0 || x < 0x1_0000_0000
+    (ty != 0) | (x < 0x1_0000_0000)
 }
 
 // Each 32-bit global is below 2^32.

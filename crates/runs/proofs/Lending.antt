@@ -1,6 +1,6 @@
 -- The lent globals: their copies, and rule 11. Assumes nothing.
 use mathlib.Core.Path.{_≡_, refl, sym, ap, ap₂, _∙_, fun-ext}
-use mathlib.Core.Bool.{not, Bool, true, false, cond, _&&_}
+use mathlib.Core.Bool.{not, Bool, true, false, cond, _&&_, _||_}
 use mathlib.Core.List.{List, _∷_}
 use mathlib.Core.Logic.{_⊎_, inl, inr}
 use Prim.Native.Nat.{ℕ, zero, suc, _+_, _≤_, _<_}
@@ -77,11 +77,12 @@ out-end {values} {globals} {i} n c h e =
     (λ j l. c .each j (omega arith) ∙ sym (values-at (envOf values) 0 n j (omega arith) ∙ ap (λ (v : ℕ). getD values v 0) (zero-add j)))
 
 -- a 32-bit global is below 2^32
-pub fits-wide : (ty x : ℕ) → (ty ≡ 0 → ⊥) → not (eqb ty 0) ≡ narrowOk (bitsOf ty) x
-fits-wide ty x n = rw (ne-eqb ty 0 n)
-
-pub fits-narrow : (ty x : ℕ) → ty ≡ 0 → ltb x 0x100000000 ≡ narrowOk (bitsOf ty) x
-fits-narrow ty x e = rw e
+pub fits-type : (ty x : ℕ) → (not (eqb ty 0) || ltb x 0x100000000) ≡ narrowOk (bitsOf ty) x
+fits-type ty x = go (eqb ty 0)
+  where
+    go : (b : Bool) → (not b || ltb x 0x100000000) ≡ narrowOk (cond b 32 64) x
+    go true = refl
+    go false = refl
 
 -- the globals from the i-th on decide the whole
 pub record FitFrom (types globals : List ℕ) (n i : ℕ) : Type 0 where

@@ -44,6 +44,9 @@ returns c =
     let get2 = c .before .before .before .before .get2 .ensures in
     branch-jumps (args .block .now) (args .values .now) (args .at) (args .wide) get get2 (c .before .holds .ensures) (c .if1 .taken)
 
+add-t8 : tie.Need-add-t8
+add-t8 c = search needs
+
 returns-2 : tie.Need-returns-2
 returns-2 c =
     let args = c .before .before .before .before .before .before .before .before .before .args in
@@ -67,4 +70,4 @@ branch-step-spec =
     shared-slice-read-holds
     holds-requires
     returns
-    returns-2)
+    add-t8 returns-2)

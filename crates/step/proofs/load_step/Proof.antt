@@ -34,6 +34,9 @@ shared-slice-read-put c = search needs
 put-requires : tie.Need-put-requires
 put-requires c κs = search needs
 
+add-t18 : tie.Need-add-t18
+add-t18 c = search needs
+
 enum-told : tie.Need-enum-told
 enum-told c = search needs
 
@@ -65,6 +68,6 @@ load-step-spec =
     add-put
     shared-slice-read-put
     put-requires
-    enum-told
+    add-t18 enum-told
     returns
     returns-2)

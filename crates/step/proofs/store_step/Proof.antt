@@ -31,6 +31,9 @@ shared-slice-read-flags c = search needs
 store-requires : tie.Need-store-requires
 store-requires c κs = search needs
 
+add-t16 : tie.Need-add-t16
+add-t16 c = search needs
+
 same-length : tie.Need-same-length
 same-length c = search needs
 
@@ -66,7 +69,7 @@ store-step-spec =
     add-flags
     shared-slice-read-flags
     store-requires
-    same-length
+    add-t16 same-length
     returns
     same-length-2
     returns-2)
