@@ -45,10 +45,11 @@ fn branch_step(block: &[u8], at: usize, wide: bool, values: &[u64; 256]) -> Outc
     let a = get(values, block[at + 1]);
     let b = get(values, block[at + 2]);
     let label = block[at + 4];
+    let next = at + 5;
     if holds(block[at + 3], a, b, wide) {
         return Outcome::JumpsTo(label);
     }
-    Outcome::Falls(at + 5)
+    Outcome::Falls(next)
 }
 
 // qemu_ld: d, address, flags.
@@ -58,11 +59,12 @@ fn load_step(block: &[u8], at: usize, wide: bool, values: &mut [u64; 256], memor
 {
     let address = get(values, block[at + 2]);
     let flags = block[at + 3];
+    let next = at + 4;
     let loaded = load(memory, address, flags, wide);
     match loaded {
         Loaded::Value(x) => {
             put(values, block[at + 1], x);
-            Outcome::Falls(at + 4)
+            Outcome::Falls(next)
         }
         Loaded::Fault => Outcome::Stops(Stop::Faults {
             store: false,
@@ -80,8 +82,9 @@ fn store_step(block: &[u8], at: usize, values: &[u64; 256], memory: &mut [u8]) -
     let value = get(values, block[at + 1]);
     let address = get(values, block[at + 2]);
     let flags = block[at + 3];
+    let next = at + 4;
     if store(memory, address, flags, value) {
-        return Outcome::Falls(at + 4);
+        return Outcome::Falls(next);
     }
     Outcome::Stops(Stop::Faults {
         store: true,
@@ -95,8 +98,9 @@ fn constant_step(block: &[u8], at: usize, values: &mut [u64; 256]) -> Outcome
     requires { ⌜ at + 10 ≤ length (now block) ⌝ }
     ensures { λ r. ⌜ PerformsAlone (constantOp (now (block .entry)) at) (at + 10) (now (values .entry)) (now (values .exit)) r ⌝ }
 {
+    let next = at + 10;
     put(values, block[at + 1], low_first(block, at + 2, 8));
-    Outcome::Falls(at + 10)
+    Outcome::Falls(next)
 }
 
 // A pure op that reads something: d, its inputs, and for some the condition.

@@ -28,6 +28,9 @@ add-label c = search needs
 shared-slice-read-label : tie.Need-shared-slice-read-label
 shared-slice-read-label c = search needs
 
+add-next : tie.Need-add-next
+add-next c = search needs
+
 add-holds : tie.Need-add-holds
 add-holds c = search needs
 
@@ -43,9 +46,6 @@ returns c =
     let get = c .before .before .before .before .before .before .get .ensures in
     let get2 = c .before .before .before .before .get2 .ensures in
     branch-jumps (args .block .now) (args .values .now) (args .at) (args .wide) get get2 (c .before .holds .ensures) (c .if1 .taken)
-
-add-t8 : tie.Need-add-t8
-add-t8 c = search needs
 
 returns-2 : tie.Need-returns-2
 returns-2 c =
@@ -66,8 +66,8 @@ branch-step-spec =
     get-requires-2
     add-label
     shared-slice-read-label
-    add-holds
+    add-next add-holds
     shared-slice-read-holds
     holds-requires
     returns
-    add-t8 returns-2)
+    returns-2)

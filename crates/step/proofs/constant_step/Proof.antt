@@ -4,6 +4,9 @@ use Rattle.runs.proofs.Performed.{constant-falls}
 use Rattle.step.proofs.constant_step.Statement.{statement}
 use Rattle.step.proofs.constant_step.Tie as tie
 
+add-next : tie.Need-add-next
+add-next c = search needs
+
 add-put : tie.Need-add-put
 add-put c = search needs
 
@@ -19,9 +22,6 @@ low-first-requires c κs = search needs
 put-requires : tie.Need-put-requires
 put-requires c κs = search needs
 
-add-t6 : tie.Need-add-t6
-add-t6 c = search needs
-
 returns : tie.Need-returns
 returns c =
     let args = c .before .before .before .before .before .args in
@@ -30,4 +30,4 @@ returns c =
 pub constant-step-spec : {M : Type 1} → statement M
 constant-step-spec =
     tie.close
-    (tie.spec add-put shared-slice-read-put add-low-first low-first-requires put-requires add-t6 returns)
+    (tie.spec add-next add-put shared-slice-read-put add-low-first low-first-requires put-requires returns)

@@ -19,6 +19,9 @@ add-flags c = search needs
 shared-slice-read-flags : tie.Need-shared-slice-read-flags
 shared-slice-read-flags c = search needs
 
+add-next : tie.Need-add-next
+add-next c = search needs
+
 load-requires : tie.Need-load-requires
 load-requires c κs = search needs
 
@@ -33,9 +36,6 @@ shared-slice-read-put c = search needs
 
 put-requires : tie.Need-put-requires
 put-requires c κs = search needs
-
-add-t18 : tie.Need-add-t18
-add-t18 c = search needs
 
 enum-told : tie.Need-enum-told
 enum-told c = search needs
@@ -63,11 +63,11 @@ load-step-spec =
     get-requires
     add-flags
     shared-slice-read-flags
-    load-requires
+    add-next load-requires
     enum-known-loaded
     add-put
     shared-slice-read-put
     put-requires
-    add-t18 enum-told
+    enum-told
     returns
     returns-2)

@@ -28,11 +28,11 @@ add-flags c = search needs
 shared-slice-read-flags : tie.Need-shared-slice-read-flags
 shared-slice-read-flags c = search needs
 
+add-next : tie.Need-add-next
+add-next c = search needs
+
 store-requires : tie.Need-store-requires
 store-requires c κs = search needs
-
-add-t16 : tie.Need-add-t16
-add-t16 c = search needs
 
 same-length : tie.Need-same-length
 same-length c = search needs
@@ -68,8 +68,8 @@ store-step-spec =
     get-requires-2
     add-flags
     shared-slice-read-flags
-    store-requires
-    add-t16 same-length
+    add-next store-requires
+    same-length
     returns
     same-length-2
     returns-2)
