@@ -73,11 +73,11 @@ count-small (c ∷ cs) = go (eqb c 0) (count-small cs)
     go true h = omega arith
     go false h = omega arith
 
-types-length : (ds : List (List ℕ)) → length (declaredTypes ds) ≡ length ds
+pub types-length : (ds : List (List ℕ)) → length (declaredTypes ds) ≡ length ds
 types-length [] = refl
 types-length (d ∷ ds) = ap suc (types-length ds)
 
-classes-length : (ds : List (List ℕ)) → length (classesOf ds) ≡ length ds
+pub classes-length : (ds : List (List ℕ)) → length (classesOf ds) ≡ length ds
 classes-length [] = refl
 classes-length (d ∷ ds) = ap suc (classes-length ds)
 

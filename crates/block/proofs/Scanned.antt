@@ -46,6 +46,7 @@ module _ {T : Table} {b base : List ℕ} {p : ℕ} (g : Begins T b base p) where
         accepted = a;
         variables = ap length (split .0) ∙ g .after .count;
         coded = rw (split .0) (g .after .coded);
+        long-base = g .after .long-vars;
         globals-are = g .after .globals-are ∙ ap (λ (x : List (List ℕ)). globalCount (classesOf x)) (sym (split .0));
         few = g .after .few;
         start-is = g .after .place-is;

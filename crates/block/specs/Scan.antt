@@ -282,6 +282,7 @@ pub record Approved (T : Table) (block places₀ base places labels : List ℕ) 
   pub accepted : checkBy T block ≡ Accepted
   pub variables : length (declarations (recordsOf T block)) ≡ n
   pub coded : Coded base (classesOf (declarations (recordsOf T block))) (declaredTypes (declarations (recordsOf T block))) empty
+  pub long-base : length base ≡ 256
   pub globals-are : globals ≡ globalCount (classesOf (declarations (recordsOf T block)))
   pub few : n ≤ 64
   pub start-is : start ≡ 3 * n

@@ -6,8 +6,6 @@ ghost use Rattle.theory.specs.Machine.{cost};
 ghost use Rattle.ops.specs.Kinds.{kindTable};
 ghost use Rattle.runs.specs.Runs.{answerOf};
 ghost use Rattle.runs.specs.Steps.{endOf, Ready, Executed};
-use kinds::body_length;
-use kinds::entry;
 use marks::index;
 use runs::Ending;
 use runs::Outcome;
@@ -73,12 +71,11 @@ pub fn execute(
     let mut count: u64 = 0;
     while op < ops {
         let kind = block[at];
-        let e = entry(kinds, kind);
-        let outcome = step(e, block, at, kind, values, memory);
+        let outcome = step(kinds, block, at, kind, values, memory);
         match outcome {
-            Outcome::Falls => {
+            Outcome::Falls(next) => {
                 op += 1;
-                at += 1 + body_length(e);
+                at = next;
             }
             Outcome::JumpsTo(l) => {
                 op = number_of(labels, index(l)) - 1;

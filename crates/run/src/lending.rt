@@ -31,10 +31,11 @@ pub fn copy_out(values: &[u64; 256], globals: &mut [u64])
     }
 }
 
+// A global of a variable with this byte, of which bit 0 is clear for 32 bits, is within its width.
 fn fits_type(code: u8, x: u64) -> bool
     ensures { λ r. ⌜ r ≡ codeFits code x ⌝ }
 {
-    code % 2 == 1 || x < 0x1_0000_0000
+    (code % 2 == 1) | (x < 0x1_0000_0000)
 }
 
 // Each 32-bit global is below 2^32; base: the variables' bytes.

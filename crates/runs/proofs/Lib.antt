@@ -6,3 +6,4 @@ pub mod Performed
 pub mod Lending
 pub mod Running
 pub mod Ran
+pub mod Dispatch

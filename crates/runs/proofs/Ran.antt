@@ -1,24 +1,26 @@
 -- The run's answer, from what the scan, the loop and the copies of the globals give. Assumes nothing.
-use mathlib.Core.Path.{_≡_, sym, ap, ap₂, _∙_}
+use mathlib.Core.Path.{_≡_, sym, ap, _∙_}
 use mathlib.Core.Bool.{Bool, true, false, cond, _&&_}
+use mathlib.Core.Logic.{_⊎_, inl, inr}
 use mathlib.Core.List.{List, [], _∷_}
 use Prim.Native.Nat.{ℕ, suc, _-_, _≤_}
 use native.Mathlib.Omega.{arith}
 use lib.Dec.{eqb, leb}
-use lib.ListN.{length, take}
-use lib.Seq.{length-take-le}
+use lib.ListN.{length}
 use borrow.Author.Tests.{eqb-true}
 use Rattle.theory.specs.Machine.{St, Result}
-use Rattle.theory.proofs.Sets.{and-l}
+use Rattle.theory.proofs.Sets.{and-l, tell}
 use Rattle.ops.specs.Limits.{maxMemory}
 use Rattle.ops.specs.Ops.{tcg}
 use Rattle.ops.specs.Kinds.{rowOf, document01}
 use Rattle.block.specs.Records.{recordsOf, declarations, opsFrom, classesOf, globalCount}
 use Rattle.block.specs.Scan.{Approved, Scanned, rejected, approved}
+use Rattle.block.proofs.Declaring.{classes-length, types-length}
 use Rattle.block.proofs.Scanned.{refuse-by}
-use Rattle.runs.specs.Runs.{globalsFit, fits, valuesFrom, ranAs, answerOf, ranOf, opsRun, runOps, runRefused, runChecked, runOf, runBy}
+use Rattle.runs.proofs.Lending.{codes-fit}
+use Rattle.runs.specs.Runs.{fits, valuesFrom, ranAs, answerOf, ranOf, opsRun, runOps, runRefused, runChecked, runOf, runBy}
 use Rattle.runs.specs.Evaluates.{envOf}
-use Rattle.runs.specs.Steps.{stateOf, Ready, Executed, lentOk}
+use Rattle.runs.specs.Steps.{stateOf, Ready, Executed, codesFit, lentOk}
 use Rattle.runs.specs.declared.Ending.{Ending}
 use Rattle.runs.specs.declared.Ending.the-variants.{Refused}
 
@@ -44,33 +46,44 @@ global-few (c ∷ cs) = go (eqb c 0) (global-few cs)
     go true h = omega arith
     go false h = omega arith
 
-module _ {b places₀ classes types places labels : List ℕ} {rule place start n globals ops : ℕ} (s : Scanned rowOf b places₀ classes types places labels rule place start n globals ops) where
+module _ {b places₀ base places labels : List ℕ} {rule place start n globals ops : ℕ} (s : Scanned rowOf b places₀ base places labels rule place start n globals ops) where
   -- a refusal
   pub refused-ran : (rule ≡ 0 → ⊥) → (lent memory : List ℕ) → ranAs (Refused rule place) lent memory ≡ runOf b lent memory
   unfolding runBy runChecked
   refused-ran z lent memory = ap (runChecked document01 (recordsOf rowOf b) lent memory) (refuse-by s z)
 
   module _ (z : rule ≡ 0) where
-    approved-by : Approved rowOf b places₀ classes types places labels start n globals ops
+    approved-by : Approved rowOf b places₀ base places labels start n globals ops
     approved-by = go s z
       where
-        go : {rule : ℕ} → Scanned rowOf b places₀ classes types places labels rule place start n globals ops → rule ≡ 0 → Approved rowOf b places₀ classes types places labels start n globals ops
+        go : {rule : ℕ} → Scanned rowOf b places₀ base places labels rule place start n globals ops → rule ≡ 0 → Approved rowOf b places₀ base places labels start n globals ops
         go (rejected k q) e = absurd (k e)
         go (approved a) e = a
 
-    pub few-lent : (globals ≤ n) × (n ≤ 256) × (length types ≡ 256)
-    few-lent =
-        let a = approved-by in
-        (omega (arith, a .globals-are, global-few (classesOf (declarations (recordsOf rowOf b))), ap length (a .classes-are), length-take-le n classes (omega (arith, a .few, a .long-classes))), omega (arith, a .few), a .long-types)
+    abbrev declared : List (List ℕ)
+    declared = declarations (recordsOf rowOf b)
+
+    pub few-lent : (globals ≤ 256) × (length base ≡ 256)
+    few-lent = let a = approved-by in (omega (arith, a .globals-are, global-few (classesOf declared), classes-length declared, a .variables, a .few), a .long-base)
 
     pub ready-by : length places₀ ≡ 256 → Ready b places labels start ops
-    ready-by l = record { places₀ = places₀; classes = classes; types = types; n = n; globals = globals; approved = approved-by; long-places = l }
+    ready-by l = record { places₀ = places₀; base = base; n = n; globals = globals; approved = approved-by; long-places = l }
 
-    module _ (lent memory : List ℕ) {t : Bool} (e : t ≡ lentOk types n globals lent memory) where
-      fits-so : fits (declarations (recordsOf rowOf b)) lent memory ≡ lentOk types n globals lent memory
+    module _ (lent memory : List ℕ) {t : Bool} (e : t ≡ lentOk base globals lent memory) where
+      -- as many are lent as are declared, or rule 11 is broken already
+      fits-so : fits declared lent memory ≡ lentOk base globals lent memory
       unfolding fits
-      fits-so =
-          ap₂ (λ (m : ℕ) (ts : List ℕ). eqb (length lent) m && globalsFit ts lent && leb (length memory) maxMemory) (sym (approved-by .globals-are)) (approved-by .types-are)
+      fits-so = go (tell (eqb (length lent) globals))
+        where
+          a : Approved rowOf b places₀ base places labels start n globals ops
+          a = approved-by
+
+          go : (eqb (length lent) globals ≡ true) ⊎ (eqb (length lent) globals ≡ false) → fits declared lent memory ≡ lentOk base globals lent memory
+          go (inr x) = rw (sym (a .globals-are), x)
+          go (inl x) =
+              let few : length lent ≤ length (classesOf declared) = omega (arith, eqb-true (length lent) globals x, a .globals-are, global-few (classesOf declared)) in
+              let c = codes-fit lent (a .coded) few (omega (arith, classes-length declared, types-length declared)) (omega (arith, classes-length declared, a .variables, a .few, a .long-base)) in
+              rw (sym (a .globals-are), c)
 
       choice : runOf b lent memory ≡ cond t (runOps document01 (opsFrom (recordsOf rowOf b)) lent memory) (runRefused 11 0 lent memory)
       unfolding runBy runChecked
@@ -84,7 +97,7 @@ module _ {b places₀ classes types places labels : List ℕ} {rule place start 
 
       pub lent-few : t ≡ true → length lent ≤ 256
       lent-few f =
-          let q : eqb (length lent) globals ≡ true = and-l (eqb (length lent) globals) _ (and-l (eqb (length lent) globals && globalsFit (take n types) lent) (leb (length memory) maxMemory) (sym e ∙ f)) in
+          let q : eqb (length lent) globals ≡ true = and-l (eqb (length lent) globals) _ (and-l (eqb (length lent) globals && codesFit base lent) (leb (length memory) maxMemory) (sym e ∙ f)) in
           omega (arith, eqb-true (length lent) globals q, few-lent)
 
       pub accepted-ran : t ≡ true → runOps document01 (opsFrom (recordsOf rowOf b)) lent memory ≡ runOf b lent memory

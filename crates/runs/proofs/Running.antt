@@ -13,11 +13,9 @@ use Rattle.theory.specs.Machine.{View, fell, Effect}
 use Rattle.theory.specs.Machine.{jumps, stops, effect, St, Result, cost, seek, moved, counted, after, run}
 use Rattle.theory.specs.Sets.{empty}
 use Rattle.theory.proofs.Simulation.{isJump, Says, says}
-use Rattle.ops.specs.Rows.{outsIn, insIn, restIn}
-use Rattle.ops.specs.Kinds.{kindTable, rowOf, document01}
+use Rattle.ops.specs.Kinds.{rowOf, document01}
 use Rattle.ops.specs.Rows.{bodyLength}
 use Rattle.ops.specs.Ops.{Fault, viewOf, tcg}
-use Rattle.ops.proofs.Entry.{Digits, digits}
 use Rattle.ops.proofs.Table.{body-short}
 use Rattle.ops.proofs.Document01.{lawful}
 use Rattle.block.specs.Records.{recordsOf, declarations, opsFrom}
@@ -26,7 +24,7 @@ use Rattle.block.proofs.Parts.{parts}
 use Rattle.block.proofs.Places.{Standing, standing, spanOf, records-from, places-at}
 use Rattle.block.proofs.Steps.{record-length}
 use Rattle.runs.specs.Runs.{answerOf, opsRun}
-use Rattle.runs.specs.Steps.{stateOf, endOf, effectOf, afterState, Performs, Ready, Executed}
+use Rattle.runs.specs.Steps.{stateOf, endOf, effectOf, afterState, Performs, nextAt, Ready, Executed}
 use Rattle.runs.proofs.Landing.{Lands, jump-lands}
 use Rattle.block.proofs.Checker.{checker, declaredIn, few-ops}
 use Rattle.block.specs.Rules.{start as seenFirst}
@@ -136,7 +134,7 @@ module _ {b values₀ memory₀ values memory : List ℕ} {op place count : ℕ}
   pub place-inside : place < length b
   place-inside = stood .inside
 
-  module _ {values′ memory′ : List ℕ} {o : Outcome} (p : Performs (viewOf document01 (recordAt rowOf b place)) values memory values′ memory′ o) where
+  module _ {values′ memory′ : List ℕ} {o : Outcome} (p : Performs (viewOf document01 (recordAt rowOf b place)) (nextAt b place) values memory values′ memory′ o) where
     told : effect 0 (viewOf document01 (getD (opsOf b) op [])) (stateOf values memory) ≡ effectOf o (stateOf values′ memory′)
     told = ap (λ (q : List ℕ). effect 0 (viewOf document01 q) (stateOf values memory)) (sym (stood .record-here)) ∙ sym (p .tells)
 
@@ -172,25 +170,22 @@ module _ {b values₀ memory₀ values memory : List ℕ} {op place count : ℕ}
 
   module _ {values′ memory′ : List ℕ} where
     -- the next op
-    pub run-falls : Performs (viewOf document01 (recordAt rowOf b place)) values memory values′ memory′ Falls → {n : ℕ} → n ≡ bodyLength rowOf (getD b place 0)
-        → Running b values₀ memory₀ values′ memory′ (op + 1) (place + (1 + n)) (count + 1)
-    run-falls p {n} e =
+    pub run-falls : {next : ℕ} → Performs (viewOf document01 (recordAt rowOf b place)) (nextAt b place) values memory values′ memory′ (Falls next)
+        → Running b values₀ memory₀ values′ memory′ (op + 1) next (count + 1)
+    run-falls p =
         record {
           fuel = u .fuel - 1;
           fuel-is = omega (arith, u .fuel-is, u .early);
           early = omega (arith, u .early);
           within = omega arith;
-          here = ap (recordsAt rowOf b) next-place ∙ stood .others ∙ ap (λ (i : ℕ). drop i (opsOf b)) (sym (add-one op));
+          here = ap (recordsAt rowOf b) (p .goes-to) ∙ stood .others ∙ ap (λ (i : ℕ). drop i (opsOf b)) (sym (add-one op));
           goes-on =
               turned p ∙ counts p (run (tcg document01) (opsOf b) (u .fuel - 1) onward (stateOf values′ memory′))
               ∙ ap (λ (i : ℕ). sooner (count + 1) (run (tcg document01) (opsOf b) (u .fuel - 1) (drop i (opsOf b)) (stateOf values′ memory′))) (sym (add-one op));
         }
-      where
-        next-place : place + (1 + n) ≡ place + suc (bodyLength rowOf (getD b place 0))
-        next-place = omega (arith, e)
 
     -- a jump
-    module _ {places labels : List ℕ} {start ops : ℕ} (r : Ready b places labels start ops) {l : ℕ} (p : Performs (viewOf document01 (recordAt rowOf b place)) values memory values′ memory′ (JumpsTo l)) where
+    module _ {places labels : List ℕ} {start ops : ℕ} (r : Ready b places labels start ops) {l : ℕ} (p : Performs (viewOf document01 (recordAt rowOf b place)) (nextAt b place) values memory values′ memory′ (JumpsTo l)) where
       pub landing : Lands document01 (opsOf b) l (getD labels l 0) op
       landing =
           subst (λ (x : List ℕ). Lands document01 (opsOf b) l (getD x l 0) op) (sym (r .approved .labels-are))
@@ -234,28 +229,18 @@ module _ {b values₀ memory₀ values memory places labels : List ℕ} {op plac
   pub stands-now : Stands rowOf b place (getD b place 0)
   stands-now = stands-at (t .running) due (getD b place 0) refl
 
-  -- the length of the op's body, from its entry
-  module _ {e n : ℕ} (q : e ≡ getD kindTable (getD b place 0) 0) (h : n ≡ outsIn e + insIn e + restIn e) where
-    body : n ≡ bodyLength rowOf (getD b place 0)
-    body = let d : Digits rowOf e (getD b place 0) = digits kindTable q in h ∙ sym (d .body)
-
-    pub body-now : place + (1 + n) ≤ length b
-    body-now = omega (arith, body, stands-now .whole)
-
   pub few-now : count < 256
   few-now = omega (arith, t .running .early, due, few (t .ready))
 
-  module _ {values′ memory′ : List ℕ} {o : Outcome} (p : Performs (viewOf document01 (recordAt rowOf b place)) values memory values′ memory′ o) where
-    so : {x : Outcome} → o ≡ x → Performs (viewOf document01 (recordAt rowOf b place)) values memory values′ memory′ x
-    so e = subst (Performs (viewOf document01 (recordAt rowOf b place)) values memory values′ memory′) e p
+  module _ {values′ memory′ : List ℕ} {o : Outcome} (p : Performs (viewOf document01 (recordAt rowOf b place)) (nextAt b place) values memory values′ memory′ o) where
+    so : {x : Outcome} → o ≡ x → Performs (viewOf document01 (recordAt rowOf b place)) (nextAt b place) values memory values′ memory′ x
+    so e = subst (Performs (viewOf document01 (recordAt rowOf b place)) (nextAt b place) values memory values′ memory′) e p
 
     pub stops-now : {e : Stop} → o ≡ Stops e → {ending : Ending} → ending ≡ answerOf (endOf e) op (count + cost (endOf e)) → Executed b values₀ memory₀ values′ memory′ ending
     stops-now e a = run-stops (t .running) due p e a
 
-    pub falls-on : o ≡ Falls → {e n op′ place′ : ℕ} → e ≡ getD kindTable (getD b place 0) 0 → n ≡ outsIn e + insIn e + restIn e → op′ ≡ op + 1 → place′ ≡ place + (1 + n)
-        → (op < op′) × Running b values₀ memory₀ values′ memory′ op′ place′ (count + 1)
-    falls-on f k h q w =
-        (omega (arith, q), subst₂ (λ (x y : ℕ). Running b values₀ memory₀ values′ memory′ x y (count + 1)) (sym q) (sym w) (run-falls (t .running) due (so f) (body k h)))
+    pub falls-on : {next : ℕ} → o ≡ Falls next → {op′ place′ : ℕ} → op′ ≡ op + 1 → place′ ≡ next → (op < op′) × Running b values₀ memory₀ values′ memory′ op′ place′ (count + 1)
+    falls-on f q w = (omega (arith, q), subst₂ (λ (x y : ℕ). Running b values₀ memory₀ values′ memory′ x y (count + 1)) (sym q) (sym w) (run-falls (t .running) due (so f)))
 
     -- the label's number, as it is read
     module _ {l i m : ℕ} (e : o ≡ JumpsTo l) (ei : i ≡ l) (em : m ≡ getD labels i 0) where

@@ -1,24 +1,24 @@
 -- What a step and the loop over the ops come to. Assumes nothing.
 use mathlib.Core.Path.{_≡_}
-use mathlib.Core.Bool.{Bool, cond, _&&_}
+use mathlib.Core.Bool.{Bool, cond, _&&_, _||_, true}
 use mathlib.Core.Option.{some}
 use mathlib.Core.List.{List, [], _∷_}
-use Prim.Native.Nat.{ℕ, _+_, _-_}
-use lib.Dec.{eqb, leb}
-use lib.ListN.{length, take}
+use Prim.Native.Nat.{ℕ, suc, _+_, _-_, _%_, _^_}
+use lib.Dec.{eqb, ltb, leb}
+use lib.ListN.{length, getD, take}
 use Rattle.theory.specs.Machine.{when, to, View, calc, access, flow, End, exit, fault, unstated, Effect, falls, jumps, stops, effect, St}
 use Rattle.word.specs.Condition.{condW}
 use Rattle.memory.specs.Access.{loadAt, storeAt}
 use Rattle.memory.specs.Answer.{accessWidth}
 use Rattle.memory.specs.Bytes.{lowFirst}
 use Rattle.ops.specs.Limits.{maxOps, maxMemory}
-use Rattle.ops.specs.Rows.{at}
+use Rattle.ops.specs.Rows.{at, bodyLength, isComputing, numberOf, roleOf}
 use Rattle.ops.specs.Ops.{atTypes, Fault, faultOf, tcg}
 use Rattle.ops.specs.Kinds.{afterLoad, afterStore, rowOf, document01}
 use Rattle.block.specs.Records.{recordsOf, opsFrom}
 use Rattle.block.specs.Scan.{Approved}
 use Rattle.runs.specs.Evaluates.{envOf}
-use Rattle.runs.specs.Runs.{globalsFit, answerOf, opsRun}
+use Rattle.runs.specs.Runs.{answerOf, opsRun}
 use Rattle.runs.specs.declared.Ending.{Ending}
 use Rattle.runs.specs.declared.Outcome.{Outcome}
 use Rattle.runs.specs.declared.Outcome.the-variants.{Falls, JumpsTo, Stops}
@@ -36,9 +36,22 @@ endOf (Faults store address flags) = fault (faultOf store address flags)
 endOf Unstated = unstated
 
 abbrev pub effectOf : Outcome → St (tcg document01) → Effect ℕ (List ℕ) ℕ Fault
-effectOf Falls t = falls t
+effectOf (Falls p) t = falls t
 effectOf (JumpsTo l) t = jumps l
 effectOf (Stops e) t = stops (endOf e)
+
+-- where the op after the one at a place starts, and where an outcome goes on if it falls there
+abbrev pub nextAt : List ℕ → ℕ → ℕ
+nextAt block place = place + suc (bodyLength rowOf (getD block place 0))
+
+abbrev pub placeOr : ℕ → Outcome → ℕ
+placeOr next (Falls p) = p
+placeOr next (JumpsTo l) = next
+placeOr next (Stops e) = next
+
+-- the op computes, or the record is no op
+abbrev pub plainKind : ℕ → Bool
+plainKind kind = isComputing (roleOf rowOf kind) || ltb (numberOf (roleOf rowOf kind)) 2
 
 -- the state after an effect: only an op that leaves one to the next changes it
 abbrev pub afterState : St (tcg document01) → Effect ℕ (List ℕ) ℕ Fault → St (tcg document01)
@@ -46,23 +59,23 @@ afterState s (falls t) = t
 afterState s (jumps l) = s
 afterState s (stops e) = s
 
--- an op with this view is run: its outcome, and what it leaves in the values and the memory
-pub record Performs (w : View ℕ (List ℕ) ℕ Fault) (values memory values′ memory′ : List ℕ) (outcome : Outcome) : Type 0 where
+-- an op with this view, before the place next, is run: its outcome, and what it leaves in the values and the memory
+pub record Performs (w : View ℕ (List ℕ) ℕ Fault) (next : ℕ) (values memory values′ memory′ : List ℕ) (outcome : Outcome) : Type 0 where
   pub tells : effectOf outcome (stateOf values′ memory′) ≡ effect 0 w (stateOf values memory)
   pub leaves-so : stateOf values′ memory′ ≡ afterState (stateOf values memory) (effect 0 w (stateOf values memory))
+  pub goes-to : placeOr next outcome ≡ next
 
 -- the same where the op leaves every memory as it is
-pub record PerformsAlone (w : View ℕ (List ℕ) ℕ Fault) (values values′ : List ℕ) (outcome : Outcome) : Type 0 where
-  pub under : (m : List ℕ) → Performs w values m values′ m outcome
+pub record PerformsAlone (w : View ℕ (List ℕ) ℕ Fault) (next : ℕ) (values values′ : List ℕ) (outcome : Outcome) : Type 0 where
+  pub under : (m : List ℕ) → Performs w next values m values′ m outcome
 
 -- the scan has accepted the block, and kept where its ops and labels are
 pub record Ready (block places labels : List ℕ) (start ops : ℕ) : Type 0 where
   pub places₀ : List ℕ
-  pub classes : List ℕ
-  pub types : List ℕ
+  pub base : List ℕ
   pub n : ℕ
   pub globals : ℕ
-  pub approved : Approved rowOf block places₀ classes types places labels start n globals ops
+  pub approved : Approved rowOf block places₀ base places labels start n globals ops
   pub long-places : length places₀ ≡ maxOps
 
 -- the run of a block's ops from these values and this memory: the answer, and what is left in both
@@ -73,9 +86,17 @@ pub record Executed (block values memory values′ memory′ : List ℕ) (ending
       ending ≡ answerOf (r .end) (length ops - length (r .left)) (r .count)
   pub state-is : stateOf values′ memory′ ≡ (opsRun document01 (opsFrom (recordsOf rowOf block)) (stateOf values memory)) .state
 
--- rule 11, where n variables have these types and so many of them are globals
-abbrev pub lentOk : List ℕ → ℕ → ℕ → List ℕ → List ℕ → Bool
-lentOk types n declared globals memory = eqb (length globals) declared && globalsFit (take n types) globals && leb (length memory) maxMemory
+-- rule 11, where the variables have these bytes, of which bit 0 is clear for 32 bits, and so many of them are globals
+abbrev pub codeFits : ℕ → ℕ → Bool
+codeFits code x = eqb (code % 2) 1 || ltb x (2 ^ 32)
+
+abbrev pub codesFit : List ℕ → List ℕ → Bool
+codesFit codes [] = true
+codesFit [] (g ∷ gs) = true
+codesFit (c ∷ cs) (g ∷ gs) = codeFits c g && codesFit cs gs
+
+abbrev pub lentOk : List ℕ → ℕ → List ℕ → List ℕ → Bool
+lentOk base declared globals memory = eqb (length globals) declared && codesFit base globals && leb (length memory) maxMemory
 
 -- the views of the ops that a step takes apart, from the bytes of the block after the place
 abbrev pub branchOp : List ℕ → ℕ → Bool → View ℕ (List ℕ) ℕ Fault

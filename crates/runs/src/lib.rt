@@ -33,9 +33,9 @@ pub enum Stop {
     Unstated,
 }
 
-// How the run goes on after an op: at the next op, at a label, or not at all.
+// How the run goes on after an op: at the next op, which starts at this place, at a label, or not at all.
 pub enum Outcome {
-    Falls,
+    Falls(usize),
     JumpsTo(u8),
     Stops(Stop),
 }

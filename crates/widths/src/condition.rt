@@ -1,38 +1,56 @@
 // The conditions, by number.
 ghost use mathlib.Core.Path.{_≡_};
-ghost use Rattle.word.specs.Condition.{ltsW, lesW, condW};
+ghost use mathlib.Core.Bool.{cond};
+ghost use lib.Dec.{eqb, ltb};
+ghost use Rattle.word.specs.Condition.{ltsW, condW};
+ghost use Rattle.widths.specs.Cases.{caseOf, answersOf};
 use super::convert;
 
-// Less, and less or equal, read as signed.
-pub fn lts64(a: u64, b: u64) -> bool
+// Less, read as signed.
+fn lts64(a: u64, b: u64) -> bool
     ensures { λ r. ⌜ r ≡ ltsW 64 a b ⌝ }
 {
     word64::to_signed(a) < word64::to_signed(b)
 }
 
-pub fn les64(a: u64, b: u64) -> bool
-    ensures { λ r. ⌜ r ≡ lesW 64 a b ⌝ }
+// A bit where a test passes.
+fn bit(t: bool, n: u32) -> u32
+    ensures { λ r. ⌜ r ≡ cond t n 0 ⌝ }
 {
-    word64::to_signed(a) <= word64::to_signed(b)
+    if t { n } else { 0 }
 }
 
-// EQ, NE, LT, GE, LE, GT, LTU, GEU, LEU, GTU; any other number holds of nothing.
+// The number of a case: 1 for equal, 2 for less, 4 for less as unsigned.
+fn case(a: u64, b: u64) -> u32
+    ensures { λ r. ⌜ r ≡ caseOf (eqb a b) (ltsW 64 a b) (ltb a b) ⌝ }
+{
+    bit(a == b, 1) | bit(lts64(a, b), 2) | bit(a < b, 4)
+}
+
+// EQ, NE, LT, GE, LE, GT, LTU, GEU, LEU, GTU: a bit for each case in which it holds; any other number holds of nothing.
+fn answers(c: u8) -> u32
+    ensures { λ r. ⌜ r ≡ answersOf c ⌝ }
+{
+    match c {
+        0 => 0xaa,
+        1 => 0x55,
+        2 => 0xcc,
+        3 => 0x33,
+        4 => 0xee,
+        5 => 0x11,
+        6 => 0xf0,
+        7 => 0x0f,
+        8 => 0xfa,
+        9 => 0x05,
+        _ => 0,
+    }
+}
+
+// By number, without a jump, which would often be foreseen wrongly.
 pub fn holds64(c: u8, a: u64, b: u64) -> bool
     ensures { λ r. ⌜ r ≡ condW 64 c a b ⌝ }
 {
-    match c {
-        0 => a == b,
-        1 => a != b,
-        2 => lts64(a, b),
-        3 => les64(b, a),
-        4 => les64(a, b),
-        5 => lts64(b, a),
-        6 => a < b,
-        7 => b <= a,
-        8 => a <= b,
-        9 => b < a,
-        _ => false,
-    }
+    (answers(c) >> case(a, b)) % 2 == 1
 }
 
 // Sign extension keeps both orders.

@@ -1,13 +1,11 @@
 -- `execute` runs the ops: the run of what is left is the run of the whole. Assumes nothing.
-use mathlib.Core.Path.{_≡_, refl, ap, _∙_}
+use mathlib.Core.Path.{_≡_, refl}
 use mathlib.Core.Logic.{⊎-elim}
-use mathlib.Core.List.{List}
-use Prim.Native.Nat.{ℕ, _-_}
+use Prim.Native.Nat.{_-_}
 use native.Mathlib.Omega.{arith}
-use lib.ListN.{length, getD}
+use lib.ListN.{length}
 use borrow.Author.Needs.{needs}
-use Rattle.ops.specs.Kinds.{kindTable}
-use Rattle.runs.proofs.Running.{Running, Turn, running-start, ends-past, inside-now, stands-now, body-now, few-now, stops-now, falls-on, number-now, target-now}
+use Rattle.runs.proofs.Running.{Running, Turn, running-start, ends-past, inside-now, stands-now, few-now, stops-now, falls-on, number-now, target-now}
 use Rattle.runs.proofs.Running.{jumps-on}
 use Rattle.execute.proofs.execute.Statement.{statement}
 use Rattle.execute.proofs.execute.Tie as tie
@@ -25,41 +23,23 @@ turn : (c : tie.In-loop Inv-loop μ-loop) →
     Turn (args .block .now) (args .values .now) (args .memory .now) (loop .values) (loop .memory) (args .places .now) (args .labels .now) (loop .op) (loop .at) (loop .count) (args .start) (args .ops)
 turn c = record { ready = c .before .before .before .before .pre .0; running = c .before .loop .inv .1; more-ops = c .loop-test .taken }
 
--- the op's entry
-entry-is : (c : tie.After-entry Inv-loop μ-loop) → c .entry .result ≡ getD kindTable (getD (c .before .before .before .before .before .before .args .block .now) (c .before .before .before .loop .at) 0) 0
-entry-is c =
-    let start = c .before .before .before .before .before .before in
-    c .entry .ensures ∙ ap (λ (kinds : List ℕ). getD kinds (getD (start .args .block .now) (c .before .before .before .loop .at) 0) 0) (start .pre .1)
-
 loop-holds : tie.Need-loop-holds Inv-loop μ-loop
 loop-holds c = (refl, running-start (c .before .before .pre .0) _ _)
 
 shared-slice-read-kind : tie.Need-shared-slice-read-kind Inv-loop μ-loop
 shared-slice-read-kind c = inside-now (turn (c .before))
 
-entry-requires : tie.Need-entry-requires Inv-loop μ-loop
-entry-requires c κs = search needs
-
 step-requires : tie.Need-step-requires Inv-loop μ-loop
-step-requires c κs = (stands-now (turn (c .before .before .before .before)), entry-is (c .before .before))
+step-requires c κs = (stands-now (turn (c .before .before .before)), c .before .before .before .before .before .before .before .pre .1)
 
-enum-told : tie.Need-enum-told Inv-loop μ-loop
-enum-told c = search needs
+enum-known-outcome : tie.Need-enum-known-outcome Inv-loop μ-loop
+enum-known-outcome c = search needs
 
 add-op : tie.Need-add-op Inv-loop μ-loop
 add-op c = search needs
 
-body-length-requires : tie.Need-body-length-requires Inv-loop μ-loop
-body-length-requires c κs = search needs
-
-add-at : tie.Need-add-at Inv-loop μ-loop
-add-at c = omega (arith, body-now (turn (c .before .before .before .before .before .before .before .before .before .before)) (entry-is (c .before .before .before .before .before .before .before .before)) (c .body-length .ensures))
-
-add-at-2 : tie.Need-add-at-2 Inv-loop μ-loop
-add-at-2 c = omega (arith, body-now (turn (c .before .before .before .before .before .before .before .before .before .before)) (entry-is (c .before .before .before .before .before .before .before .before)) (c .body-length .ensures))
-
-enum-known-outcome : tie.Need-enum-known-outcome Inv-loop μ-loop
-enum-known-outcome c = search needs
+enum-known-outcome-2 : tie.Need-enum-known-outcome-2 Inv-loop μ-loop
+enum-known-outcome-2 c = search needs
 
 index-requires : tie.Need-index-requires Inv-loop μ-loop
 index-requires c κs = search needs
@@ -70,52 +50,48 @@ number-of-requires c κs = search needs
 sub-op : tie.Need-sub-op Inv-loop μ-loop
 sub-op c =
     let step = c .before .before .before .before .before .before .before .step .ensures in
-    let outcome = c .before .before .before .outcome .given .1 in
-    number-now (turn (c .before .before .before .before .before .before .before .before .before .before .before .before)) step outcome (c .before .index .ensures) (c .number-of .ensures)
+    number-now (turn (c .before .before .before .before .before .before .before .before .before .before .before)) step (c .before .before .before .outcome2 .given .1) (c .before .index .ensures) (c .number-of .ensures)
 
 number-of-requires-2 : tie.Need-number-of-requires-2 Inv-loop μ-loop
 number-of-requires-2 c κs =
     let step = c .before .before .before .before .before .before .before .step .ensures in
-    let outcome = c .before .before .before .outcome .given .1 in
-    target-now (turn (c .before .before .before .before .before .before .before .before .before .before .before .before)) step outcome (c .before .index .ensures) (c .number-of .ensures)
+    target-now (turn (c .before .before .before .before .before .before .before .before .before .before .before)) step (c .before .before .before .outcome2 .given .1) (c .before .index .ensures) (c .number-of .ensures)
 
-enum-known-outcome-2 : tie.Need-enum-known-outcome-2 Inv-loop μ-loop
-enum-known-outcome-2 c = search needs
+enum-known-outcome-3 : tie.Need-enum-known-outcome-3 Inv-loop μ-loop
+enum-known-outcome-3 c = search needs
 
 ended-requires : tie.Need-ended-requires Inv-loop μ-loop
-ended-requires c κs = few-now (turn (c .before .before .before .before .before .before .before .before .before .before))
+ended-requires c κs = few-now (turn (c .before .before .before .before .before .before .before .before .before))
 
 same-length : tie.Need-same-length Inv-loop μ-loop
 same-length c = search needs
 
 returns : tie.Need-returns Inv-loop μ-loop
-returns c =
-    let step = c .before .before .before .before .before .before .step .ensures in
-    stops-now (turn (c .before .before .before .before .before .before .before .before .before .before .before)) step (c .before .before .outcome2 .given .1) (c .ended .ensures)
+returns c = stops-now (turn (c .before .before .before .before .before .before .before .before .before .before)) (c .before .before .before .before .before .before .step .ensures) (c .before .before .outcome3 .given .1) (c .ended .ensures)
 
 add-count : tie.Need-add-count Inv-loop μ-loop
-add-count c = omega (arith, few-now (turn (c .before .before .before .before .before .before .before .before)))
+add-count c = omega (arith, few-now (turn (c .before .before .before .before .before .before .before)))
 
 loop-less : tie.Need-loop-less Inv-loop μ-loop
 loop-less c =
-    let now = turn (c .before .before .before .before .before .before .before .before) in
+    let now = turn (c .before .before .before .before .before .before .before) in
     let step = c .before .before .before .step .ensures in
     omega (
       arith,
-      c .before .before .before .before .before .before .before .before .loop-test .taken,
+      c .before .before .before .before .before .before .before .loop-test .taken,
       ⊎-elim
-          (λ w. (falls-on now step (w .1 .given .1) (entry-is (c .before .before .before .before .before .before)) (w .2 .ensures) (w .3) (w .4)) .0)
+          (λ w. (falls-on now step (w .1 .given .1) (w .3) (w .4)) .0)
           (λ w. (jumps-on now step (w .1 .given .1) (w .3 .ensures) (w .4 .ensures) (w .5 .ensures) (w .6) (w .7)) .0)
           (c .match .came),
     )
 
 loop-again : tie.Need-loop-again Inv-loop μ-loop
 loop-again c =
-    let now = turn (c .before .before .before .before .before .before .before .before) in
+    let now = turn (c .before .before .before .before .before .before .before) in
     let step = c .before .before .before .step .ensures in (
       search needs,
       ⊎-elim
-          (λ w. (falls-on now step (w .1 .given .1) (entry-is (c .before .before .before .before .before .before)) (w .2 .ensures) (w .3) (w .4)) .1)
+          (λ w. (falls-on now step (w .1 .given .1) (w .3) (w .4)) .1)
           (λ w. (jumps-on now step (w .1 .given .1) (w .3 .ensures) (w .4 .ensures) (w .5 .ensures) (w .6) (w .7)) .1)
           (c .match .came),
     )
@@ -134,19 +110,15 @@ execute-spec =
     μ-loop
     loop-holds
     shared-slice-read-kind
-    entry-requires
     step-requires
-    enum-told
-    add-op
-    body-length-requires
-    add-at
-    add-at-2
     enum-known-outcome
+    add-op
+    enum-known-outcome-2
     index-requires
     number-of-requires
     sub-op
     number-of-requires-2
-    enum-known-outcome-2
+    enum-known-outcome-3
     ended-requires
     same-length
     returns

@@ -11,76 +11,50 @@ use Rattle.run.proofs.run.Statement.{statement}
 use Rattle.run.proofs.run.Tie as tie
 use Rattle.ops.specs.Kinds.{rowOf, document01}
 
-table-requires : tie.Need-table-requires
-table-requires c κs = tt
+-- what stood before the scan
+abbrev start : tie.After-scan → tie.Start
+start s = s .before .before .before .before .before .before .before .before .before
 
-scan-requires : tie.Need-scan-requires
-scan-requires c κs = search needs
+-- the scan before rule 11 was asked
+abbrev scanned : tie.After-lent-ok → tie.After-scan
+scanned l = l .before .before .before .before .before
 
 returns : tie.Need-returns
-returns c =
-    let args = c .before .before .before .before .before .before .before .before .before .before .before .args in
-    refused-ran (c .before .scan .ensures) (c .if1 .taken) (args .globals .now) (args .memory .now)
+returns c = let a = start (c .before) .args in refused-ran (c .before .scan .ensures) (c .if1 .taken) (a .globals .now) (a .memory .now)
 
 lent-ok-requires : tie.Need-lent-ok-requires
 lent-ok-requires c κs = few-lent (c .before .before .before .before .scan .ensures) (c .before .before .before .if1 .left)
 
-same-length : tie.Need-same-length
-same-length c = search needs
-
-same-length-2 : tie.Need-same-length-2
-same-length-2 c = search needs
-
 returns-2 : tie.Need-returns-2
 returns-2 c =
-    let args = c .before .before .before .before .before .before .before .before .before .before .before .before .before .before .before .before .args in
-    let scan = c .before .before .before .before .before .before .scan .ensures in
-    let left1 = c .before .before .before .before .before .if1 .left in
-    unlent-ran scan left1 (args .globals .now) (args .memory .now) (c .before .lent-ok .ensures) (not-true _ (c .if2 .taken))
+    let s = scanned (c .before) in
+    let a = start s .args in
+    unlent-ran (s .scan .ensures) (c .before .before .before .before .before .if1 .left) (a .globals .now) (a .memory .now) (c .before .lent-ok .ensures) (not-true _ (c .if2 .taken))
 
 -- past the check and rule 11
-few-globals : (c : tie.Else2) → length (c .before .before .before .before .before .before .before .before .before .before .before .before .before .before .before .before .args .globals .now) ≤ 256
+few-globals : (c : tie.Else2) → length (start (scanned (c .before)) .args .globals .now) ≤ 256
 few-globals c =
-    let args = c .before .before .before .before .before .before .before .before .before .before .before .before .before .before .before .before .args in
-    let scan = c .before .before .before .before .before .before .scan .ensures in
-    lent-few scan (c .before .before .before .before .before .if1 .left) (args .globals .now) (args .memory .now) (c .before .lent-ok .ensures) (not-false _ (c .if2 .left))
+    let s = scanned (c .before) in
+    let a = start s .args in
+    lent-few (s .scan .ensures) (c .before .before .before .before .before .if1 .left) (a .globals .now) (a .memory .now) (c .before .lent-ok .ensures) (not-false _ (c .if2 .left))
 
-runs-ops : (c : tie.Else2) →
-    let args = c .before .before .before .before .before .before .before .before .before .before .before .before .before .before .before .before .args in
-    runOps document01 (opsFrom (recordsOf rowOf (args .block .now))) (args .globals .now) (args .memory .now) ≡ runOf (args .block .now) (args .globals .now) (args .memory .now)
+runs-ops : (c : tie.Else2) → let a = start (scanned (c .before)) .args in
+    runOps document01 (opsFrom (recordsOf rowOf (a .block .now))) (a .globals .now) (a .memory .now) ≡ runOf (a .block .now) (a .globals .now) (a .memory .now)
 runs-ops c =
-    let args = c .before .before .before .before .before .before .before .before .before .before .before .before .before .before .before .before .args in
-    let scan = c .before .before .before .before .before .before .scan .ensures in
-    accepted-ran scan (c .before .before .before .before .before .if1 .left) (args .globals .now) (args .memory .now) (c .before .lent-ok .ensures) (not-false _ (c .if2 .left))
+    let s = scanned (c .before) in
+    let a = start s .args in
+    accepted-ran (s .scan .ensures) (c .before .before .before .before .before .if1 .left) (a .globals .now) (a .memory .now) (c .before .lent-ok .ensures) (not-false _ (c .if2 .left))
 
 run-ops-requires : tie.Need-run-ops-requires
 run-ops-requires c κs =
-    let scan = c .before .before .before .before .before .before .before .before .before .before .before .scan .ensures in
-    let left1 = c .before .before .before .before .before .before .before .before .before .before .if1 .left in
-    let table = c .before .before .before .before .before .before .before .before .before .before .before .before .before .before .before .before .before .table .ensures in
-    (ready-by scan left1 refl, few-globals (c .before .before .before .before .before), table)
-
-same-length-3 : tie.Need-same-length-3
-same-length-3 c = search needs
-
-same-length-4 : tie.Need-same-length-4
-same-length-4 c = search needs
+    let e = c .before .before .before .before .before .before in
+    (ready-by (scanned (e .before) .scan .ensures) (e .before .before .before .before .before .if1 .left) refl, few-globals e, c .before .before .before .before .before .table2 .ensures)
 
 returns-3 : tie.Need-returns-3
-returns-3 c = c .before .before .before .before .run-ops .ensures ∙ runs-ops (c .before .before .before .before .before .before .before .before .before .before)
+returns-3 c = c .before .before .before .before .run-ops .ensures ∙ runs-ops (c .before .before .before .before .before .before .before .before .before .before .before)
 
 pub run-spec : {M : Type 1} → statement M
 run-spec =
     tie.close
-    (tie.spec
-    table-requires
-    scan-requires
-    returns
-    lent-ok-requires
-    same-length
-    same-length-2
-    returns-2
-    run-ops-requires
-    same-length-3
-    same-length-4
-    returns-3)
+    (tie.spec (λ c κs. search needs) (λ c κs. search needs) returns lent-ok-requires (λ c. search needs) (λ c. search needs) returns-2 (λ c κs. search needs) run-ops-requires (λ c. search needs)
+    (λ c. search needs) returns-3)

@@ -28,6 +28,9 @@ add-label c = search needs
 shared-slice-read-label : tie.Need-shared-slice-read-label
 shared-slice-read-label c = search needs
 
+add-next : tie.Need-add-next
+add-next c = search needs
+
 add-holds : tie.Need-add-holds
 add-holds c = search needs
 
@@ -63,7 +66,7 @@ branch-step-spec =
     get-requires-2
     add-label
     shared-slice-read-label
-    add-holds
+    add-next add-holds
     shared-slice-read-holds
     holds-requires
     returns

@@ -2,12 +2,18 @@
 use native.Mathlib.Omega.{arith}
 use borrow.Author.Needs.{needs}
 use Rattle.block.proofs.Views.{inside}
+use Rattle.runs.proofs.Dispatch.{entry-is}
 use Rattle.runs.proofs.Performed.{compute-falls, compute-unstated}
 use Rattle.step.proofs.compute_step.Statement.{statement}
 use Rattle.step.proofs.compute_step.Tie as tie
 
+entry-requires : tie.Need-entry-requires
+entry-requires c κs = search needs
+
 evaluate-requires : tie.Need-evaluate-requires
-evaluate-requires c κs = c .before .before .pre
+evaluate-requires c κs =
+    let start = c .before .before .before in
+    (start .pre .0, entry-is (start .args .kind) (start .pre .1) (c .before .entry .ensures))
 
 enum-known-stated : tie.Need-enum-known-stated
 enum-known-stated c = search needs
@@ -17,37 +23,51 @@ add-put c = search needs
 
 shared-slice-read-put : tie.Need-shared-slice-read-put
 shared-slice-read-put c =
-    inside (c .before .before .before .before .before .before .before .before .pre .0 .stands) (c .before .before .before .before .before .before .before .before .pre .0 .role-is) 1 (omega arith)
+    let pre = c .before .before .before .before .before .before .before .before .before .pre in
+    inside (pre .0 .stands) (pre .0 .role-is) 1 (omega arith)
 
 put-requires : tie.Need-put-requires
 put-requires c κs = tt
+
+add-t13 : tie.Need-add-t13
+add-t13 c = search needs
+
+body-length-requires : tie.Need-body-length-requires
+body-length-requires c κs = search needs
+
+add-t17 : tie.Need-add-t17
+add-t17 c = search needs
 
 enum-told : tie.Need-enum-told
 enum-told c = search needs
 
 returns : tie.Need-returns
 returns c =
-    let pre = c .before .before .before .before .before .before .before .before .before .pre in
-    let args = c .before .before .before .before .before .before .before .before .before .args in
-    let evaluated = c .before .before .before .before .before .before .evaluate in
-    let stated = c .before .before .before .before .stated .given .1 in
-    compute-falls (pre .0) (args .values .now) (evaluated .result) (evaluated .ensures) stated (c .put .ensures)
+    let start = c .before .before .before .before .before .before .before .before .before .before .before in
+    let entry = entry-is (start .args .kind) (start .pre .1) (c .before .before .before .before .before .before .before .before .before .entry .ensures) in
+    let evaluated = c .before .before .before .before .before .before .before .evaluate in
+    let stated = c .before .before .before .before .before .stated .given .1 in
+    compute-falls (start .pre .0) (start .args .values .now) (evaluated .result) (evaluated .ensures) stated (c .before .put .ensures) entry (c .body-length .ensures)
 
 returns-2 : tie.Need-returns-2
 returns-2 c =
-    let pre = c .before .before .before .before .before .pre in
-    let args = c .before .before .before .before .before .args in
-    compute-unstated (pre .0) (args .values .now) (c .before .before .evaluate .result) (c .before .before .evaluate .ensures) (c .enum-told .given .1)
+    let start = c .before .before .before .before .before .before in
+    let evaluated = c .before .before .evaluate in
+    compute-unstated (start .pre .0) (start .args .values .now) (evaluated .result) (evaluated .ensures) (c .enum-told .given .1)
 
 pub compute-step-spec : {M : Type 1} → statement M
 compute-step-spec =
     tie.close
     (tie.spec
+    entry-requires
     evaluate-requires
     enum-known-stated
     add-put
     shared-slice-read-put
     put-requires
+    add-t13
+    body-length-requires
+    add-t17
     enum-told
     returns
     returns-2)

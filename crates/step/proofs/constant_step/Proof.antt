@@ -4,6 +4,9 @@ use Rattle.runs.proofs.Performed.{constant-falls}
 use Rattle.step.proofs.constant_step.Statement.{statement}
 use Rattle.step.proofs.constant_step.Tie as tie
 
+add-next : tie.Need-add-next
+add-next c = search needs
+
 add-put : tie.Need-add-put
 add-put c = search needs
 
@@ -27,4 +30,4 @@ returns c =
 pub constant-step-spec : {M : Type 1} → statement M
 constant-step-spec =
     tie.close
-    (tie.spec add-put shared-slice-read-put add-low-first low-first-requires put-requires returns)
+    (tie.spec add-next add-put shared-slice-read-put add-low-first low-first-requires put-requires returns)

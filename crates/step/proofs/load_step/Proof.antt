@@ -19,6 +19,9 @@ add-flags c = search needs
 shared-slice-read-flags : tie.Need-shared-slice-read-flags
 shared-slice-read-flags c = search needs
 
+add-next : tie.Need-add-next
+add-next c = search needs
+
 load-requires : tie.Need-load-requires
 load-requires c κs = search needs
 
@@ -60,7 +63,7 @@ load-step-spec =
     get-requires
     add-flags
     shared-slice-read-flags
-    load-requires
+    add-next load-requires
     enum-known-loaded
     add-put
     shared-slice-read-put

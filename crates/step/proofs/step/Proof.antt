@@ -1,166 +1,130 @@
--- `step` does what the op at the place does, by the number of its kind's role. Assumes nothing.
-use mathlib.Core.Path.{_≡_, sym, subst}
-use Prim.Native.Nat.{ℕ, _+_, _<_}
+-- `step` does what the op at the place does, by its kind. Assumes nothing.
+use mathlib.Core.Path.{ap}
 use native.Mathlib.Omega.{arith}
 use borrow.Author.Needs.{needs}
-use Rattle.ops.specs.Rows.{setsLabel, jumpsTo, exits, branches, loads, stores, constant, computing, roleNo, roleIn}
+use Rattle.ops.specs.Rows.{setsLabel, branches, loads, stores, constant, bodyOf}
+use Rattle.ops.proofs.Table.{row-of}
 use Rattle.block.proofs.Views.{inside, branch-view, load-view, store-view, constant-view}
-use Rattle.runs.proofs.Performed.{step-label, step-jumps, step-exits, step-none}
-use Rattle.runs.proofs.Roles.{role-by}
-use Rattle.ops.proofs.Table.{number-of}
+use Rattle.runs.proofs.Dispatch.{constant-kinds, load-kinds, store-kinds, branch-kinds, label-kind, jump-kind, exit-kind, plain-else, next-is}
+use Rattle.runs.proofs.Performed.{step-label, step-jumps, step-exits}
 use Rattle.step.proofs.step.Statement.{statement}
 use Rattle.step.proofs.step.Tie as tie
 
--- none of four numbers
-under : (k n : ℕ) → n < 4 + k → (n ≡ 3 + k → ⊥) → (n ≡ 2 + k → ⊥) → (n ≡ 1 + k → ⊥) → (n ≡ k → ⊥) → n < k
-under k n h a b c d = omega arith
-
-role-requires : tie.Need-role-requires
-role-requires c κs = search needs
-
-compute-step-requires : tie.Need-compute-step-requires
-compute-step-requires c κs =
-    let start = c .before .before .before .before .before in
-    let role = role-by computing (start .args .kind) (start .pre .1) (c .before .before .role .ensures) (c .before .match .keys1) in
-    (record { stands = start .pre .0; role-is = role }, start .pre .1)
-
 constant-step-requires : tie.Need-constant-step-requires
-constant-step-requires c κs =
-    let start = c .before .before .before .before .before in
-    let role = role-by constant (start .args .kind) (start .pre .1) (c .before .before .role .ensures) (c .before .match .keys2) in
-    omega (arith, inside (start .pre .0) role 9 (omega arith))
+constant-step-requires c κs = omega (arith, inside (c .before .before .before .before .pre .0) (constant-kinds (c .before .match .keys1)) 9 (omega arith))
 
 is-wide-requires : tie.Need-is-wide-requires
 is-wide-requires c κs = search needs
 
 load-step-requires : tie.Need-load-step-requires
-load-step-requires c κs =
-    let start = c .before .before .before .before .before .before .before in
-    let role = role-by loads (start .args .kind) (start .pre .1) (c .before .before .before .before .role .ensures) (c .before .before .before .match .keys3) in
-    inside (start .pre .0) role 3 (omega arith)
+load-step-requires c κs = inside (c .before .before .before .before .before .before .pre .0) (load-kinds (c .before .before .before .match .keys2)) 3 (omega arith)
 
 store-step-requires : tie.Need-store-step-requires
-store-step-requires c κs =
-    let start = c .before .before .before .before .before .before in
-    let role = role-by stores (start .args .kind) (start .pre .1) (c .before .before .before .role .ensures) (c .before .before .match .keys4) in
-    inside (start .pre .0) role 3 (omega arith)
+store-step-requires c κs = inside (c .before .before .before .before .before .pre .0) (store-kinds (c .before .before .match .keys3)) 3 (omega arith)
 
 is-wide-requires-2 : tie.Need-is-wide-requires-2
 is-wide-requires-2 c κs = search needs
 
 branch-step-requires : tie.Need-branch-step-requires
-branch-step-requires c κs =
-    let start = c .before .before .before .before .before .before in
-    let role = role-by branches (start .args .kind) (start .pre .1) (c .before .before .before .role .ensures) (c .before .before .match .keys5) in
-    inside (start .pre .0) role 4 (omega arith)
+branch-step-requires c κs = inside (c .before .before .before .before .before .pre .0) (branch-kinds (c .before .before .match .keys4)) 4 (omega arith)
 
-add-t20 : tie.Need-add-t20
-add-t20 c = search needs
+add-t18 : tie.Need-add-t18
+add-t18 c = search needs
 
-shared-slice-read-t22 : tie.Need-shared-slice-read-t22
-shared-slice-read-t22 c =
-    let start = c .before .before .before .before .before in
-    let role = role-by jumpsTo (start .args .kind) (start .pre .1) (c .before .before .role .ensures) (c .before .match .keys7) in
-    inside (start .pre .0) role 1 (omega arith)
+add-t19 : tie.Need-add-t19
+add-t19 c = search needs
+
+shared-slice-read-t21 : tie.Need-shared-slice-read-t21
+shared-slice-read-t21 c = inside (c .before .before .before .before .pre .0) (jump-kind (c .before .match .keys6)) 1 (omega arith)
 
 add-get : tie.Need-add-get
 add-get c = search needs
 
 shared-slice-read-get : tie.Need-shared-slice-read-get
-shared-slice-read-get c =
-    let start = c .before .before .before .before .before .before in
-    let role = role-by exits (start .args .kind) (start .pre .1) (c .before .before .before .role .ensures) (c .before .before .match .keys8) in
-    inside (start .pre .0) role 1 (omega arith)
+shared-slice-read-get c = inside (c .before .before .before .before .before .pre .0) (exit-kind (c .before .before .match .keys7)) 1 (omega arith)
 
 get-requires : tie.Need-get-requires
 get-requires c κs = search needs
 
+narrow-op-requires : tie.Need-narrow-op-requires
+narrow-op-requires c κs =
+    let start = c .before .before .before .before in
+    (start .pre .0, start .pre .1, plain-else (start .args .kind) (search needs) (c .before .match .rest))
+
 returns : tie.Need-returns
 returns c =
-    c .compute-step .ensures .under (c .before .before .before .before .before .before .args .memory .now)
-
-returns-2 : tie.Need-returns-2
-returns-2 c =
-    let start = c .before .before .before .before .before .before in
-    let role = role-by constant (start .args .kind) (start .pre .1) (c .before .before .before .role .ensures) (c .before .before .match .keys2) in
-    rw (constant-view (start .pre .0) role) (c .constant-step .ensures .under (start .args .memory .now))
+    let start = c .before .before .before .before .before in
+    let role = constant-kinds (c .before .before .match .keys1) in
+    rw (constant-view (start .pre .0) role, ← next-is (start .pre .0) 9 (ap bodyOf (row-of constant (start .args .kind) role)))
+    (c .constant-step .ensures .under (start .args .memory .now))
 
 same-length : tie.Need-same-length
 same-length c = search needs
 
-returns-3 : tie.Need-returns-3
-returns-3 c =
-    let start = c .before .before .before .before .before .before .before .before in
-    let role = role-by loads (start .args .kind) (start .pre .1) (c .before .before .before .before .before .role .ensures) (c .before .before .before .before .match .keys3) in
-    rw (load-view (start .pre .0) role, ← c .before .before .before .is-wide .ensures) (c .load-step .ensures)
+returns-2 : tie.Need-returns-2
+returns-2 c =
+    let start = c .before .before .before .before .before .before .before in
+    let role = load-kinds (c .before .before .before .before .match .keys2) in
+    rw
+    (load-view (start .pre .0) role, ← c .before .before .before .is-wide .ensures, ← next-is (start .pre .0) 3 (ap bodyOf (row-of loads (start .args .kind) role)))
+    (c .load-step .ensures)
 
 same-length-2 : tie.Need-same-length-2
 same-length-2 c = search needs
 
+returns-3 : tie.Need-returns-3
+returns-3 c =
+    let start = c .before .before .before .before .before .before .before .before in
+    let role = store-kinds (c .before .before .before .before .before .match .keys3) in
+    rw (store-view (start .pre .0) role, ← next-is (start .pre .0) 3 (ap bodyOf (row-of stores (start .args .kind) role))) (c .before .before .store-step .ensures)
+
 returns-4 : tie.Need-returns-4
 returns-4 c =
-    let start = c .before .before .before .before .before .before .before .before .before in
-    let role = role-by stores (start .args .kind) (start .pre .1) (c .before .before .before .before .before .before .role .ensures) (c .before .before .before .before .before .match .keys4) in
-    rw (store-view (start .pre .0) role) (c .before .before .store-step .ensures)
+    let start = c .before .before .before .before .before .before in
+    let role = branch-kinds (c .before .before .before .match .keys4) in
+    rw
+    (branch-view (start .pre .0) role, ← c .before .before .is-wide2 .ensures, ← next-is (start .pre .0) 4 (ap bodyOf (row-of branches (start .args .kind) role)))
+    (c .branch-step .ensures .under (start .args .memory .now))
 
 returns-5 : tie.Need-returns-5
 returns-5 c =
-    let start = c .before .before .before .before .before .before .before in
-    let role = role-by branches (start .args .kind) (start .pre .1) (c .before .before .before .before .role .ensures) (c .before .before .before .match .keys5) in
-    rw (branch-view (start .pre .0) role, ← c .before .before .is-wide2 .ensures) (c .branch-step .ensures .under (start .args .memory .now))
+    let start = c .before .before .before in
+    let role = label-kind (c .match .keys5) in
+    step-label (start .pre .0) _ _ role (next-is (start .pre .0) 1 (ap bodyOf (row-of setsLabel (start .args .kind) role)))
 
 returns-6 : tie.Need-returns-6
-returns-6 c =
-    let start = c .before .before .before .before in
-    let role = role-by setsLabel (start .args .kind) (start .pre .1) (c .before .role .ensures) (c .match .keys6) in
-    step-label (start .pre .0) _ _ role
+returns-6 c = step-jumps (c .before .before .before .before .pre .0) _ _ (jump-kind (c .before .match .keys6))
 
 returns-7 : tie.Need-returns-7
-returns-7 c =
-    let start = c .before .before .before .before .before in
-    let role = role-by jumpsTo (start .args .kind) (start .pre .1) (c .before .before .role .ensures) (c .before .match .keys7) in
-    step-jumps (start .pre .0) _ _ role
+returns-7 c = step-exits (c .before .before .before .before .before .before .pre .0) _ _ (exit-kind (c .before .before .before .match .keys7)) (c .get .ensures)
 
 returns-8 : tie.Need-returns-8
-returns-8 c =
-    let start = c .before .before .before .before .before .before .before in
-    let role = role-by exits (start .args .kind) (start .pre .1) (c .before .before .before .before .role .ensures) (c .before .before .before .match .keys8) in
-    step-exits (start .pre .0) _ _ role (c .get .ensures)
-
-returns-9 : tie.Need-returns-9
-returns-9 c =
-    let start = c .before .before .before .before in
-    let role = c .before .role in
-    let small = subst (λ (n : ℕ). n < 10) (sym (role .ensures)) ((number-of (roleNo (roleIn (start .args .e)))) .1) in
-    let r = c .match .rest in
-    let upper = under 6 _ small (r .0 .0 .0 .0 .0 .0 .0 .1) (r .0 .0 .0 .0 .0 .0 .1) (r .0 .0 .0 .0 .1) (r .0 .0 .0 .0 .0 .1) in
-    step-none (start .pre .0) _ _ (start .pre .1) (role .ensures) (under 2 _ upper (r .0 .0 .0 .1) (r .1) (r .0 .1) (r .0 .0 .1))
+returns-8 c = c .narrow-op .ensures .under (c .before .before .before .before .before .args .memory .now)
 
 pub step-spec : {M : Type 1} → statement M
 step-spec =
     tie.close
     (tie.spec
-    role-requires
-    compute-step-requires
     constant-step-requires
     is-wide-requires
     load-step-requires
     store-step-requires
     is-wide-requires-2
     branch-step-requires
-    add-t20
-    shared-slice-read-t22
+    add-t18
+    add-t19
+    shared-slice-read-t21
     add-get
     shared-slice-read-get
     get-requires
+    narrow-op-requires
     returns
-    returns-2
     same-length
-    returns-3
+    returns-2
     same-length-2
+    returns-3
     returns-4
     returns-5
     returns-6
     returns-7
-    returns-8
-    returns-9)
+    returns-8)

@@ -28,6 +28,9 @@ add-flags c = search needs
 shared-slice-read-flags : tie.Need-shared-slice-read-flags
 shared-slice-read-flags c = search needs
 
+add-next : tie.Need-add-next
+add-next c = search needs
+
 store-requires : tie.Need-store-requires
 store-requires c κs = search needs
 
@@ -65,7 +68,7 @@ store-step-spec =
     get-requires-2
     add-flags
     shared-slice-read-flags
-    store-requires
+    add-next store-requires
     same-length
     returns
     same-length-2

@@ -9,13 +9,13 @@ use Rattle.run.proofs.lending.globals_fit.Statement.{statement}
 use Rattle.run.proofs.lending.globals_fit.Tie as tie
 
 abbrev Inv-loop : tie.InvT-loop
-Inv-loop types n globals i₀ i = (i ≤ length globals) × FitFrom types globals n i
+Inv-loop base globals i₀ i = (i ≤ length globals) × FitFrom base globals i
 
 abbrev μ-loop : tie.MeasureT-loop
-μ-loop types n globals i₀ i = length globals - i
+μ-loop base globals i₀ i = length globals - i
 
 loop-holds : tie.Need-loop-holds Inv-loop μ-loop
-loop-holds c = (omega arith, fit-start _ _ _)
+loop-holds c = (omega arith, fit-start _ _)
 
 element-copy-out-fits-type : tie.Need-element-copy-out-fits-type Inv-loop μ-loop
 element-copy-out-fits-type c = search needs
@@ -34,7 +34,7 @@ returns c =
     let pre = c .before .before .before .before .before .before .before .pre in
     let inv = c .before .before .before .before .before .loop .inv in
     let more = c .before .before .before .before .loop-test .taken in
-    fit-stops (inv .1) more (pre .0) (omega (arith, pre)) (c .before .fits-type .ensures) (not-true _ (c .if1 .taken))
+    fit-stops (inv .1) more (omega (arith, pre, more)) (c .before .fits-type .ensures) (not-true _ (c .if1 .taken))
 
 add-i : tie.Need-add-i Inv-loop μ-loop
 add-i c = search needs
@@ -47,7 +47,7 @@ loop-again c =
     let pre = c .before .before .before .before .before .before .before .pre in
     let inv = c .before .before .before .before .before .loop .inv in
     let more = c .before .before .before .before .loop-test .taken in
-    (omega arith, fit-next (inv .1) more (pre .0) (omega (arith, pre)) (c .before .fits-type .ensures) (not-false _ (c .if1 .left)))
+    (omega arith, fit-next (inv .1) more (omega (arith, pre, more)) (c .before .fits-type .ensures) (not-false _ (c .if1 .left)))
 
 returns-2 : tie.Need-returns-2 Inv-loop μ-loop
 returns-2 c = fit-end (c .before .loop .inv .1) (c .loop-test .left)

@@ -8,7 +8,7 @@ use Rattle.run.proofs.lending.lent_ok.Tie as tie
 returns : tie.Need-returns
 returns c =
     let args = c .before .before .before .args in
-    lent-count (args .types .now) (args .n) (args .declared) (args .globals .now) (args .memory .now) (c .if1 .taken)
+    lent-count (args .base .now) (args .declared) (args .globals .now) (args .memory .now) (c .if1 .taken)
 
 globals-fit-requires : tie.Need-globals-fit-requires
 globals-fit-requires c κs = search needs
@@ -16,12 +16,12 @@ globals-fit-requires c κs = search needs
 returns-2 : tie.Need-returns-2
 returns-2 c =
     let args = c .before .before .before .before .before .args in
-    lent-wide (args .types .now) (args .n) (args .declared) (args .globals .now) (args .memory .now) (c .before .before .if1 .left) (c .before .globals-fit .ensures) (not-true _ (c .if2 .taken))
+    lent-wide (args .base .now) (args .declared) (args .globals .now) (args .memory .now) (c .before .before .if1 .left) (c .before .globals-fit .ensures) (not-true _ (c .if2 .taken))
 
 returns-3 : tie.Need-returns-3
 returns-3 c =
     let args = c .before .before .before .before .before .args in
-    lent-last (args .types .now) (args .n) (args .declared) (args .globals .now) (args .memory .now) (c .before .before .if1 .left) (c .before .globals-fit .ensures) (not-false _ (c .if2 .left))
+    lent-last (args .base .now) (args .declared) (args .globals .now) (args .memory .now) (c .before .before .if1 .left) (c .before .globals-fit .ensures) (not-false _ (c .if2 .left))
 
 pub lent-ok-spec : {M : Type 1} → statement M
 lent-ok-spec = tie.close (tie.spec returns globals-fit-requires returns-2 returns-3)

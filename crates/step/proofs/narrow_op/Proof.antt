@@ -1,0 +1,71 @@
+-- The kinds 05 to 07 and 11 to 29, each by its own code. Assumes nothing.
+use Rattle.runs.proofs.Dispatch.{computed, not-narrow}
+use borrow.Author.Needs.{needs}
+use Rattle.step.proofs.narrow_op.Statement.{statement}
+use Rattle.step.proofs.narrow_op.Tie as tie
+
+pub narrow-op-spec : {M : Type 1} → statement M
+narrow-op-spec =
+    tie.close
+    (tie.spec
+    (λ c κs. search (computed, needs))
+    (λ c κs. search (computed, needs))
+    (λ c κs. search (computed, needs))
+    (λ c κs. search (computed, needs))
+    (λ c κs. search (computed, needs))
+    (λ c κs. search (computed, needs))
+    (λ c κs. search (computed, needs))
+    (λ c κs. search (computed, needs))
+    (λ c κs. search (computed, needs))
+    (λ c κs. search (computed, needs))
+    (λ c κs. search (computed, needs))
+    (λ c κs. search (computed, needs))
+    (λ c κs. search (computed, needs))
+    (λ c κs. search (computed, needs))
+    (λ c κs. search (computed, needs))
+    (λ c κs. search (computed, needs))
+    (λ c κs. search (computed, needs))
+    (λ c κs. search (computed, needs))
+    (λ c κs. search (computed, needs))
+    (λ c κs. search (computed, needs))
+    (λ c κs. search (computed, needs))
+    (λ c κs. search (computed, needs))
+    (λ c κs. search (computed, needs))
+    (λ c κs. search (computed, needs))
+    (λ c κs. search (computed, needs))
+    (λ c κs. search (computed, needs))
+    (λ c κs. search (computed, needs))
+    (λ c κs. search (computed, needs))
+    (λ c κs.
+    let start = c .before .before .before in
+    let none = not-narrow (start .args .kind) (c .before .match .rest) in
+    (start .pre .0, start .pre .1, start .pre .2, none .0, none .1))
+    (λ c. search needs)
+    (λ c. search needs)
+    (λ c. search needs)
+    (λ c. search needs)
+    (λ c. search needs)
+    (λ c. search needs)
+    (λ c. search needs)
+    (λ c. search needs)
+    (λ c. search needs)
+    (λ c. search needs)
+    (λ c. search needs)
+    (λ c. search needs)
+    (λ c. search needs)
+    (λ c. search needs)
+    (λ c. search needs)
+    (λ c. search needs)
+    (λ c. search needs)
+    (λ c. search needs)
+    (λ c. search needs)
+    (λ c. search needs)
+    (λ c. search needs)
+    (λ c. search needs)
+    (λ c. search needs)
+    (λ c. search needs)
+    (λ c. search needs)
+    (λ c. search needs)
+    (λ c. search needs)
+    (λ c. search needs)
+    (λ c. search needs))
