@@ -1,18 +1,15 @@
-// Fold: the values known in a basic block, and the records that it leaves.
+// Fold: the values known in a basic block, and the ops that constants replace.
 ghost use mathlib.Core.Path.{_≡_};
 ghost use mathlib.Core.Option.{some};
-ghost use Prim.Native.Nat.{_+_, _*_, _≤_};
-ghost use lib.ListN.{length, getD, take};
+ghost use Prim.Native.Nat.{_+_, _≤_};
+ghost use lib.ListN.{length, getD};
 ghost use Rattle.theory.specs.Machine.{upd};
 ghost use Rattle.ops.specs.Kinds.{kindTable, rowOf};
 ghost use Rattle.ops.specs.Ops.{bytesAt};
 ghost use Rattle.sets.specs.Words.{members};
-ghost use Rattle.block.specs.Scan.{Stands, recordsAt};
-ghost use Rattle.passes.specs.Knows.{knownOf, everyIn, StatesKnown, Stays, Folds, foldedOps};
+ghost use Rattle.block.specs.Scan.{Stands};
+ghost use Rattle.passes.specs.Knows.{knownOf, everyIn, StatesKnown, Stays, Folds, Folded};
 ghost use Rattle.passes.specs.Laid.{Laid};
-use emit::copy;
-use emit::put_constant;
-use kinds::body_length;
 use kinds::entry;
 use kinds::ins;
 use kinds::is_computing;
@@ -100,40 +97,34 @@ fn fold_op(e: u32, block: &[u8], at: usize, known: &mut [u64; 4], values: &mut [
     }
 }
 
-// The records that fold leaves of so many ops, one after the other in out, and the place of each; where they end. Those
-// that stay are copied in runs.
+// Fold of so many ops: the mark of each, 1 where a constant takes its place, and the constants' values.
 pub fn fold(
     kinds: &[u32; 256],
     block: &[u8],
-    start: usize,
     ops: usize,
-    out: &mut [u8],
-    places: &mut [u16],
-) -> usize
-    requires { ⌜ (start ≤ length (now block)) × (ops ≡ length (recordsAt rowOf (now block) start)) × (ops ≤ 256) × (ops ≤ length (now places)) × (10 * ops ≤ length (now out)) × (now kinds ≡ kindTable) ⌝ }
-    ensures { λ r. ⌜ (r ≤ length (now (out .exit))) × Laid (take r (now (out .exit))) (now (places .exit)) (foldedOps (recordsAt rowOf (now (block .entry)) start)) ops ⌝ }
+    places: &[u16],
+    marks: &mut [u8],
+    constants: &mut [u64],
+)
+    requires { ⌜ Laid (now block) (now places) ops × (ops ≤ length (now places)) × (ops ≤ length (now marks)) × (ops ≤ length (now constants)) × (now kinds ≡ kindTable) ⌝ }
+    ensures { λ _. ⌜ Folded (now (block .entry)) (now (places .entry)) (now (marks .exit)) (now (constants .exit)) ops ⌝ }
 {
     let mut known = empty();
     let mut values = [0u64; 256];
-    let mut from = start;
-    let mut at = start;
-    let mut to: usize = 0;
     let mut i: usize = 0;
     while i < ops {
+        let at = places[i] as usize;
         let e = entry(kinds, block[at]);
-        let next = at + 1 + body_length(e);
-        places[i] = (to + at - from) as u16;
         let stated = fold_op(e, block, at, &mut known, &mut values);
         match stated {
             Stated::Value(x) => {
-                to = put_constant(e, block, from, at, x, out, to);
-                from = next;
+                marks[i] = 1;
+                constants[i] = x;
             }
-            Stated::NoResult => {}
+            Stated::NoResult => {
+                marks[i] = 0;
+            }
         }
-        at = next;
         i += 1;
     }
-    copy(block, from, at - from, out, to);
-    to + at - from
 }

@@ -1,6 +1,6 @@
 // The pass: fold, prune and the result in the lent buffer.
 ghost use mathlib.Core.Path.{_≡_};
-ghost use Prim.Native.Nat.{_*_, _≤_};
+ghost use Prim.Native.Nat.{_≤_};
 ghost use lib.ListN.{length, take};
 ghost use Rattle.ops.specs.Kinds.{kindTable};
 ghost use Rattle.sets.specs.Words.{members};
@@ -28,24 +28,24 @@ fn outliving(classes: &[u8], n: usize) -> [u64; 4]
     kept
 }
 
-// The pass of an accepted block, with room for its ops: their places, a byte for each, and ten bytes for each.
+// The pass of an accepted block, with room for the marks and the constants of its ops.
 fn write_result(
     kinds: &[u32; 256],
     block: &[u8],
     start: usize,
     ops: usize,
+    places: &[u16; 256],
     globals: &[u64; 4],
     kept: &[u64; 4],
-    places: &mut [u16],
-    keep: &mut [u8],
-    buf: &mut [u8],
+    marks: &mut [u8],
+    constants: &mut [u64],
     out: &mut [u8],
 ) -> Written
-    requires { ⌜ Ready (now block) (members (now globals)) (members (now kept)) start ops × (ops ≤ length (now places)) × (ops ≤ length (now keep)) × (10 * ops ≤ length (now buf)) × (now kinds ≡ kindTable) ⌝ }
+    requires { ⌜ Ready (now block) (now places) (members (now globals)) (members (now kept)) start ops × (ops ≤ length (now marks)) × (ops ≤ length (now constants)) × (now kinds ≡ kindTable) ⌝ }
     ensures { λ r. ⌜ (r ≡ (passOf (now (block .entry)) (now (out .entry))) .answer) × (now (out .exit) ≡ (passOf (now (block .entry)) (now (out .entry))) .out) ⌝ }
 {
-    let end = fold::fold(kinds, block, start, ops, buf, places);
-    let size = start + prune::prune(kinds, &buf[..end], ops, places, globals, kept, keep);
+    fold::fold(kinds, block, ops, places, marks, constants);
+    let size = start + prune::prune(kinds, block, ops, places, globals, kept, marks);
     if out.len() < size {
         return Written::Refused {
             number: 12,
@@ -53,7 +53,7 @@ fn write_result(
         };
     }
     copy(block, 0, start, out, 0);
-    emit::emit(&buf[..end], ops, places, keep, out, start);
+    emit::emit(kinds, block, start, ops, places, marks, constants, out);
     Written::Length(size)
 }
 
@@ -63,26 +63,26 @@ fn write_short(
     block: &[u8],
     start: usize,
     ops: usize,
+    places: &[u16; 256],
     globals: &[u64; 4],
     kept: &[u64; 4],
     out: &mut [u8],
 ) -> Written
-    requires { ⌜ Ready (now block) (members (now globals)) (members (now kept)) start ops × (ops ≤ 64) × (now kinds ≡ kindTable) ⌝ }
+    requires { ⌜ Ready (now block) (now places) (members (now globals)) (members (now kept)) start ops × (ops ≤ 64) × (now kinds ≡ kindTable) ⌝ }
     ensures { λ r. ⌜ (r ≡ (passOf (now (block .entry)) (now (out .entry))) .answer) × (now (out .exit) ≡ (passOf (now (block .entry)) (now (out .entry))) .out) ⌝ }
 {
-    let mut places = [0u16; 64];
-    let mut keep = [0u8; 64];
-    let mut buf = [0u8; 640];
+    let mut marks = [0u8; 64];
+    let mut constants = [0u64; 64];
     write_result(
         kinds,
         block,
         start,
         ops,
+        places,
         globals,
         kept,
-        &mut places,
-        &mut keep,
-        &mut buf,
+        &mut marks,
+        &mut constants,
         out,
     )
 }
@@ -93,26 +93,26 @@ fn write_long(
     block: &[u8],
     start: usize,
     ops: usize,
+    places: &[u16; 256],
     globals: &[u64; 4],
     kept: &[u64; 4],
     out: &mut [u8],
 ) -> Written
-    requires { ⌜ Ready (now block) (members (now globals)) (members (now kept)) start ops × (now kinds ≡ kindTable) ⌝ }
+    requires { ⌜ Ready (now block) (now places) (members (now globals)) (members (now kept)) start ops × (now kinds ≡ kindTable) ⌝ }
     ensures { λ r. ⌜ (r ≡ (passOf (now (block .entry)) (now (out .entry))) .answer) × (now (out .exit) ≡ (passOf (now (block .entry)) (now (out .entry))) .out) ⌝ }
 {
-    let mut places = [0u16; 256];
-    let mut keep = [0u8; 256];
-    let mut buf = [0u8; 2560];
+    let mut marks = [0u8; 256];
+    let mut constants = [0u64; 256];
     write_result(
         kinds,
         block,
         start,
         ops,
+        places,
         globals,
         kept,
-        &mut places,
-        &mut keep,
-        &mut buf,
+        &mut marks,
+        &mut constants,
         out,
     )
 }
@@ -144,7 +144,7 @@ pub fn pass(block: &[u8], out: &mut [u8]) -> Written
     let kept = outliving(&classes, s.variables);
     let globals = sets::below(s.globals);
     if s.ops <= 64 {
-        return write_short(&kinds, block, s.start, s.ops, &globals, &kept, out);
+        return write_short(&kinds, block, s.start, s.ops, &places, &globals, &kept, out);
     }
-    write_long(&kinds, block, s.start, s.ops, &globals, &kept, out)
+    write_long(&kinds, block, s.start, s.ops, &places, &globals, &kept, out)
 }

@@ -1,5 +1,5 @@
 -- What fold knows, and what it leaves of an op. Assumes nothing.
-use mathlib.Core.Path.{_≡_, refl, sym, ap, ap₂, _∙_, fun-ext}
+use mathlib.Core.Path.{_≡_, refl, sym, ap, ap₂, _∙_, subst, fun-ext}
 use mathlib.Core.Bool.{Bool, true, false, cond, not, _&&_, _||_, true≢false}
 use mathlib.Core.Logic.{_⊎_, inl, inr}
 use mathlib.Core.Option.{Option, none, some}
@@ -32,6 +32,7 @@ use Rattle.runs.proofs.Roles.{role-by}
 use Rattle.ops.proofs.Table.{number-of}
 use Rattle.ops.proofs.Document01.{lawful}
 use Rattle.passes.specs.Knows.{knownOf, everyIn, statedBy, StatesKnown, Stays, Folds}
+use Rattle.passes.specs.Laid.{Constant}
 use Rattle.passes.proofs.Before.{its-role, its-outputs}
 use Rattle.passes.proofs.Constants.{computing-folds, one-output}
 use Rattle.word.specs.declared.Stated.the-variants.{Value, NoResult}
@@ -152,7 +153,7 @@ module _ {b : List ℕ} {p : ℕ} (s : Stands rowOf b p (getD b p 0)) {known : V
       record {
         rule-so = rule-is (knownOf known values) (recordAt rowOf b p) ∙ ap (tried (tcg document01) (folding document01) (recordAt rowOf b p)) value-so;
         known-so = u ∙ sym (ap (learned (knownOf known values)) const-shape);
-        only-so = λ y z. computes-so;
+        constant-so = λ y z. let q : x ≡ y = cc in subst (λ (n : ℕ). Constant b p n (folding document01 .const (recordAt rowOf b p) n)) q (record { op-is = refl; role-is = computes-so; view-is = const-shape });
       }
 
 no-value : (x : ℕ) → NoResult ≡ Value x → ⊥
@@ -165,7 +166,7 @@ folds-none {b} {p} {known} {values = values} w u =
     record {
       rule-so = rule-is (knownOf known values) (recordAt rowOf b p) ∙ ap (tried (tcg document01) (folding document01) (recordAt rowOf b p)) (w .states-so);
       known-so = u .known-after;
-      only-so = λ x z. absurd (no-value x z);
+      constant-so = λ x z. absurd (no-value x z);
     }
 
 -- an op that states nothing of what is known gives no value

@@ -2,6 +2,7 @@ pub mod Result
 pub mod Alike
 pub mod Demand
 pub mod Stores
+pub mod Placing
 pub mod Bytes
 pub mod Constants
 pub mod Liveness

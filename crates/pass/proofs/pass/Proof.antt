@@ -1,5 +1,5 @@
 -- The pass answers and stores as the definition does. Assumes nothing.
-use mathlib.Core.Path.{sym, ap}
+use mathlib.Core.Path.{refl, sym, ap}
 use native.Mathlib.Omega.{arith}
 use borrow.Author.Needs.{needs}
 use Rattle.theory.specs.Sets.{Vars}
@@ -29,7 +29,7 @@ below-requires c κs = few-by (c .before .before .before .scan .ensures) (c .bef
 
 write-short-requires : tie.Need-write-short-requires
 write-short-requires c κs =
-    (ready-by (c .before .before .before .before .before .before .before .before .before .before .scan .ensures) (c .before .before .before .before .before .before .before .before .before .if1 .left) (λ v. ap (λ (l : Vars). l v) (c .before .before .before .before .before .before .below .ensures)) (c .before .before .before .before .before .before .before .outliving .ensures), c .before .before .before .before .if2 .taken, c .before .before .before .before .before .before .before .before .before .before .before .before .before .before .before .before .table .ensures)
+    (ready-by (c .before .before .before .before .before .before .before .before .before .before .before .scan .ensures) (c .before .before .before .before .before .before .before .before .before .before .if1 .left) refl (λ v. ap (λ (l : Vars). l v) (c .before .before .before .before .before .before .before .below .ensures)) (c .before .before .before .before .before .before .before .before .outliving .ensures), c .before .before .before .before .before .if2 .taken, c .before .before .before .before .before .before .before .before .before .before .before .before .before .before .before .before .before .table .ensures)
 
 same-length : tie.Need-same-length
 same-length c = search needs
@@ -39,7 +39,7 @@ returns-2 c = search needs
 
 write-long-requires : tie.Need-write-long-requires
 write-long-requires c κs =
-    (ready-by (c .before .before .before .before .before .before .before .before .before .before .scan .ensures) (c .before .before .before .before .before .before .before .before .before .if1 .left) (λ v. ap (λ (l : Vars). l v) (c .before .before .before .before .before .before .below .ensures)) (c .before .before .before .before .before .before .before .outliving .ensures), c .before .before .before .before .before .before .before .before .before .before .before .before .before .before .before .before .table .ensures)
+    (ready-by (c .before .before .before .before .before .before .before .before .before .before .before .scan .ensures) (c .before .before .before .before .before .before .before .before .before .before .if1 .left) refl (λ v. ap (λ (l : Vars). l v) (c .before .before .before .before .before .before .before .below .ensures)) (c .before .before .before .before .before .before .before .before .outliving .ensures), c .before .before .before .before .before .before .before .before .before .before .before .before .before .before .before .before .before .table .ensures)
 
 same-length-2 : tie.Need-same-length-2
 same-length-2 c = search needs
