@@ -6,8 +6,7 @@ ghost use lib.ListN.{length, getD};
 ghost use Rattle.theory.specs.Machine.{upd};
 ghost use Rattle.ops.specs.Kinds.{kindTable, rowOf};
 ghost use Rattle.ops.specs.Ops.{bytesAt};
-ghost use Rattle.sets.specs.Words.{members};
-ghost use Rattle.block.specs.Scan.{Stands};
+ghost use Rattle.block.specs.Scan.{Stands, marked};
 ghost use Rattle.passes.specs.Knows.{knownOf, everyIn, StatesKnown, Stays, Folds, Folded};
 ghost use Rattle.passes.specs.Laid.{Laid};
 use kinds::entry;
@@ -15,32 +14,36 @@ use kinds::ins;
 use kinds::is_computing;
 use kinds::outs;
 use kinds::role;
+use marks::put;
 use memory::low_first;
 use ops::CONSTANT;
 use ops::LOADS;
-use sets::add;
-use sets::empty;
-use sets::has;
-use sets::remove_all;
 use values::evaluate;
 use word::Stated;
 
-// A variable's value is known.
-fn learn(known: &mut [u64; 4], values: &mut [u64; 256], v: u8, x: u64)
-    ensures { λ _. ⌜ knownOf (members (now (known .exit))) (now (values .exit)) ≡ upd (knownOf (members (now (known .entry))) (now (values .entry))) v (some x) ⌝ }
+// Whether a variable's value is known: its byte is 1.
+fn is_known(known: &[u8; 256], v: u8) -> bool
+    ensures { λ r. ⌜ r ≡ marked (now (known .entry)) v ⌝ }
 {
-    add(known, v);
+    known[v as usize] == 1
+}
+
+// A variable's value is known.
+fn learn(known: &mut [u8; 256], values: &mut [u64; 256], v: u8, x: u64)
+    ensures { λ _. ⌜ knownOf (marked (now (known .exit))) (now (values .exit)) ≡ upd (knownOf (marked (now (known .entry))) (now (values .entry))) v (some x) ⌝ }
+{
+    put(known, v, 1);
     values::put(values, v, x);
 }
 
 // Whether the variables that the bytes from a place on name are known.
-fn all_known(block: &[u8], from: usize, count: usize, known: &[u64; 4]) -> bool
+fn each_known(block: &[u8], from: usize, count: usize, known: &[u8; 256]) -> bool
     requires { ⌜ from + count ≤ length (now block) ⌝ }
-    ensures { λ r. ⌜ r ≡ everyIn (bytesAt (now (block .entry)) from count) (members (now (known .entry))) ⌝ }
+    ensures { λ r. ⌜ r ≡ everyIn (bytesAt (now (block .entry)) from count) (marked (now (known .entry))) ⌝ }
 {
     let mut j: usize = 0;
     while j < count {
-        if !has(known, block[from + j]) {
+        if !is_known(known, block[from + j]) {
             return false;
         }
         j += 1;
@@ -48,10 +51,21 @@ fn all_known(block: &[u8], from: usize, count: usize, known: &[u64; 4]) -> bool
     true
 }
 
+// The same: of one or two, the first and the last without a loop.
+fn all_known(block: &[u8], from: usize, count: usize, known: &[u8; 256]) -> bool
+    requires { ⌜ from + count ≤ length (now block) ⌝ }
+    ensures { λ r. ⌜ r ≡ everyIn (bytesAt (now (block .entry)) from count) (marked (now (known .entry))) ⌝ }
+{
+    if (count == 0) | (2 < count) {
+        return each_known(block, from, count, known);
+    }
+    is_known(known, block[from]) & is_known(known, block[from + count - 1])
+}
+
 // What an op that may fold states, where all its inputs are known.
-fn stated_by(e: u32, block: &[u8], at: usize, known: &[u64; 4], values: &[u64; 256]) -> Stated
+fn stated_by(e: u32, block: &[u8], at: usize, known: &[u8; 256], values: &[u64; 256]) -> Stated
     requires { ⌜ Stands rowOf (now block) at (getD (now block) at 0) × (e ≡ getD kindTable (getD (now block) at 0) 0) ⌝ }
-    ensures { λ r. ⌜ StatesKnown (now (block .entry)) at (members (now (known .entry))) (now (values .entry)) r ⌝ }
+    ensures { λ r. ⌜ StatesKnown (now (block .entry)) at (marked (now (known .entry))) (now (values .entry)) r ⌝ }
 {
     if !is_computing(e) {
         return Stated::NoResult;
@@ -63,9 +77,9 @@ fn stated_by(e: u32, block: &[u8], at: usize, known: &[u64; 4], values: &[u64; 2
 }
 
 // What is known after an op that stays as it is.
-fn pass_over(e: u32, block: &[u8], at: usize, known: &mut [u64; 4], values: &mut [u64; 256])
-    requires { ⌜ Stands rowOf (now block) at (getD (now block) at 0) × (e ≡ getD kindTable (getD (now block) at 0) 0) × StatesKnown (now block) at (members (now known)) (now values) Stated.NoResult ⌝ }
-    ensures { λ _. ⌜ Stays (now (block .entry)) at (members (now (known .entry))) (now (values .entry)) (members (now (known .exit))) (now (values .exit)) ⌝ }
+fn pass_over(e: u32, block: &[u8], at: usize, known: &mut [u8; 256], values: &mut [u64; 256])
+    requires { ⌜ Stands rowOf (now block) at (getD (now block) at 0) × (e ≡ getD kindTable (getD (now block) at 0) 0) × StatesKnown (now block) at (marked (now known)) (now values) Stated.NoResult ⌝ }
+    ensures { λ _. ⌜ Stays (now (block .entry)) at (marked (now (known .entry))) (now (values .entry)) (marked (now (known .exit))) (now (values .exit)) ⌝ }
 {
     let r = role(e);
     if r == CONSTANT {
@@ -73,16 +87,24 @@ fn pass_over(e: u32, block: &[u8], at: usize, known: &mut [u64; 4], values: &mut
         return;
     }
     if r < LOADS {
-        *known = empty();
+        *known = [0u8; 256];
         return;
     }
-    remove_all(block, at + 1, outs(e), known);
+    if outs(e) == 1 {
+        put(known, block[at + 1], 0);
+    }
 }
 
 // Fold at one op: the constant's value if one takes its place.
-fn fold_op(e: u32, block: &[u8], at: usize, known: &mut [u64; 4], values: &mut [u64; 256]) -> Stated
+fn fold_op(
+    e: u32,
+    block: &[u8],
+    at: usize,
+    known: &mut [u8; 256],
+    values: &mut [u64; 256],
+) -> Stated
     requires { ⌜ Stands rowOf (now block) at (getD (now block) at 0) × (e ≡ getD kindTable (getD (now block) at 0) 0) ⌝ }
-    ensures { λ r. ⌜ Folds (now (block .entry)) at (members (now (known .entry))) (now (values .entry)) (members (now (known .exit))) (now (values .exit)) r ⌝ }
+    ensures { λ r. ⌜ Folds (now (block .entry)) at (marked (now (known .entry))) (now (values .entry)) (marked (now (known .exit))) (now (values .exit)) r ⌝ }
 {
     let stated = stated_by(e, block, at, known, values);
     match stated {
@@ -109,7 +131,7 @@ pub fn fold(
     requires { ⌜ Laid (now block) (now places) ops × (ops ≤ length (now places)) × (ops ≤ length (now marks)) × (ops ≤ length (now constants)) × (now kinds ≡ kindTable) ⌝ }
     ensures { λ _. ⌜ Folded (now (block .entry)) (now (places .entry)) (now (marks .exit)) (now (constants .exit)) ops ⌝ }
 {
-    let mut known = empty();
+    let mut known = [0u8; 256];
     let mut values = [0u64; 256];
     let mut i: usize = 0;
     while i < ops {

@@ -4,6 +4,7 @@ pub mod Demand
 pub mod Stores
 pub mod Placing
 pub mod Bytes
+pub mod Counts
 pub mod Constants
 pub mod Liveness
 pub mod Before

@@ -5,7 +5,8 @@ use Prim.Native.Nat.{_-_, _≤_, _<_}
 use native.Mathlib.Omega.{arith}
 use lib.ListN.{length, length-set}
 use borrow.Author.Needs.{needs}
-use Rattle.sets.specs.Words.{members}
+use Rattle.block.specs.Scan.{marked}
+use Rattle.block.proofs.MarkSets.{marked-none}
 use Rattle.passes.proofs.Forward.{FoldingSo, folding-start, folding-stays, folding-puts, folding-ends}
 use Rattle.passes.proofs.Placing.{op-inside}
 use Rattle.fold.proofs.fold.Statement.{statement}
@@ -13,52 +14,49 @@ use Rattle.fold.proofs.fold.Tie as tie
 
 abbrev Inv-loop : tie.InvT-loop
 Inv-loop kinds block ops places marks₀ constants₀ known₀ values₀ i₀ marks constants known values i =
-    (i ≤ ops) × (length marks ≡ length marks₀) × (length constants ≡ length constants₀) × FoldingSo block places marks constants (members known) values ops i
+    (i ≤ ops) × (length marks ≡ length marks₀) × (length constants ≡ length constants₀) × FoldingSo block places marks constants (marked known) values ops i
 
 abbrev μ-loop : tie.MeasureT-loop
 μ-loop kinds block ops places marks₀ constants₀ known₀ values₀ i₀ marks constants known values i = ops - i
 
-empty-requires : tie.Need-empty-requires Inv-loop μ-loop
-empty-requires c κs = search needs
-
 loop-holds : tie.Need-loop-holds Inv-loop μ-loop
-loop-holds c = (omega arith, refl, refl, folding-start _ (c .empty .ensures))
+loop-holds c = (omega arith, refl, refl, folding-start _ (marked-none 256 refl))
 
 mul-at : tie.Need-mul-at Inv-loop μ-loop
 mul-at c = search needs
 
 shared-slice-read-at : tie.Need-shared-slice-read-at Inv-loop μ-loop
-shared-slice-read-at c = omega (arith, c .before .before .before .before .before .before .before .before .pre .1, c .before .loop-test .taken)
+shared-slice-read-at c = omega (arith, c .before .before .before .before .before .before .before .pre .1, c .before .loop-test .taken)
 
 cast-at : tie.Need-cast-at Inv-loop μ-loop
 cast-at c = omega (arith, c .shared-slice-known3 .given (c .before .before .loop .i))
 
 shared-slice-read-entry : tie.Need-shared-slice-read-entry Inv-loop μ-loop
-shared-slice-read-entry c = op-inside (c .before .before .before .before .before .before .before .before .before .pre .0) (c .before .before .loop-test .taken)
+shared-slice-read-entry c = op-inside (c .before .before .before .before .before .before .before .before .pre .0) (c .before .before .loop-test .taken)
 
 entry-requires : tie.Need-entry-requires Inv-loop μ-loop
 entry-requires c κs = search needs
 
 fold-op-requires : tie.Need-fold-op-requires Inv-loop μ-loop
-fold-op-requires c κs = (c .before .before .before .before .before .before .before .before .before .before .before .before .pre .0 .stands (c .before .before .before .before .before .before .loop .i) (c .before .before .before .before .before .loop-test .taken), rw (c .before .before .before .before .before .before .before .before .before .before .before .before .pre .4) at (c .before .before .entry .ensures))
+fold-op-requires c κs = (c .before .before .before .before .before .before .before .before .before .before .before .pre .0 .stands (c .before .before .before .before .before .before .loop .i) (c .before .before .before .before .before .loop-test .taken), rw (c .before .before .before .before .before .before .before .before .before .before .before .pre .4) at (c .before .before .entry .ensures))
 
 enum-known-stated : tie.Need-enum-known-stated Inv-loop μ-loop
 enum-known-stated c = search needs
 
 slice-write-marks : tie.Need-slice-write-marks Inv-loop μ-loop
-slice-write-marks c = omega (arith, c .before .before .before .before .before .before .before .before .before .before .before .before .before .before .before .before .pre .2, c .before .before .before .before .before .before .before .before .before .before .loop .inv .1, c .before .before .before .before .before .before .before .before .before .loop-test .taken)
+slice-write-marks c = omega (arith, c .before .before .before .before .before .before .before .before .before .before .before .before .before .before .before .pre .2, c .before .before .before .before .before .before .before .before .before .before .loop .inv .1, c .before .before .before .before .before .before .before .before .before .loop-test .taken)
 
 mul-constants : tie.Need-mul-constants Inv-loop μ-loop
-mul-constants c = omega (arith, c .before .before .before .before .before .before .before .before .before .before .before .before .before .before .before .before .pre .3, c .before .before .before .before .before .before .before .before .before .before .loop .inv .2, c .before .before .before .before .before .before .before .before .before .loop-test .taken)
+mul-constants c = omega (arith, c .before .before .before .before .before .before .before .before .before .before .before .before .before .before .before .pre .3, c .before .before .before .before .before .before .before .before .before .before .loop .inv .2, c .before .before .before .before .before .before .before .before .before .loop-test .taken)
 
 slice-write-constants : tie.Need-slice-write-constants Inv-loop μ-loop
-slice-write-constants c = omega (arith, c .before .before .before .before .before .before .before .before .before .before .before .before .before .before .before .before .pre .3, c .before .before .before .before .before .before .before .before .before .before .loop .inv .2, c .before .before .before .before .before .before .before .before .before .loop-test .taken)
+slice-write-constants c = omega (arith, c .before .before .before .before .before .before .before .before .before .before .before .before .before .before .before .pre .3, c .before .before .before .before .before .before .before .before .before .before .loop .inv .2, c .before .before .before .before .before .before .before .before .before .loop-test .taken)
 
 enum-told : tie.Need-enum-told Inv-loop μ-loop
 enum-told c = search needs
 
 slice-write-marks-2 : tie.Need-slice-write-marks-2 Inv-loop μ-loop
-slice-write-marks-2 c = omega (arith, c .before .before .before .before .before .before .before .before .before .before .before .before .before .before .before .pre .2, c .before .before .before .before .before .before .before .before .before .loop .inv .1, c .before .before .before .before .before .before .before .before .loop-test .taken)
+slice-write-marks-2 c = omega (arith, c .before .before .before .before .before .before .before .before .before .before .before .before .before .before .pre .2, c .before .before .before .before .before .before .before .before .before .loop .inv .1, c .before .before .before .before .before .before .before .before .loop-test .taken)
 
 add-i : tie.Need-add-i Inv-loop μ-loop
 add-i c = search needs
@@ -68,7 +66,7 @@ loop-less c = search needs
 
 loop-again : tie.Need-loop-again Inv-loop μ-loop
 loop-again c =
-    let start = c .before .before .before .before .before .before .before .before .before .before .before .before .before .before in
+    let start = c .before .before .before .before .before .before .before .before .before .before .before .before .before in
     let loop = c .before .before .before .before .before .before .before .before .loop in
     let more = c .before .before .before .before .before .before .before .loop-test .taken in
     let folds = c .before .fold-op .ensures in
@@ -94,7 +92,6 @@ fold-spec =
     (tie.spec
     Inv-loop
     μ-loop
-    empty-requires
     loop-holds
     mul-at
     shared-slice-read-at
