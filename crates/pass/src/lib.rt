@@ -3,29 +3,32 @@ ghost use mathlib.Core.Path.{_≡_};
 ghost use Prim.Native.Nat.{_≤_};
 ghost use lib.ListN.{length, take};
 ghost use Rattle.ops.specs.Kinds.{kindTable};
-ghost use Rattle.sets.specs.Words.{members};
-ghost use Rattle.block.specs.Rules.{keptIn};
 ghost use Rattle.passes.specs.Passes.{passOf};
-ghost use Rattle.passes.specs.Ready.{Ready};
+ghost use Rattle.passes.specs.Ready.{bounded, ClassesOf, Ready};
 use emit::copy;
 use kinds::table;
 use passes::Written;
 use scan::scan;
 
-// The variables that outlive a basic block, of n with these classes.
-fn outliving(classes: &[u8], n: usize) -> [u64; 4]
-    requires { ⌜ (n ≤ 256) × (n ≤ length (now classes)) ⌝ }
-    ensures { λ r. ⌜ members r ≡ keptIn (take n (now (classes .entry))) ⌝ }
+// A class: 2 for any above.
+fn bounded_class(class: u8) -> u8
+    ensures { λ r. ⌜ r ≡ bounded class ⌝ }
 {
-    let mut kept = sets::empty();
+    if class < 2 { class } else { 2 }
+}
+
+// The classes of n variables: 0 globals, 1 local temporaries; 2 temporaries, and all that are not declared.
+fn classes_of(classes: &[u8], n: usize) -> [u8; 256]
+    requires { ⌜ (n ≤ 256) × (n ≤ length (now classes)) ⌝ }
+    ensures { λ r. ⌜ ClassesOf (take n (now (classes .entry))) r ⌝ }
+{
+    let mut of = [2u8; 256];
     let mut i: usize = 0;
     while i < n {
-        if classes[i] < 2 {
-            sets::add(&mut kept, i as u8);
-        }
+        of[i] = bounded_class(classes[i]);
         i += 1;
     }
-    kept
+    of
 }
 
 // The pass of an accepted block, with room for the marks and the constants of its ops.
@@ -35,17 +38,16 @@ fn write_result(
     start: usize,
     ops: usize,
     places: &[u16; 256],
-    globals: &[u64; 4],
-    kept: &[u64; 4],
+    classes: &[u8; 256],
     marks: &mut [u8],
     constants: &mut [u64],
     out: &mut [u8],
 ) -> Written
-    requires { ⌜ Ready (now block) (now places) (members (now globals)) (members (now kept)) start ops × (ops ≤ length (now marks)) × (ops ≤ length (now constants)) × (now kinds ≡ kindTable) ⌝ }
+    requires { ⌜ Ready (now block) (now places) (now classes) start ops × (ops ≤ length (now marks)) × (ops ≤ length (now constants)) × (now kinds ≡ kindTable) ⌝ }
     ensures { λ r. ⌜ (r ≡ (passOf (now (block .entry)) (now (out .entry))) .answer) × (now (out .exit) ≡ (passOf (now (block .entry)) (now (out .entry))) .out) ⌝ }
 {
     fold::fold(kinds, block, ops, places, marks, constants);
-    let size = start + prune::prune(kinds, block, ops, places, globals, kept, marks);
+    let size = start + prune::prune(kinds, block, ops, places, classes, marks);
     if out.len() < size {
         return Written::Refused {
             number: 12,
@@ -64,11 +66,10 @@ fn write_short(
     start: usize,
     ops: usize,
     places: &[u16; 256],
-    globals: &[u64; 4],
-    kept: &[u64; 4],
+    classes: &[u8; 256],
     out: &mut [u8],
 ) -> Written
-    requires { ⌜ Ready (now block) (now places) (members (now globals)) (members (now kept)) start ops × (ops ≤ 64) × (now kinds ≡ kindTable) ⌝ }
+    requires { ⌜ Ready (now block) (now places) (now classes) start ops × (ops ≤ 64) × (now kinds ≡ kindTable) ⌝ }
     ensures { λ r. ⌜ (r ≡ (passOf (now (block .entry)) (now (out .entry))) .answer) × (now (out .exit) ≡ (passOf (now (block .entry)) (now (out .entry))) .out) ⌝ }
 {
     let mut marks = [0u8; 64];
@@ -79,8 +80,7 @@ fn write_short(
         start,
         ops,
         places,
-        globals,
-        kept,
+        classes,
         &mut marks,
         &mut constants,
         out,
@@ -94,11 +94,10 @@ fn write_long(
     start: usize,
     ops: usize,
     places: &[u16; 256],
-    globals: &[u64; 4],
-    kept: &[u64; 4],
+    classes: &[u8; 256],
     out: &mut [u8],
 ) -> Written
-    requires { ⌜ Ready (now block) (now places) (members (now globals)) (members (now kept)) start ops × (now kinds ≡ kindTable) ⌝ }
+    requires { ⌜ Ready (now block) (now places) (now classes) start ops × (now kinds ≡ kindTable) ⌝ }
     ensures { λ r. ⌜ (r ≡ (passOf (now (block .entry)) (now (out .entry))) .answer) × (now (out .exit) ≡ (passOf (now (block .entry)) (now (out .entry))) .out) ⌝ }
 {
     let mut marks = [0u8; 256];
@@ -109,8 +108,7 @@ fn write_long(
         start,
         ops,
         places,
-        globals,
-        kept,
+        classes,
         &mut marks,
         &mut constants,
         out,
@@ -141,10 +139,9 @@ pub fn pass(block: &[u8], out: &mut [u8]) -> Written
             place: s.place,
         };
     }
-    let kept = outliving(&classes, s.variables);
-    let globals = sets::below(s.globals);
+    let classes = classes_of(&classes, s.variables);
     if s.ops <= 64 {
-        return write_short(&kinds, block, s.start, s.ops, &places, &globals, &kept, out);
+        return write_short(&kinds, block, s.start, s.ops, &places, &classes, out);
     }
-    write_long(&kinds, block, s.start, s.ops, &places, &globals, &kept, out)
+    write_long(&kinds, block, s.start, s.ops, &places, &classes, out)
 }

@@ -6,8 +6,9 @@ pub mod Placing
 pub mod Bytes
 pub mod Counts
 pub mod Constants
-pub mod Liveness
+pub mod Classes
 pub mod Before
+pub mod Events
 pub mod Pruning
 pub mod Knowing
 pub mod Forward

@@ -1,5 +1,5 @@
 -- The pass of a block: its declarations' bytes, and the result in the buffer. Assumes nothing.
-use mathlib.Core.Path.{_≡_, refl, sym, ap, ap₂, _∙_, fun-ext}
+use mathlib.Core.Path.{_≡_, refl, sym, ap, ap₂, _∙_}
 use mathlib.Core.Bool.{Bool, true, false, cond}
 use mathlib.Core.List.{List, [], _∷_, _++_, append-assoc}
 use Prim.Native.Nat.{ℕ, zero, suc, _+_, _*_, _≤_, _<_}
@@ -22,13 +22,11 @@ use Rattle.block.proofs.Accepts.{check-accepts}
 use Rattle.block.proofs.Checker.{declaredIn, few-ops}
 use Rattle.block.proofs.Cut.{split-records}
 use Rattle.block.proofs.Parts.{Parts, parts}
-use Rattle.runs.proofs.Ran.{global-few}
 use Rattle.passes.specs.Knows.{foldedOps}
 use Rattle.passes.specs.Laid.{opsAt, keptFrom}
 use Rattle.passes.specs.Live.{Keeps}
 use Rattle.passes.specs.Passes.{passOps, resultOf, Passed, passRefused, written, passChecked, passOf, passBy}
-use Rattle.passes.specs.Ready.{Ready}
-use Rattle.passes.proofs.Liveness.{globals-first}
+use Rattle.passes.specs.Ready.{ClassesOf, Ready}
 use Rattle.passes.proofs.Placing.{scan-laid, scan-ops, scan-first}
 use Rattle.passes.proofs.Result.{declarations-size, ops-size, concat-append, parts-size, kept-parts, result-of, pass-answers}
 use Rattle.passes.proofs.Stores.{sets-append}
@@ -67,7 +65,7 @@ classes-length [] = refl
 classes-length (d ∷ ds) = ap suc (classes-length ds)
 
 -- an accepted block
-module _ {block places : List ℕ} {glob kept : Vars} {start ops : ℕ} (r : Ready block places glob kept start ops) where
+module _ {block places classes : List ℕ} {start ops : ℕ} (r : Ready block places classes start ops) where
   abbrev ds : List (List ℕ)
   ds = declarations (recordsOf rowOf block)
 
@@ -100,14 +98,14 @@ module _ {block places : List ℕ} {glob kept : Vars} {start ops : ℕ} (r : Rea
       ∙ ap (λ (b : Bool). cond b (written (resultOf document01 block) out) (passRefused 12 0 out)) (lt-leb (length (resultOf document01 block)) (length out) l)
 
   -- what prune keeps of what fold leaves
-  module _ {marks₀ marks : List ℕ} {size : ℕ} (k : Keeps (foldedOps (opsAt block places 0 ops)) glob kept marks₀ marks size) where
+  module _ {marks₀ marks : List ℕ} {size : ℕ} (k : Keeps (foldedOps (opsAt block places 0 ops)) (globalsIn classes) (keptIn classes) marks₀ marks size) where
     abbrev left : List ℕ
     left = concat (keptFrom 0 marks (foldedOps (opsAt block places 0 ops)))
 
     kept-ops : keptFrom 0 marks (foldedOps (opsAt block places 0 ops)) ≡ passOps document01 (classesOf ds) os
     unfolding passOps
     kept-ops =
-        k .kept-are ∙ ap₂ (λ (g m : Vars). prune (tcg document01) g m (foldedOps (opsAt block places 0 ops))) (r .globals-are) (r .kept-are)
+        k .kept-are ∙ ap₂ (λ (g m : Vars). prune (tcg document01) g m (foldedOps (opsAt block places 0 ops))) (r .classes-are .globals-so) (r .classes-are .kept-so)
         ∙ ap (λ (q : List (List ℕ)). prune (tcg document01) (globalsIn (classesOf ds)) (keptIn (classesOf ds)) (foldedOps q)) (r .ops-are)
 
     result-is : resultOf document01 block ≡ concat ds ++ left
@@ -168,8 +166,8 @@ module _ {block places₀ classes types places labels : List ℕ} {start n globa
   block-small : length block < 65536
   block-small = omega (arith, all-bytes, a .start-is, a .few, ops-few, ops-size lawful ops-in (its .wholes .1))
 
-  ready : length places₀ ≡ 256 → {glob kept : Vars} → ((v : ℕ) → glob v ≡ ltb v globals) → kept ≡ keptIn (take n classes) → Ready block places glob kept start ops
-  ready l g k =
+  ready : length places₀ ≡ 256 → {of : List ℕ} → ClassesOf (take n classes) of → Ready block places of start ops
+  ready l {of} c =
       let room : length ops-in ≤ length places₀ = omega (arith, ops-few) in
       record {
         accepted = a .accepted;
@@ -178,21 +176,20 @@ module _ {block places₀ classes types places labels : List ℕ} {start n globa
         laid = rw (a .count-is) (scan-laid block places₀ places start ops-in (a .ops-are) (a .places-are) room all-bytes block-small);
         ops-are = rw (a .count-is) (scan-ops block places₀ places start ops-in (a .ops-are) (a .places-are) room all-bytes block-small);
         count-is = a .count-is;
-        globals-are = fun-ext (λ v. g v ∙ ap (ltb v) (a .globals-are) ∙ sym (globals-first rowOf unread declared (its .all-declared) (its .met) v));
-        kept-are = k ∙ ap keptIn (sym (a .classes-are));
+        classes-are = rw (a .classes-are) c;
       }
 
-  few : (n ≤ 256) × (globals ≤ 256) × (length classes ≡ 256)
-  few = (omega (arith, a .few), omega (arith, a .few, a .globals-are, global-few (classesOf declared), classes-length declared, counted), a .long-classes)
+  few : (n ≤ 256) × (length classes ≡ 256)
+  few = (omega (arith, a .few), a .long-classes)
 
 -- of an accepted block, and of a refused one
 module _ {block places₀ classes types places labels : List ℕ} {start n globals ops : ℕ} where
-  pub ready-by : {rule place : ℕ} {glob kept : Vars} → Scanned rowOf block places₀ classes types places labels rule place start n globals ops → rule ≡ 0
-      → length places₀ ≡ 256 → ((v : ℕ) → glob v ≡ ltb v globals) → kept ≡ keptIn (take n classes) → Ready block places glob kept start ops
-  ready-by (rejected z q) e l g k = absurd (z e)
-  ready-by (approved a) e l g k = ready a l g k
+  pub ready-by : {rule place : ℕ} {of : List ℕ} → Scanned rowOf block places₀ classes types places labels rule place start n globals ops → rule ≡ 0
+      → length places₀ ≡ 256 → ClassesOf (take n classes) of → Ready block places of start ops
+  ready-by (rejected z q) e l c = absurd (z e)
+  ready-by (approved a) e l c = ready a l c
 
-  pub few-by : {rule place : ℕ} → Scanned rowOf block places₀ classes types places labels rule place start n globals ops → rule ≡ 0 → (n ≤ 256) × (globals ≤ 256) × (length classes ≡ 256)
+  pub few-by : {rule place : ℕ} → Scanned rowOf block places₀ classes types places labels rule place start n globals ops → rule ≡ 0 → (n ≤ 256) × (length classes ≡ 256)
   few-by (rejected z q) e = absurd (z e)
   few-by (approved a) e = few a
 

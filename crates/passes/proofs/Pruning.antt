@@ -41,10 +41,10 @@ module _ {b : List ℕ} {p m x : ℕ} {o : List ℕ} (s : Stands rowOf b p (getD
       go (inl z) = ap (λ (q : List ℕ). dead (viewOf document01 q) l) (w .stays z)
       go (inr z) = rw ((w .becomes z) .view-is, pure-view s ((w .becomes z) .role-is))
 
-  left-live : (glob kept l : Vars) → liveBefore glob kept o l ≡ liveAs m glob kept b p l
+  left-live : (glob kept l : Vars) → liveBefore glob kept o l ≡ liveAs m b p glob kept l
   left-live glob kept l = go (below-two m few)
     where
-      go : (m ≡ 0) ⊎ (m ≡ 1) → liveBefore glob kept o l ≡ liveAs m glob kept b p l
+      go : (m ≡ 0) ⊎ (m ≡ 1) → liveBefore glob kept o l ≡ liveAs m b p glob kept l
       go (inl z) = rw (ne-eqb m 1 (λ y. omega arith)) (ap (λ (q : List ℕ). liveBefore glob kept q l) (w .stays z))
       go (inr z) = rw (eq-eqb m 1 z, (w .becomes z) .view-is)
 
@@ -143,7 +143,7 @@ module _ {b P constants marks₀ marks : List ℕ} {glob kept live : Vars} {ops 
   kept-long : length o ≡ cond (eqb (getD marks i 0) 1) 10 (suc (bodyLength rowOf (getD b (getD P i 0) 0)))
   kept-long = left-long (laid .stands i h) leaves mark-few ∙ ap (cond (eqb (getD marks i 0) 1) 10) (op-long laid h)
 
-  pub pruning-kept : {live′ : Vars} {n : ℕ} → false ≡ dead (viewOf document01 (recordAt rowOf b (getD P i 0))) live → live′ ≡ liveAs (getD marks i 0) glob kept b (getD P i 0) live
+  pub pruning-kept : {live′ : Vars} {n : ℕ} → false ≡ dead (viewOf document01 (recordAt rowOf b (getD P i 0))) live → live′ ≡ liveAs (getD marks i 0) b (getD P i 0) glob kept live
       → n ≡ cond (eqb (getD marks i 0) 1) 10 (suc (bodyLength rowOf (getD b (getD P i 0) 0))) → Pruning (foldedOps (opsAt b P 0 ops)) glob kept marks₀ marks live′ i (size + n)
   pruning-kept {live′} {n} d m e =
       let w = dead-so ∙ sym d in

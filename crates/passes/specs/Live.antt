@@ -2,15 +2,16 @@
 use mathlib.Core.Path.{_≡_}
 use mathlib.Core.Bool.{cond, _||_}
 use mathlib.Core.List.{List, [], _∷_}
-use Prim.Native.Nat.{ℕ, _+_, _<_}
-use lib.Dec.{eqb}
+use Prim.Native.Nat.{ℕ, _+_, _%_, _≤_, _<_}
+use lib.Dec.{eqb, ltb}
 use lib.ListN.{length, getD}
-use Rattle.theory.specs.Sets.{Vars, without, both}
+use Rattle.theory.specs.Sets.{Vars, has, without, both}
 use Rattle.theory.specs.Prune.{before, prune}
-use Rattle.ops.specs.Rows.{Role, isPure, isClosing, isSetting, isJumping}
-use Rattle.ops.specs.Ops.{viewOf, tcg}
+use Rattle.ops.specs.Rows.{Role, roleIn, roleNo, outsIn, isPure, isClosing, isSetting, isJumping}
+use Rattle.ops.specs.Ops.{bytesAt, viewOf, tcg}
 use Rattle.ops.specs.Kinds.{rowOf, document01}
 use Rattle.block.specs.Records.{concat}
+use Rattle.block.specs.Rules.{globalsIn, keptIn}
 use Rattle.block.specs.Scan.{recordAt}
 use Rattle.passes.specs.Laid.{opsAt, Leaves, keptFrom}
 use Rattle.passes.specs.Knows.{foldedOps}
@@ -25,10 +26,40 @@ beforeBy role globals kept outs l =
     cond (isClosing role) (cond (isSetting role || isJumping role) kept globals)
     (cond (isPure role) (without l outs) (both globals (without l outs)))
 
+-- the same for the op with this entry at a place
+abbrev pub beforeAt : ℕ → List ℕ → ℕ → Vars → Vars → Vars → Vars
+beforeAt e block place globals kept l = beforeBy (roleNo (roleIn e)) globals kept (bytesAt block (place + 1) (outsIn e)) l
+
 -- what is live before the op that fold leaves of the one at a place, by its mark
-abbrev pub liveAs : ℕ → Vars → Vars → List ℕ → ℕ → Vars → Vars
-liveAs mark globals kept block place l =
+abbrev pub liveAs : ℕ → List ℕ → ℕ → Vars → Vars → Vars → Vars
+liveAs mark block place globals kept l =
     cond (eqb mark 1) (without l (getD block (place + 1) 0 ∷ [])) (liveBefore globals kept (recordAt rowOf block place) l)
+
+-- Prune holds what is live as the times of the last events, which grow as it reads backward: of each variable, and of each class. An odd time
+-- makes live, an even one ends that; the later of the two decides.
+abbrev pub lastOf : ℕ → ℕ → ℕ
+lastOf own all = cond (ltb own all) all own
+
+abbrev pub liveOf : List ℕ → List ℕ → List ℕ → Vars
+liveOf events floors classes v = eqb (lastOf (getD events v 0) (getD floors (getD classes v 2 % 4) 0) % 2) 1
+
+-- no event is later than now
+pub record Young (events floors : List ℕ) (now : ℕ) : Type 0 where
+  pub events-young : (v : ℕ) → getD events v 0 ≤ now
+  pub floors-young : (c : ℕ) → getD floors c 0 ≤ now
+
+-- each class is one of the three
+pub record Classed (classes : List ℕ) : Type 0 where
+  pub class-few : (v : ℕ) → getD classes v 2 < 3
+
+-- what was live becomes this, of globals, variables that outlive a basic block, and what was live
+pub record Turns (events floors : List ℕ) (now : ℕ) (f : Vars → Vars → Vars → Vars) (events′ floors′ : List ℕ) : Type 0 where
+  pub live-so : (classes : List ℕ) → Classed classes → Young events floors now → liveOf events′ floors′ classes ≡ f (globalsIn classes) (keptIn classes) (liveOf events floors classes)
+  pub young-so : Young events floors now → Young events′ floors′ (now + 1)
+
+-- each of these variables has this time
+pub record Timed (events vs : List ℕ) (time : ℕ) (events′ : List ℕ) : Type 0 where
+  pub times-are : (v : ℕ) → getD events′ v 0 ≡ cond (has vs v) time (getD events v 0)
 
 -- prune keeps the ops whose mark is below 2, as they were marked, and they have so many bytes
 pub record Keeps (ops : List (List ℕ)) (globals kept : Vars) (marks₀ marks : List ℕ) (size : ℕ) : Type 0 where

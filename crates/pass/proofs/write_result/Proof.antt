@@ -13,7 +13,7 @@ fold-requires c κs =
 prune-requires : tie.Need-prune-requires
 prune-requires c κs =
     let pre = c .before .before .before .before .before .before .before .before .before .before .before .before .before .before .pre in
-    (pre .0 .laid, record { constants = _; folded = c .before .before .before .before .before .before .fold .ensures }, few-here (pre .0), omega (arith, few-here (pre .0)), omega (arith, pre .1, c .before .before .before .before .before .marks .given), pre .3)
+    (pre .0 .laid, record { constants = _; folded = c .before .before .before .before .before .before .fold .ensures }, pre .0 .classes-are .few, few-here (pre .0), omega (arith, few-here (pre .0)), omega (arith, pre .1, c .before .before .before .before .before .marks .given), pre .3)
 
 add-size : tie.Need-add-size
 add-size c = omega (arith, size-small (c .before .before .before .before .before .before .before .before .before .before .before .before .before .before .before .before .before .pre .0) (c .before .before .prune .ensures))
