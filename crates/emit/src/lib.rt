@@ -1,18 +1,21 @@
-// Records written one after the other, in runs: those between two places are copied in one go.
+// The kept ops written one after the other, in runs: those that stay between two others are copied in one go.
 ghost use mathlib.Core.Path.{_≡_};
 ghost use mathlib.Core.Bool.{cond};
 ghost use mathlib.Core.List.{_∷_, _++_};
 ghost use Prim.Native.Nat.{_+_, _-_, _%_, _≤_};
-ghost use lib.Dec.{ltb};
+ghost use lib.Dec.{eqb, ltb};
 ghost use lib.ListN.{length, getD, take, drop};
 ghost use lib.Seq.{sets};
 ghost use Rattle.memory.specs.Bytes.{bytesOf};
 ghost use Rattle.ops.specs.Rows.{computing, roleOf, typesIn};
 ghost use Rattle.ops.specs.Ops.{folding};
 ghost use Rattle.ops.specs.Kinds.{kindTable, rowOf, document01, moviKind};
-ghost use Rattle.block.specs.Records.{recordsOf, concat};
+ghost use Rattle.block.specs.Records.{concat};
 ghost use Rattle.block.specs.Scan.{recordAt, Stands};
-ghost use Rattle.passes.specs.Laid.{Laid, keptFrom};
+ghost use Rattle.passes.specs.Knows.{foldedOps};
+ghost use Rattle.passes.specs.Laid.{opsAt, placeOf, Laid, editOf, keptFrom};
+ghost use Rattle.passes.specs.Live.{Marked};
+use kinds::entry;
 use kinds::types;
 use memory::put_low;
 
@@ -46,7 +49,7 @@ fn movi_kind(e: u32) -> u8
 }
 
 // The records from a place up to an op, and the constant in the op's place; where the next goes.
-pub fn put_constant(
+fn put_constant(
     e: u32,
     block: &[u8],
     from: usize,
@@ -64,7 +67,7 @@ pub fn put_constant(
     to + n + 10
 }
 
-// The place of the i-th record, or the end if there is none.
+// The place of the i-th op, or the end if there is none.
 fn place_at(places: &[u16], i: usize, count: usize, end: usize) -> usize
     requires { ⌜ count ≤ length (now places) ⌝ }
     ensures { λ r. ⌜ r ≡ cond (ltb i count) (getD (now (places .entry)) i 0) end ⌝ }
@@ -75,25 +78,55 @@ fn place_at(places: &[u16], i: usize, count: usize, end: usize) -> usize
     end
 }
 
-// The records that are kept, from start on in out.
-pub fn emit(block: &[u8], count: usize, places: &[u16], keep: &[u8], out: &mut [u8], start: usize)
-    requires { ⌜ Laid (now block) (now places) (recordsOf rowOf (now block)) count × (count ≤ length (now places)) × (count ≤ length (now keep)) × (start + length (concat (keptFrom 0 (now keep) (recordsOf rowOf (now block)))) ≤ length (now out)) ⌝ }
-    ensures { λ _. ⌜ now (out .exit) ≡ sets (now (out .entry)) start (concat (keptFrom 0 (now (keep .entry)) (recordsOf rowOf (now (block .entry))))) ⌝ }
+// The records from a place up to an op that does not stay, and the constant if one takes its place; where the next goes.
+fn put_edit(
+    e: u32,
+    mark: u8,
+    block: &[u8],
+    from: usize,
+    at: usize,
+    value: u64,
+    out: &mut [u8],
+    to: usize,
+) -> usize
+    requires { ⌜ Stands rowOf (now block) at (getD (now block) at 0) × (mark ≡ 1 → roleOf rowOf (getD (now block) at 0) ≡ computing) × (e ≡ getD kindTable (getD (now block) at 0) 0) × (from ≤ at) × (to + (at - from) + cond (eqb mark 1) 10 0 ≤ length (now out)) ⌝ }
+    ensures { λ r. ⌜ (r ≡ to + (at - from) + cond (eqb mark 1) 10 0) × (now (out .exit) ≡ sets (now (out .entry)) to (take (at - from) (drop from (now (block .entry))) ++ editOf (now (block .entry)) at mark value)) ⌝ }
+{
+    if mark == 1 {
+        return put_constant(e, block, from, at, value, out, to);
+    }
+    let n = at - from;
+    copy(block, from, n, out, to);
+    to + n
+}
+
+// The kept ops, from start on in out, where the first op of the block starts too.
+pub fn emit(
+    kinds: &[u32; 256],
+    block: &[u8],
+    start: usize,
+    ops: usize,
+    places: &[u16],
+    marks: &[u8],
+    constants: &[u64],
+    out: &mut [u8],
+)
+    requires { ⌜ Laid (now block) (now places) ops × Marked (now block) (now places) (now marks) (now constants) ops × (placeOf (now block) (now places) ops 0 ≡ start) × (start ≤ length (now block)) × (ops ≤ length (now places)) × (ops ≤ length (now marks)) × (ops ≤ length (now constants)) × (now kinds ≡ kindTable) × (start + length (concat (keptFrom 0 (now marks) (foldedOps (opsAt (now block) (now places) 0 ops)))) ≤ length (now out)) ⌝ }
+    ensures { λ _. ⌜ now (out .exit) ≡ sets (now (out .entry)) start (concat (keptFrom 0 (now (marks .entry)) (foldedOps (opsAt (now (block .entry)) (now (places .entry)) 0 ops)))) ⌝ }
 {
     let end = block.len();
-    let mut from: usize = 0;
-    let mut at: usize = 0;
+    let mut from = start;
     let mut to = start;
     let mut i: usize = 0;
-    while i < count {
-        let next = place_at(places, i + 1, count, end);
-        if keep[i] != 1 {
-            copy(block, from, at - from, out, to);
-            to += at - from;
-            from = next;
+    while i < ops {
+        let mark = marks[i];
+        if mark != 0 {
+            let at = places[i] as usize;
+            let e = entry(kinds, block[at]);
+            to = put_edit(e, mark, block, from, at, constants[i], out, to);
+            from = place_at(places, i + 1, ops, end);
         }
-        at = next;
         i += 1;
     }
-    copy(block, from, at - from, out, to);
+    copy(block, from, end - from, out, to);
 }

@@ -1,49 +1,49 @@
-// Fold: the values known in a basic block, and the records that it leaves.
+// Fold: the values known in a basic block, and the ops that constants replace.
 ghost use mathlib.Core.Path.{_≡_};
 ghost use mathlib.Core.Option.{some};
-ghost use Prim.Native.Nat.{_+_, _*_, _≤_};
-ghost use lib.ListN.{length, getD, take};
+ghost use Prim.Native.Nat.{_+_, _≤_};
+ghost use lib.ListN.{length, getD};
 ghost use Rattle.theory.specs.Machine.{upd};
 ghost use Rattle.ops.specs.Kinds.{kindTable, rowOf};
 ghost use Rattle.ops.specs.Ops.{bytesAt};
-ghost use Rattle.sets.specs.Words.{members};
-ghost use Rattle.block.specs.Scan.{Stands, recordsAt};
-ghost use Rattle.passes.specs.Knows.{knownOf, everyIn, StatesKnown, Stays, Folds, foldedOps};
+ghost use Rattle.block.specs.Scan.{Stands, marked};
+ghost use Rattle.passes.specs.Knows.{knownOf, everyIn, StatesKnown, Stays, Folds, Folded};
 ghost use Rattle.passes.specs.Laid.{Laid};
-use emit::copy;
-use emit::put_constant;
-use kinds::body_length;
 use kinds::entry;
 use kinds::ins;
 use kinds::is_computing;
 use kinds::outs;
 use kinds::role;
+use marks::put;
 use memory::low_first;
 use ops::CONSTANT;
 use ops::LOADS;
-use sets::add;
-use sets::empty;
-use sets::has;
-use sets::remove_all;
 use values::evaluate;
 use word::Stated;
 
-// A variable's value is known.
-fn learn(known: &mut [u64; 4], values: &mut [u64; 256], v: u8, x: u64)
-    ensures { λ _. ⌜ knownOf (members (now (known .exit))) (now (values .exit)) ≡ upd (knownOf (members (now (known .entry))) (now (values .entry))) v (some x) ⌝ }
+// Whether a variable's value is known: its byte is 1.
+fn is_known(known: &[u8; 256], v: u8) -> bool
+    ensures { λ r. ⌜ r ≡ marked (now (known .entry)) v ⌝ }
 {
-    add(known, v);
+    known[v as usize] == 1
+}
+
+// A variable's value is known.
+fn learn(known: &mut [u8; 256], values: &mut [u64; 256], v: u8, x: u64)
+    ensures { λ _. ⌜ knownOf (marked (now (known .exit))) (now (values .exit)) ≡ upd (knownOf (marked (now (known .entry))) (now (values .entry))) v (some x) ⌝ }
+{
+    put(known, v, 1);
     values::put(values, v, x);
 }
 
 // Whether the variables that the bytes from a place on name are known.
-fn all_known(block: &[u8], from: usize, count: usize, known: &[u64; 4]) -> bool
+fn each_known(block: &[u8], from: usize, count: usize, known: &[u8; 256]) -> bool
     requires { ⌜ from + count ≤ length (now block) ⌝ }
-    ensures { λ r. ⌜ r ≡ everyIn (bytesAt (now (block .entry)) from count) (members (now (known .entry))) ⌝ }
+    ensures { λ r. ⌜ r ≡ everyIn (bytesAt (now (block .entry)) from count) (marked (now (known .entry))) ⌝ }
 {
     let mut j: usize = 0;
     while j < count {
-        if !has(known, block[from + j]) {
+        if !is_known(known, block[from + j]) {
             return false;
         }
         j += 1;
@@ -51,10 +51,21 @@ fn all_known(block: &[u8], from: usize, count: usize, known: &[u64; 4]) -> bool
     true
 }
 
+// The same: of one or two, the first and the last without a loop.
+fn all_known(block: &[u8], from: usize, count: usize, known: &[u8; 256]) -> bool
+    requires { ⌜ from + count ≤ length (now block) ⌝ }
+    ensures { λ r. ⌜ r ≡ everyIn (bytesAt (now (block .entry)) from count) (marked (now (known .entry))) ⌝ }
+{
+    if (count == 0) | (2 < count) {
+        return each_known(block, from, count, known);
+    }
+    is_known(known, block[from]) & is_known(known, block[from + count - 1])
+}
+
 // What an op that may fold states, where all its inputs are known.
-fn stated_by(e: u32, block: &[u8], at: usize, known: &[u64; 4], values: &[u64; 256]) -> Stated
+fn stated_by(e: u32, block: &[u8], at: usize, known: &[u8; 256], values: &[u64; 256]) -> Stated
     requires { ⌜ Stands rowOf (now block) at (getD (now block) at 0) × (e ≡ getD kindTable (getD (now block) at 0) 0) ⌝ }
-    ensures { λ r. ⌜ StatesKnown (now (block .entry)) at (members (now (known .entry))) (now (values .entry)) r ⌝ }
+    ensures { λ r. ⌜ StatesKnown (now (block .entry)) at (marked (now (known .entry))) (now (values .entry)) r ⌝ }
 {
     if !is_computing(e) {
         return Stated::NoResult;
@@ -66,9 +77,9 @@ fn stated_by(e: u32, block: &[u8], at: usize, known: &[u64; 4], values: &[u64; 2
 }
 
 // What is known after an op that stays as it is.
-fn pass_over(e: u32, block: &[u8], at: usize, known: &mut [u64; 4], values: &mut [u64; 256])
-    requires { ⌜ Stands rowOf (now block) at (getD (now block) at 0) × (e ≡ getD kindTable (getD (now block) at 0) 0) × StatesKnown (now block) at (members (now known)) (now values) Stated.NoResult ⌝ }
-    ensures { λ _. ⌜ Stays (now (block .entry)) at (members (now (known .entry))) (now (values .entry)) (members (now (known .exit))) (now (values .exit)) ⌝ }
+fn pass_over(e: u32, block: &[u8], at: usize, known: &mut [u8; 256], values: &mut [u64; 256])
+    requires { ⌜ Stands rowOf (now block) at (getD (now block) at 0) × (e ≡ getD kindTable (getD (now block) at 0) 0) × StatesKnown (now block) at (marked (now known)) (now values) Stated.NoResult ⌝ }
+    ensures { λ _. ⌜ Stays (now (block .entry)) at (marked (now (known .entry))) (now (values .entry)) (marked (now (known .exit))) (now (values .exit)) ⌝ }
 {
     let r = role(e);
     if r == CONSTANT {
@@ -76,16 +87,24 @@ fn pass_over(e: u32, block: &[u8], at: usize, known: &mut [u64; 4], values: &mut
         return;
     }
     if r < LOADS {
-        *known = empty();
+        *known = [0u8; 256];
         return;
     }
-    remove_all(block, at + 1, outs(e), known);
+    if outs(e) == 1 {
+        put(known, block[at + 1], 0);
+    }
 }
 
 // Fold at one op: the constant's value if one takes its place.
-fn fold_op(e: u32, block: &[u8], at: usize, known: &mut [u64; 4], values: &mut [u64; 256]) -> Stated
+fn fold_op(
+    e: u32,
+    block: &[u8],
+    at: usize,
+    known: &mut [u8; 256],
+    values: &mut [u64; 256],
+) -> Stated
     requires { ⌜ Stands rowOf (now block) at (getD (now block) at 0) × (e ≡ getD kindTable (getD (now block) at 0) 0) ⌝ }
-    ensures { λ r. ⌜ Folds (now (block .entry)) at (members (now (known .entry))) (now (values .entry)) (members (now (known .exit))) (now (values .exit)) r ⌝ }
+    ensures { λ r. ⌜ Folds (now (block .entry)) at (marked (now (known .entry))) (now (values .entry)) (marked (now (known .exit))) (now (values .exit)) r ⌝ }
 {
     let stated = stated_by(e, block, at, known, values);
     match stated {
@@ -100,40 +119,34 @@ fn fold_op(e: u32, block: &[u8], at: usize, known: &mut [u64; 4], values: &mut [
     }
 }
 
-// The records that fold leaves of so many ops, one after the other in out, and the place of each; where they end. Those
-// that stay are copied in runs.
+// Fold of so many ops: the mark of each, 1 where a constant takes its place, and the constants' values.
 pub fn fold(
     kinds: &[u32; 256],
     block: &[u8],
-    start: usize,
     ops: usize,
-    out: &mut [u8],
-    places: &mut [u16],
-) -> usize
-    requires { ⌜ (start ≤ length (now block)) × (ops ≡ length (recordsAt rowOf (now block) start)) × (ops ≤ 256) × (ops ≤ length (now places)) × (10 * ops ≤ length (now out)) × (now kinds ≡ kindTable) ⌝ }
-    ensures { λ r. ⌜ (r ≤ length (now (out .exit))) × Laid (take r (now (out .exit))) (now (places .exit)) (foldedOps (recordsAt rowOf (now (block .entry)) start)) ops ⌝ }
+    places: &[u16],
+    marks: &mut [u8],
+    constants: &mut [u64],
+)
+    requires { ⌜ Laid (now block) (now places) ops × (ops ≤ length (now places)) × (ops ≤ length (now marks)) × (ops ≤ length (now constants)) × (now kinds ≡ kindTable) ⌝ }
+    ensures { λ _. ⌜ Folded (now (block .entry)) (now (places .entry)) (now (marks .exit)) (now (constants .exit)) ops ⌝ }
 {
-    let mut known = empty();
+    let mut known = [0u8; 256];
     let mut values = [0u64; 256];
-    let mut from = start;
-    let mut at = start;
-    let mut to: usize = 0;
     let mut i: usize = 0;
     while i < ops {
+        let at = places[i] as usize;
         let e = entry(kinds, block[at]);
-        let next = at + 1 + body_length(e);
-        places[i] = (to + at - from) as u16;
         let stated = fold_op(e, block, at, &mut known, &mut values);
         match stated {
             Stated::Value(x) => {
-                to = put_constant(e, block, from, at, x, out, to);
-                from = next;
+                marks[i] = 1;
+                constants[i] = x;
             }
-            Stated::NoResult => {}
+            Stated::NoResult => {
+                marks[i] = 0;
+            }
         }
-        at = next;
         i += 1;
     }
-    copy(block, from, at - from, out, to);
-    to + at - from
 }

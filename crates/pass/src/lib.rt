@@ -1,50 +1,59 @@
 // The pass: fold, prune and the result in the lent buffer.
 ghost use mathlib.Core.Path.{_≡_};
-ghost use Prim.Native.Nat.{_*_, _≤_};
-ghost use lib.ListN.{length};
+ghost use mathlib.Core.Bool.{cond};
+ghost use Prim.Native.Nat.{ℕ, _≤_};
+ghost use lib.Dec.{ltb};
+ghost use lib.ListN.{length, getD};
 ghost use Rattle.ops.specs.Kinds.{kindTable};
-ghost use Rattle.sets.specs.Words.{members};
 ghost use Rattle.passes.specs.Passes.{passOf};
-ghost use Rattle.passes.specs.Ready.{Ready, outlivingIn};
+ghost use Rattle.passes.specs.Ready.{classBy, classIn, Ready};
 use emit::copy;
 use kinds::table;
 use passes::Written;
 use scan::scan;
 
-// The variables that outlive a basic block, of n with these bytes.
-fn outliving(base: &[u8; 256], n: usize) -> [u64; 4]
-    requires { ⌜ (n ≤ 256) × (length (now base) ≡ 256) ⌝ }
-    ensures { λ r. ⌜ members r ≡ outlivingIn (now (base .entry)) n ⌝ }
+// The class of the i-th variable, which has this byte, where so many are globals.
+fn class_of(code: u8, i: usize, globals: usize) -> u8
+    ensures { λ r. ⌜ r ≡ classBy code i globals ⌝ }
 {
-    let mut kept = sets::empty();
-    let mut i: usize = 0;
-    while i < n {
-        if base[i] < 15 {
-            sets::add(&mut kept, i as u8);
-        }
-        i += 1;
+    if i < globals {
+        return 0;
     }
-    kept
+    if code < 15 { 1 } else { 2 }
 }
 
-// The pass of an accepted block, with room for its ops: their places, a byte for each, and ten bytes for each.
+// The classes of n variables with these bytes: 0 globals, 1 local temporaries; 2 temporaries, and all that are not declared.
+fn classes_of(base: &[u8; 256], globals: usize, n: usize) -> [u8; 256]
+    requires { ⌜ n ≤ 256 ⌝ }
+    ensures { λ r. ⌜ ((v : ℕ) → getD r v 2 ≡ cond (ltb v n) (classIn (now (base .entry)) globals v) 2) ⌝ }
+{
+    let codes: &[u8] = base;
+    let mut of = [2u8; 256];
+    let mut i: usize = 0;
+    while i < n {
+        of[i] = class_of(codes[i], i, globals);
+        i += 1;
+    }
+    of
+}
+
+// The pass of an accepted block, with room for the marks and the constants of its ops.
 fn write_result(
     kinds: &[u32; 256],
     block: &[u8],
     start: usize,
     ops: usize,
-    globals: &[u64; 4],
-    kept: &[u64; 4],
-    places: &mut [u16],
-    keep: &mut [u8],
-    buf: &mut [u8],
+    places: &[u16; 256],
+    classes: &[u8; 256],
+    marks: &mut [u8],
+    constants: &mut [u64],
     out: &mut [u8],
 ) -> Written
-    requires { ⌜ Ready (now block) (members (now globals)) (members (now kept)) start ops × (ops ≤ length (now places)) × (ops ≤ length (now keep)) × (10 * ops ≤ length (now buf)) × (now kinds ≡ kindTable) ⌝ }
+    requires { ⌜ Ready (now block) (now places) (now classes) start ops × (ops ≤ length (now marks)) × (ops ≤ length (now constants)) × (now kinds ≡ kindTable) ⌝ }
     ensures { λ r. ⌜ (r ≡ (passOf (now (block .entry)) (now (out .entry))) .answer) × (now (out .exit) ≡ (passOf (now (block .entry)) (now (out .entry))) .out) ⌝ }
 {
-    let end = fold::fold(kinds, block, start, ops, buf, places);
-    let size = start + prune::prune(kinds, &buf[..end], ops, places, globals, kept, keep);
+    fold::fold(kinds, block, ops, places, marks, constants);
+    let size = start + prune::prune(kinds, block, ops, places, classes, marks);
     if out.len() < size {
         return Written::Refused {
             number: 12,
@@ -52,7 +61,7 @@ fn write_result(
         };
     }
     copy(block, 0, start, out, 0);
-    emit::emit(&buf[..end], ops, places, keep, out, start);
+    emit::emit(kinds, block, start, ops, places, marks, constants, out);
     Written::Length(size)
 }
 
@@ -62,26 +71,24 @@ fn write_short(
     block: &[u8],
     start: usize,
     ops: usize,
-    globals: &[u64; 4],
-    kept: &[u64; 4],
+    places: &[u16; 256],
+    classes: &[u8; 256],
     out: &mut [u8],
 ) -> Written
-    requires { ⌜ Ready (now block) (members (now globals)) (members (now kept)) start ops × (ops ≤ 64) × (now kinds ≡ kindTable) ⌝ }
+    requires { ⌜ Ready (now block) (now places) (now classes) start ops × (ops ≤ 64) × (now kinds ≡ kindTable) ⌝ }
     ensures { λ r. ⌜ (r ≡ (passOf (now (block .entry)) (now (out .entry))) .answer) × (now (out .exit) ≡ (passOf (now (block .entry)) (now (out .entry))) .out) ⌝ }
 {
-    let mut places = [0u16; 64];
-    let mut keep = [0u8; 64];
-    let mut buf = [0u8; 640];
+    let mut marks = [0u8; 64];
+    let mut constants = [0u64; 64];
     write_result(
         kinds,
         block,
         start,
         ops,
-        globals,
-        kept,
-        &mut places,
-        &mut keep,
-        &mut buf,
+        places,
+        classes,
+        &mut marks,
+        &mut constants,
         out,
     )
 }
@@ -92,26 +99,24 @@ fn write_long(
     block: &[u8],
     start: usize,
     ops: usize,
-    globals: &[u64; 4],
-    kept: &[u64; 4],
+    places: &[u16; 256],
+    classes: &[u8; 256],
     out: &mut [u8],
 ) -> Written
-    requires { ⌜ Ready (now block) (members (now globals)) (members (now kept)) start ops × (now kinds ≡ kindTable) ⌝ }
+    requires { ⌜ Ready (now block) (now places) (now classes) start ops × (now kinds ≡ kindTable) ⌝ }
     ensures { λ r. ⌜ (r ≡ (passOf (now (block .entry)) (now (out .entry))) .answer) × (now (out .exit) ≡ (passOf (now (block .entry)) (now (out .entry))) .out) ⌝ }
 {
-    let mut places = [0u16; 256];
-    let mut keep = [0u8; 256];
-    let mut buf = [0u8; 2560];
+    let mut marks = [0u8; 256];
+    let mut constants = [0u64; 256];
     write_result(
         kinds,
         block,
         start,
         ops,
-        globals,
-        kept,
-        &mut places,
-        &mut keep,
-        &mut buf,
+        places,
+        classes,
+        &mut marks,
+        &mut constants,
         out,
     )
 }
@@ -133,10 +138,9 @@ pub fn pass(block: &[u8], out: &mut [u8]) -> Written
         };
     }
     let kinds = table();
-    let kept = outliving(&base, s.variables);
-    let globals = sets::below(s.globals);
+    let classes = classes_of(&base, s.globals, s.variables);
     if s.ops <= 64 {
-        return write_short(&kinds, block, s.start, s.ops, &globals, &kept, out);
+        return write_short(&kinds, block, s.start, s.ops, &places, &classes, out);
     }
-    write_long(&kinds, block, s.start, s.ops, &globals, &kept, out)
+    write_long(&kinds, block, s.start, s.ops, &places, &classes, out)
 }

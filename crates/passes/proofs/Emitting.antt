@@ -1,103 +1,138 @@
--- The kept records, copied in runs. Assumes nothing.
-use mathlib.Core.Path.{_≡_, refl, sym, ap, _∙_, subst}
+-- The kept ops, copied in runs between those that are not as they were. Assumes nothing.
+use mathlib.Core.Path.{_≡_, sym, ap, _∙_, subst}
 use mathlib.Core.Bool.{true, false, cond}
-use mathlib.Core.List.{List, [], _∷_, _++_, append-nil}
+use mathlib.Core.List.{List, [], _∷_, _++_}
 use mathlib.Core.Logic.{_⊎_, inl, inr}
-use Prim.Native.Nat.{ℕ, _+_, _-_, _≤_, _<_}
+use Prim.Native.Nat.{ℕ, suc, _+_, _-_, _≤_, _<_}
 use native.Mathlib.Omega.{arith}
-use native.Mathlib.Nat.{add-zero}
 use native.Mathlib.Numerals.{add-one}
-use lib.Dec.{ltb}
+use lib.Arith.{lt-of-le-ne}
+use lib.Dec.{eqb}
 use lib.ListN.{length, getD, take, drop, length-append}
-use lib.Seq.{sets, take-all, take-at}
-use borrow.Author.Tests.{ltb-true, ltb-false}
+use lib.Seq.{sets, drop-cons}
+use borrow.Author.Tests.{eqb-true, eqb-false, lt-ltb, le-ltb}
 use Rattle.theory.proofs.Sets.{tell}
+use Rattle.ops.specs.Rows.{bodyLength, computing, roleOf}
 use Rattle.ops.specs.Kinds.{rowOf}
-use Rattle.block.specs.Records.{recordsOf, concat}
-use Rattle.passes.specs.Laid.{Laid, keptFrom}
-use Rattle.passes.proofs.Bytes.{cut-op, bytes-from, concat-split, kept-more, kept-less, kept-none}
+use Rattle.block.specs.Records.{concat}
+use Rattle.block.specs.Scan.{recordAt}
+use Rattle.passes.specs.Knows.{foldedOps}
+use Rattle.passes.specs.Laid.{opsAt, placeOf, Laid, editOf, keptFrom}
+use Rattle.passes.specs.Live.{Marked}
+use Rattle.passes.proofs.Bytes.{kept-more, kept-less, kept-none}
+use Rattle.passes.proofs.Constants.{constant-long}
+use Rattle.passes.proofs.Forward.{folded-long}
 use Rattle.passes.proofs.Stores.{Copying, copying-start, copying-over, copying-put, copying-ends, copying-room}
 
--- the records before the i-th are stored, or wait
-pub record EmittingSo (b keep out₀ out : List ℕ) (os : List (List ℕ)) (start from at to i : ℕ) : Type 0 where
-  pub at-is : at ≡ length (concat (take i os))
-  pub copied : Copying b out₀ out start from at to (concat (keptFrom 0 keep os)) (concat (keptFrom i keep (drop i os)))
+-- the kept ops before the i-th are stored, or wait
+pub record EmittingSo (b P marks out₀ out : List ℕ) (ops start from to i : ℕ) : Type 0 where
+  pub copied : Copying b out₀ out start from (placeOf b P ops i) to (concat (keptFrom 0 marks (foldedOps (opsAt b P 0 ops)))) (concat (keptFrom i marks (drop i (foldedOps (opsAt b P 0 ops)))))
 
-pub emitting-start : {b keep out : List ℕ} {os : List (List ℕ)} {start : ℕ} → EmittingSo b keep out out os start 0 0 start 0
-emitting-start = record { at-is = refl; copied = copying-start (omega arith) }
+pub emitting-start : {b P marks out : List ℕ} {ops start : ℕ} → placeOf b P ops 0 ≡ start → start ≤ length b → EmittingSo b P marks out out ops start start start 0
+emitting-start {b} {P} {marks} {out} {ops} {start} e h =
+    record { copied = subst (λ (n : ℕ). Copying b out out start start n start (concat (keptFrom 0 marks (foldedOps (opsAt b P 0 ops)))) (concat (keptFrom 0 marks (foldedOps (opsAt b P 0 ops))))) (sym e) (copying-start h) }
 
-module _ {b places keep out₀ out : List ℕ} {ops start from at to i : ℕ} (l : Laid b places (recordsOf rowOf b) ops) (s : EmittingSo b keep out₀ out (recordsOf rowOf b) start from at to i) where
+pub marked-some : {m : ℕ} → (m ≡ 0 → ⊥) → 0 < m
+marked-some {m} n = lt-of-le-ne {i = 0} {k = m} (omega arith) (λ z. n (sym z))
+
+-- the bytes in an op's place
+pub edit-long : (b : List ℕ) (p m x : ℕ) → length (editOf b p m x) ≡ cond (eqb m 1) 10 0
+edit-long b p m x = go (tell (eqb m 1))
+  where
+    go : (eqb m 1 ≡ true) ⊎ (eqb m 1 ≡ false) → length (editOf b p m x) ≡ cond (eqb m 1) 10 0
+    go (inl q) = rw q (constant-long (recordAt rowOf b p) x)
+    go (inr q) = rw q
+
+module _ {b P marks constants out₀ out : List ℕ} {ops start from to i : ℕ} (laid : Laid b P ops) (left : Marked b P marks constants ops) (s : EmittingSo b P marks out₀ out ops start from to i) where
   abbrev os : List (List ℕ)
-  os = recordsOf rowOf b
+  os = foldedOps (opsAt b P 0 ops)
 
   module _ (h : i < ops) where
     abbrev o : List ℕ
-    o = getD (recordsOf rowOf b) i []
+    o = getD (foldedOps (opsAt b P 0 ops)) i []
 
-    -- the place after the i-th
-    pub record After (next : ℕ) : Type 0 where
-      pub next-is : next ≡ length (concat (take (i + 1) (recordsOf rowOf b)))
+    abbrev more : List ℕ
+    more = concat (keptFrom (i + 1) marks (drop (i + 1) (foldedOps (opsAt b P 0 ops))))
 
-    pub after-op : {next : ℕ} → next ≡ cond (ltb (i + 1) ops) (getD places (i + 1) 0) (length b) → After next
-    after-op {next} e = record { next-is = e ∙ go (tell (ltb (i + 1) ops)) }
-      where
-        go : (ltb (i + 1) ops ≡ true) ⊎ (ltb (i + 1) ops ≡ false) → cond (ltb (i + 1) ops) (getD places (i + 1) 0) (length b) ≡ length (concat (take (i + 1) (recordsOf rowOf b)))
-        go (inl q) = rw q (l .place-is (i + 1) (ltb-true (i + 1) ops q))
-        go (inr q) =
-            rw q (ap length (l .bytes-are) ∙ ap (λ (xs : List (List ℕ)). length (concat xs)) (sym (take-all (i + 1) (recordsOf rowOf b) (omega (arith, l .count-is, ltb-false (i + 1) ops q)))))
+    abbrev body : ℕ
+    body = suc (bodyLength rowOf (getD b (getD P i 0) 0))
 
-    module _ {next : ℕ} (a : After next) where
-      cut : drop i os ≡ o ∷ drop (i + 1) os
-      cut = cut-op l h ∙ ap (λ (n : ℕ). o ∷ drop n os) (sym (add-one i))
+    cut : drop i os ≡ o ∷ drop (suc i) os
+    cut = drop-cons os i [] (omega (arith, folded-long b P ops))
 
-      next-long : next ≡ at + length o
-      next-long =
+    place-here : placeOf b P ops i ≡ getD P i 0
+    place-here = rw (lt-ltb i ops h)
+
+    pub here : Copying b out₀ out start from (getD P i 0) to (concat (keptFrom 0 marks (foldedOps (opsAt b P 0 ops)))) (concat (keptFrom i marks (drop i (foldedOps (opsAt b P 0 ops)))))
+    here = subst (λ (n : ℕ). Copying b out₀ out start from n to (concat (keptFrom 0 marks os)) (concat (keptFrom i marks (drop i os)))) place-here (s .copied)
+
+    kept-here : getD marks i 0 < 2 → concat (keptFrom i marks (drop i os)) ≡ o ++ more
+    kept-here k =
+        ap (λ (xs : List (List ℕ)). concat (keptFrom i marks xs)) cut ∙ ap concat (kept-more i marks o (drop (suc i) os) k)
+        ∙ ap (λ (n : ℕ). o ++ concat (keptFrom n marks (drop n os))) (sym (add-one i))
+
+    dropped-here : 2 ≤ getD marks i 0 → concat (keptFrom i marks (drop i os)) ≡ more
+    dropped-here k =
+        ap (λ (xs : List (List ℕ)). concat (keptFrom i marks xs)) cut ∙ ap concat (kept-less i marks o (drop (suc i) os) k)
+        ∙ ap (λ (n : ℕ). concat (keptFrom n marks (drop n os))) (sym (add-one i))
+
+    -- it waits
+    pub emitting-stays : getD marks i 0 ≡ 0 → EmittingSo b P marks out₀ out ops start from to (i + 1)
+    emitting-stays k =
+        let e = kept-here (omega arith) ∙ ap (λ (x : List ℕ). x ++ more) ((left .left i h (omega arith)) .stays k) in
+        record {
+          copied =
+              subst (λ (n : ℕ). Copying b out₀ out start from n to (concat (keptFrom 0 marks os)) more) (sym (laid .next-is i h)) (copying-over here body e ((laid .stands i h) .whole));
+        }
+
+    -- an op that a constant replaces computes
+    pub edit-computes : getD marks i 0 ≡ 1 → roleOf rowOf (getD b (getD P i 0) 0) ≡ computing
+    edit-computes k = ((left .left i h (omega arith)) .becomes k) .role-is
+
+    module _ (k : 0 < getD marks i 0) where
+      edit-here : concat (keptFrom i marks (drop i os)) ≡ editOf b (getD P i 0) (getD marks i 0) (getD constants i 0) ++ more
+      edit-here = go (tell (eqb (getD marks i 0) 1))
+        where
+          go : (eqb (getD marks i 0) 1 ≡ true) ⊎ (eqb (getD marks i 0) 1 ≡ false) → concat (keptFrom i marks (drop i os)) ≡ editOf b (getD P i 0) (getD marks i 0) (getD constants i 0) ++ more
+          go (inl q) =
+              let one : getD marks i 0 ≡ 1 = eqb-true (getD marks i 0) 1 q in
+              rw q (kept-here (omega arith) ∙ ap (λ (x : List ℕ). x ++ more) (((left .left i h (omega arith)) .becomes one) .op-is))
+          go (inr q) = rw q (dropped-here (above (getD marks i 0) k (eqb-false (getD marks i 0) 1 q)))
+            where
+              above : (m : ℕ) → 0 < m → (m ≡ 1 → ⊥) → 2 ≤ m
+              above m l n = lt-of-le-ne {i = 1} {k = m} l (λ z. n (sym z))
+
+      pub edit-room : start + length (concat (keptFrom 0 marks (foldedOps (opsAt b P 0 ops)))) ≤ length out₀ → to + (getD P i 0 - from) + cond (eqb (getD marks i 0) 1) 10 0 ≤ length out
+      edit-room r =
           omega (
             arith,
-            a .next-is,
-            s .at-is,
-            length-append (concat (take i os)) (concat (drop i os)),
-            ap length (concat-split i os),
-            length-append (concat (take (i + 1) os)) (concat (drop (i + 1) os)),
-            ap length (concat-split (i + 1) os),
-            ap (λ (xs : List (List ℕ)). length (concat xs)) cut,
-            length-append o (concat (drop (i + 1) os)),
+            copying-room here r,
+            ap length edit-here,
+            length-append (editOf b (getD P i 0) (getD marks i 0) (getD constants i 0)) more,
+            edit-long b (getD P i 0) (getD marks i 0) (getD constants i 0),
           )
 
-      pub next-inside : next ≤ length b
-      next-inside = omega (arith, a .next-is, length-append (concat (take (i + 1) os)) (concat (drop (i + 1) os)), ap length (concat-split (i + 1) os), ap length (l .bytes-are))
-
-      bytes-here : take (length o) (drop at b) ≡ o
-      bytes-here =
-          ap (λ (n : ℕ). take (length o) (drop n b)) (s .at-is) ∙ ap (take (length o)) (bytes-from l i ∙ ap concat cut) ∙ take-at o (concat (drop (i + 1) os)) (length o) refl
-
-      -- it waits
-      pub emitting-kept : getD keep i 0 ≡ 1 → EmittingSo b keep out₀ out (recordsOf rowOf b) start from next to (i + 1)
-      emitting-kept k =
-          let e : concat (keptFrom i keep (drop i os)) ≡ take (length o) (drop at b) ++ concat (keptFrom (i + 1) keep (drop (i + 1) os)) =
-          ap (λ (xs : List (List ℕ)). concat (keptFrom i keep xs)) cut ∙ ap concat (kept-more i keep o (drop (i + 1) os) k)
-          ∙ ap (λ (n : ℕ). o ++ concat (keptFrom n keep (drop (i + 1) os))) (sym (add-one i))
-          ∙ ap (λ (x : List ℕ). x ++ concat (keptFrom (i + 1) keep (drop (i + 1) os))) (sym bytes-here) in
+      -- those that wait are stored, and what stands in its place
+      pub emitting-edits : {out′ : List ℕ} {to′ next : ℕ} → out′ ≡ sets out to (take (getD P i 0 - from) (drop from b) ++ editOf b (getD P i 0) (getD marks i 0) (getD constants i 0))
+          → to′ ≡ to + (getD P i 0 - from) + cond (eqb (getD marks i 0) 1) 10 0 → next ≡ placeOf b P ops (i + 1) → EmittingSo b P marks out₀ out′ ops start next to′ (i + 1)
+      emitting-edits {out′} {to′} {next} q t n =
+          let x = editOf b (getD P i 0) (getD marks i 0) (getD constants i 0) in
+          let z : to′ ≡ to + (getD P i 0 - from) + length x = t ∙ ap (λ (m : ℕ). to + (getD P i 0 - from) + m) (sym (edit-long b (getD P i 0) (getD marks i 0) (getD constants i 0))) in
           record {
-            at-is = a .next-is;
             copied =
-                subst (λ (m : ℕ). Copying b out₀ out start from m to (concat (keptFrom 0 keep os)) (concat (keptFrom (i + 1) keep (drop (i + 1) os)))) (sym next-long)
-                (copying-over (s .copied) (length o) e (omega (arith, next-long, next-inside)));
+                subst (λ (m : ℕ). Copying b out₀ out′ start next m to′ (concat (keptFrom 0 marks os)) more) n
+                (copying-put here x edit-here q z (omega (arith, n, laid .next-is i h, (laid .stands i h) .whole)));
           }
 
-      -- it is left out, and those that wait are stored
-      pub emitting-dropped : {out′ : List ℕ} {to′ : ℕ} → (getD keep i 0 ≡ 1 → ⊥) → out′ ≡ sets out to (take (at - from) (drop from b)) → to′ ≡ to + (at - from)
-          → EmittingSo b keep out₀ out′ (recordsOf rowOf b) start next next to′ (i + 1)
-      emitting-dropped k q t =
-          let e : concat (keptFrom i keep (drop i os)) ≡ concat (keptFrom (i + 1) keep (drop (i + 1) os)) =
-          ap (λ (xs : List (List ℕ)). concat (keptFrom i keep xs)) cut ∙ ap concat (kept-less i keep o (drop (i + 1) os) k) ∙ ap (λ (n : ℕ). concat (keptFrom n keep (drop (i + 1) os))) (sym (add-one i)) in
-          record {
-            at-is = a .next-is;
-            copied = copying-put (s .copied) [] e (q ∙ ap (sets out to) (sym (append-nil (take (at - from) (drop from b))))) (t ∙ sym (add-zero (to + (at - from)))) next-inside;
-          }
+  module _ (h : ops ≤ i) where
+    place-end : placeOf b P ops i ≡ length b
+    place-end = rw (le-ltb i ops h)
 
-  pub emitting-room : start + length (concat (keptFrom 0 keep (recordsOf rowOf b))) ≤ length out₀ → to + (at - from) ≤ length out
-  emitting-room r = omega (arith, copying-room (s .copied) r)
+    last : Copying b out₀ out start from (length b) to (concat (keptFrom 0 marks (foldedOps (opsAt b P 0 ops)))) (concat (keptFrom i marks (drop i (foldedOps (opsAt b P 0 ops)))))
+    last = subst (λ (n : ℕ). Copying b out₀ out start from n to (concat (keptFrom 0 marks os)) (concat (keptFrom i marks (drop i os)))) place-end (s .copied)
 
-  pub emitting-ends : {out′ : List ℕ} → ops ≤ i → out′ ≡ sets out to (take (at - from) (drop from b)) → out′ ≡ sets out₀ start (concat (keptFrom 0 keep (recordsOf rowOf b)))
-  emitting-ends h q = copying-ends (s .copied) (ap concat (kept-none i keep os (omega (arith, l .count-is)))) q .0
+    pub run-fits : start + length (concat (keptFrom 0 marks (foldedOps (opsAt b P 0 ops)))) ≤ length out₀ → (from ≤ length b) × (to + (length b - from) ≤ length out)
+    run-fits r = (last .ordered, omega (arith, copying-room last r))
+
+    pub emitting-ends : {out′ : List ℕ} → out′ ≡ sets out to (take (length b - from) (drop from b)) → out′ ≡ sets out₀ start (concat (keptFrom 0 marks (foldedOps (opsAt b P 0 ops))))
+    emitting-ends q = copying-ends last (ap concat (kept-none i marks os (omega (arith, folded-long b P ops)))) q .0

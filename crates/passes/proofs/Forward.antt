@@ -1,14 +1,14 @@
--- Fold, op by op from the first, and the records that it leaves. Assumes nothing.
+-- Fold, op by op from the first, and what it leaves. Assumes nothing.
 use mathlib.Core.Path.{_≡_, refl, sym, ap, _∙_, subst}
 use mathlib.Core.Bool.{true, false}
-use mathlib.Core.List.{List, [], _∷_, _++_}
+use mathlib.Core.List.{List, [], _∷_}
 use mathlib.Core.Logic.{_⊎_, inl, inr}
-use Prim.Native.Nat.{ℕ, suc, _+_, _-_, _*_, _≤_, _<_}
-use native.Mathlib.Numerals.{add-one}
+use Prim.Native.Nat.{ℕ, suc, _+_, _≤_, _<_}
+use native.Mathlib.Nat.{add-zero}
 use native.Mathlib.Omega.{arith}
 use lib.Dec.{ltb}
-use lib.ListN.{length, getD, take, drop, set, length-append, drop-of-length-le}
-use lib.Seq.{drop-cons, drop-drop, getD-set-same, getD-set-other, sets, sets-eq, take-at}
+use lib.ListN.{length, getD, drop, set}
+use lib.Seq.{drop-drop, getD-drop, getD-set-same, getD-set-other}
 use borrow.Author.Tests.{ltb-true, ltb-false, eq-eqb}
 use Rattle.theory.specs.Fold.{Known, nothing, on, Rewrite, learned, emit, fold as foldOps}
 use Rattle.theory.specs.Machine.{headOr}
@@ -20,168 +20,107 @@ use Rattle.ops.specs.Rows.{known, bodyLength, at as byteAt}
 use Rattle.ops.specs.Kinds.{rowOf, document01}
 use Rattle.ops.proofs.Document01.{lawful}
 use Rattle.ops.proofs.Folding.{constants, states, constant-for}
-use Rattle.block.specs.Records.{concat}
-use Rattle.block.specs.Scan.{recordAt, recordsAt}
+use Rattle.block.specs.Scan.{recordAt}
 use Rattle.block.proofs.Cut.{whole, AllWhole}
-use Rattle.passes.specs.Laid.{Laid}
-use Rattle.passes.specs.Knows.{knownOf, leftBy, Folds, foldedOps}
-use Rattle.passes.proofs.Bytes.{ThisOp, this-op, concat-split, record-wholes}
-use Rattle.passes.proofs.Constants.{constant-long}
+use Rattle.passes.specs.Laid.{opsAt, Constant, Leaves}
+use Rattle.passes.specs.Knows.{knownOf, leftBy, Folds, foldedOps, Folded}
 use Rattle.passes.proofs.Knowing.{none-known}
-use Rattle.passes.proofs.Result.{rule, ops-size}
-use Rattle.passes.proofs.Stores.{Copying, copying-start, copying-over, copying-put, copying-ends, copying-room}
+use Rattle.passes.proofs.Placing.{ops-long, op-here}
+use Rattle.passes.proofs.Result.{rule}
 use Rattle.word.specs.declared.Stated.the-variants.{Value, NoResult}
 use Rattle.word.specs.declared.Stated.{Stated}
 
--- fold leaves a whole record for each
-pub left-wholes : (os : List (List ℕ)) (k : Known ℕ) → AllWhole rowOf os
-    → AllWhole rowOf (foldOps (tcg document01) (rule document01) os (on k)) × (length (foldOps (tcg document01) (rule document01) os (on k)) ≡ length os)
-left-wholes [] k w = (tt, refl)
-left-wholes (o ∷ os) k w = go (rule document01 k o) (puts (tcg document01) (folding document01) (constants lawful) k o) (λ j. left-wholes os j (w .1))
+-- fold leaves one op for each
+left-long : (os : List (List ℕ)) (k : Known ℕ) → length (foldOps (tcg document01) (rule document01) os (on k)) ≡ length os
+left-long [] k = refl
+left-long (o ∷ os) k = go (rule document01 k o) (puts (tcg document01) (folding document01) (constants lawful) k o) (left-long os)
   where
     go : (y : Rewrite (List ℕ)) → Puts (tcg document01) (folding document01) (constants lawful) k o y
-        → ((j : Known ℕ) → AllWhole rowOf (foldOps (tcg document01) (rule document01) os (on j)) × (length (foldOps (tcg document01) (rule document01) os (on j)) ≡ length os))
-        → (let xs = emit (tcg document01) (rule document01) k (foldOps (tcg document01) (rule document01) os) y in AllWhole rowOf xs × (length xs ≡ suc (length os)))
-    go y same m = let n = m (learned k (viewOf document01 o)) in ((w .0, n .0), ap suc (n .1))
-    go y (folds xs vs t a g) m =
-        let s = states lawful o xs vs t g in
-        let c = s .constant-of (byteAt o 1) in
-        let x = document01 .constant (s .type) (byteAt o 1) (s .value) in
-        let q : whole rowOf x ≡ true = and-i (known rowOf (kindOf x)) _ (c .is-known) (eq-eqb (length x) (suc (bodyLength rowOf (kindOf x))) (c .long)) in
-        let n = m (learned k (viewOf document01 (folding document01 .const o (headOr 0 vs)))) in
-        ((ap (whole rowOf) (constant-for lawful o xs vs t g s) ∙ q, n .0), ap suc (n .1))
+        → ((j : Known ℕ) → length (foldOps (tcg document01) (rule document01) os (on j)) ≡ length os)
+        → length (emit (tcg document01) (rule document01) k (foldOps (tcg document01) (rule document01) os) y) ≡ suc (length os)
+    go y same n = ap suc (n (learned k (viewOf document01 o)))
+    go y (folds xs vs t a g) n = ap suc (n (learned k (viewOf document01 (folding document01 .const o (headOr 0 vs)))))
 
--- the records from a place on
-module _ (b : List ℕ) (p : ℕ) where
-  abbrev left : List (List ℕ)
-  left = foldedOps (recordsAt rowOf b p)
+pub folded-long : (b P : List ℕ) (ops : ℕ) → length (foldedOps (opsAt b P 0 ops)) ≡ ops
+folded-long b P ops = left-long (opsAt b P 0 ops) nothing ∙ ops-long b P 0 ops
 
-  both-so : AllWhole rowOf (foldedOps (recordsAt rowOf b p)) × (length (foldedOps (recordsAt rowOf b p)) ≡ length (recordsAt rowOf b p))
-  both-so = left-wholes (recordsAt rowOf b p) nothing (record-wholes (drop p b))
-
-  left-short : length (concat (foldedOps (recordsAt rowOf b p))) ≤ 10 * length (recordsAt rowOf b p)
-  left-short = omega (arith, ops-size lawful left (both-so .0), both-so .1)
+below-next : (i j : ℕ) → j < i + 1 → (j < i) ⊎ (i ≡ j)
+below-next i j l = go (tell (ltb j i))
+  where
+    go : (ltb j i ≡ true) ⊎ (ltb j i ≡ false) → (j < i) ⊎ (i ≡ j)
+    go (inl q) = inl (ltb-true j i q)
+    go (inr q) = inr (omega (arith, ltb-false j i q))
 
 -- the ops before the i-th have been folded
-pub record FoldingSo (b out₀ out places : List ℕ) (known : Vars) (values : List ℕ) (start from at to i : ℕ) : Type 0 where
-  pub reads : recordsAt rowOf b at ≡ drop i (recordsAt rowOf b start)
-  pub left-so : drop i (foldedOps (recordsAt rowOf b start)) ≡ foldOps (tcg document01) (rule document01) (drop i (recordsAt rowOf b start)) (on (knownOf known values))
-  pub copied : Copying b out₀ out 0 from at to (concat (foldedOps (recordsAt rowOf b start))) (concat (drop i (foldedOps (recordsAt rowOf b start))))
-  pub placed : (j : ℕ) → j < i → getD places j 0 ≡ length (concat (take j (foldedOps (recordsAt rowOf b start))))
+pub record FoldingSo (b P marks constants : List ℕ) (known : Vars) (values : List ℕ) (ops i : ℕ) : Type 0 where
+  pub left-so : drop i (foldedOps (opsAt b P 0 ops)) ≡ foldOps (tcg document01) (rule document01) (drop i (opsAt b P 0 ops)) (on (knownOf known values))
+  pub done : (j : ℕ) → j < i → Leaves b (getD P j 0) (getD marks j 0) (getD constants j 0) (getD (foldedOps (opsAt b P 0 ops)) j [])
+  pub few : (j : ℕ) → j < i → getD marks j 0 < 2
 
-pub folding-start : {b out places : List ℕ} {known : Vars} {start : ℕ} (values : List ℕ) → start ≤ length b → known ≡ empty
-    → FoldingSo b out out places known values start start start 0 0
-folding-start {b} {start = start} values h e =
+pub folding-start : {b P marks constants : List ℕ} {known : Vars} {ops : ℕ} (values : List ℕ) → known ≡ empty → FoldingSo b P marks constants known values ops 0
+folding-start {b} {P} {ops = ops} values e =
     record {
-      reads = refl;
-      left-so = ap (λ (k : Known ℕ). foldOps (tcg document01) (rule document01) (recordsAt rowOf b start) (on k)) (sym (none-known values e));
-      copied = copying-start h;
-      placed = λ j l. absurd (omega arith);
+      left-so = ap (λ (k : Known ℕ). foldOps (tcg document01) (rule document01) (opsAt b P 0 ops) (on k)) (sym (none-known values e));
+      done = λ j l. absurd (omega arith);
+      few = λ j l. absurd (omega arith);
     }
 
-module _ {b out₀ out places : List ℕ} {known : Vars} {values : List ℕ} {start from at to i : ℕ} (s : FoldingSo b out₀ out places known values start from at to i) where
+module _ {b P marks constants : List ℕ} {known : Vars} {values : List ℕ} {ops i : ℕ} (s : FoldingSo b P marks constants known values ops i) where
   abbrev os : List (List ℕ)
-  os = recordsAt rowOf b start
+  os = opsAt b P 0 ops
 
-  -- the place where the next record goes
-  pub place-here : to + at - from ≡ length (concat (take i (foldedOps (recordsAt rowOf b start))))
-  place-here =
-      omega (arith, s .copied .place-so, s .copied .ordered, length-append (concat (take i (foldedOps os))) (concat (drop i (foldedOps os))), ap length (concat-split i (foldedOps os)))
+  -- what fold leaves of the i-th, and of the rest
+  module _ (h : i < ops) {known′ : Vars} {values′ : List ℕ} {r : Stated} (f : Folds b (getD P i 0) known values known′ values′ r) where
+    abbrev o : List ℕ
+    o = recordAt rowOf b (getD P i 0)
 
-  pub place-small : length (recordsAt rowOf b start) ≤ 256 → to + at - from ≤ 2560
-  place-small h =
-      omega (arith, place-here, length-append (concat (take i (foldedOps os))) (concat (drop i (foldedOps os))), ap length (concat-split i (foldedOps os)), left-short b start)
+    here : drop i (foldedOps os) ≡ leftBy r o ∷ foldOps (tcg document01) (rule document01) (drop (i + 1) os) (on (knownOf known′ values′))
+    here =
+        s .left-so
+        ∙ ap (λ (q : List (List ℕ)). foldOps (tcg document01) (rule document01) q (on (knownOf known values))) (op-here b P h)
+        ∙ ap (emit (tcg document01) (rule document01) (knownOf known values) (foldOps (tcg document01) (rule document01) (drop (i + 1) os))) (f .rule-so)
+        ∙ ap (λ (k : Known ℕ). leftBy r o ∷ foldOps (tcg document01) (rule document01) (drop (i + 1) os) (on k)) (sym (f .known-so))
 
-  pub room-for-all : 10 * length (recordsAt rowOf b start) ≤ length out₀ → to + (at - from) + length (concat (drop i (foldedOps (recordsAt rowOf b start)))) ≤ length out
-  room-for-all h = copying-room (s .copied) (omega (arith, left-short b start))
+    left-next : drop (i + 1) (foldedOps os) ≡ foldOps (tcg document01) (rule document01) (drop (i + 1) os) (on (knownOf known′ values′))
+    left-next = sym (drop-drop 1 i (foldedOps os)) ∙ ap (drop 1) here
 
-  module _ (h : i < length (recordsAt rowOf b start)) where
-    cut : drop i os ≡ getD os i [] ∷ drop (i + 1) os
-    cut = drop-cons os i [] h ∙ ap (λ (n : ℕ). getD os i [] ∷ drop n os) (sym (add-one i))
+    this : getD (foldedOps (opsAt b P 0 ops)) i [] ≡ leftBy r (recordAt rowOf b (getD P i 0))
+    this = ap (λ (n : ℕ). getD (foldedOps os) n []) (sym (add-zero i)) ∙ sym (getD-drop i (foldedOps os) 0 []) ∙ ap (λ (q : List (List ℕ)). getD q 0 []) here
 
-    pub folding-op : ThisOp b at (getD (recordsAt rowOf b start) i []) (drop (i + 1) (recordsAt rowOf b start))
-    folding-op = this-op (s .reads ∙ cut)
+    stays-so : r ≡ NoResult → (value : ℕ) → Leaves b (getD P i 0) 0 value (getD (foldedOps (opsAt b P 0 ops)) i [])
+    stays-so e value = record { stays = λ z. this ∙ ap (λ (t : Stated). leftBy t o) e; becomes = λ z. absurd (omega arith) }
 
-    -- what fold leaves of it, and of the rest
-    module _ {known′ : Vars} {values′ : List ℕ} {r : Stated} (f : Folds b at known values known′ values′ r) where
-      abbrev o : List ℕ
-      o = recordAt rowOf b at
+    becomes-so : {x : ℕ} → r ≡ Value x → Leaves b (getD P i 0) 1 x (getD (foldedOps (opsAt b P 0 ops)) i [])
+    becomes-so {x} e =
+        record {
+          stays = λ z. absurd (omega arith);
+          becomes = λ z. subst (Constant b (getD P i 0) x) (sym (this ∙ ap (λ (t : Stated). leftBy t o) e)) (f .constant-so x e);
+        }
 
-      here : drop i (foldedOps os) ≡ leftBy r o ∷ foldOps (tcg document01) (rule document01) (drop (i + 1) os) (on (knownOf known′ values′))
-      here =
-          s .left-so
-          ∙ ap (λ (q : List (List ℕ)). foldOps (tcg document01) (rule document01) q (on (knownOf known values))) (cut ∙ ap (λ (q : List ℕ). q ∷ drop (i + 1) os) (sym (folding-op .here)))
-          ∙ ap (emit (tcg document01) (rule document01) (knownOf known values) (foldOps (tcg document01) (rule document01) (drop (i + 1) os))) (f .rule-so)
-          ∙ ap (λ (k : Known ℕ). leftBy r o ∷ foldOps (tcg document01) (rule document01) (drop (i + 1) os) (on k)) (sym (f .known-so))
+    -- its mark is stored, and a constant's value
+    module _ (marks′ constants′ : List ℕ) {m : ℕ} (em : getD marks′ i 0 ≡ m) (low : m < 2) (marks-so : (j : ℕ) → j < i → getD marks′ j 0 ≡ getD marks j 0)
+        (constants-so : (j : ℕ) → j < i → getD constants′ j 0 ≡ getD constants j 0) where
+      few-next : (j : ℕ) → (j < i) ⊎ (i ≡ j) → getD marks′ j 0 < 2
+      few-next j (inl w) = omega (arith, marks-so j w, s .few j w)
+      few-next j (inr e) = subst (λ (n : ℕ). getD marks′ n 0 < 2) e (omega (arith, em))
 
-      left-next : drop (i + 1) (foldedOps os) ≡ foldOps (tcg document01) (rule document01) (drop (i + 1) os) (on (knownOf known′ values′))
-      left-next = sym (drop-drop 1 i (foldedOps os)) ∙ ap (drop 1) here
+      done-next : Leaves b (getD P i 0) (getD marks′ i 0) (getD constants′ i 0) (getD (foldedOps (opsAt b P 0 ops)) i []) → (j : ℕ) → (j < i) ⊎ (i ≡ j)
+          → Leaves b (getD P j 0) (getD marks′ j 0) (getD constants′ j 0) (getD (foldedOps (opsAt b P 0 ops)) j [])
+      done-next w j (inl q) = rw (marks-so j q, constants-so j q) (s .done j q)
+      done-next w j (inr e) = subst (λ (n : ℕ). Leaves b (getD P n 0) (getD marks′ n 0) (getD constants′ n 0) (getD (foldedOps (opsAt b P 0 ops)) n [])) e w
 
-      more-is : concat (drop i (foldedOps os)) ≡ leftBy r o ++ concat (drop (i + 1) (foldedOps os))
-      more-is = ap concat here ∙ ap (λ (q : List (List ℕ)). leftBy r o ++ concat q) (sym left-next)
+      next-so : Leaves b (getD P i 0) m (getD constants′ i 0) (getD (foldedOps (opsAt b P 0 ops)) i []) → FoldingSo b P marks′ constants′ known′ values′ ops (i + 1)
+      next-so w = record { left-so = left-next; done = λ j l. done-next (rw em w) j (below-next i j l); few = λ j l. few-next j (below-next i j l) }
 
-      pub room-for-constant : {x : ℕ} → r ≡ Value x → 10 * length (recordsAt rowOf b start) ≤ length out₀ → to + (at - from) + 10 ≤ length out
-      room-for-constant {x} e l =
-          omega (
-            arith,
-            room-for-all l,
-            ap length more-is,
-            length-append (leftBy r o) (concat (drop (i + 1) (foldedOps os))),
-            ap (λ (t : Stated). length (leftBy t o)) e ∙ constant-long o x,
-          )
+    pub folding-stays : i < length marks → r ≡ NoResult → FoldingSo b P (set marks i 0) constants known′ values′ ops (i + 1)
+    folding-stays long e =
+        next-so (set marks i 0) constants (getD-set-same marks i 0 0 long) (omega arith) (λ j l. getD-set-other marks i j 0 0 (λ z. omega arith)) (λ j l. refl) (stays-so e (getD constants i 0))
 
-      module _ {v next : ℕ} (long : i < length places) (p : v ≡ to + at - from) (n : next ≡ at + suc (bodyLength rowOf (getD b at 0))) where
-        placed-next : (j : ℕ) → j < i + 1 → getD (set places i v) j 0 ≡ length (concat (take j (foldedOps os)))
-        placed-next j l = go (tell (ltb j i))
-          where
-            go : (ltb j i ≡ true) ⊎ (ltb j i ≡ false) → getD (set places i v) j 0 ≡ length (concat (take j (foldedOps os)))
-            go (inl q) = let w = ltb-true j i q in getD-set-other places i j v 0 (λ z. omega arith) ∙ s .placed j w
-            go (inr q) =
-                let w = ltb-false j i q in
-                let e : i ≡ j = omega arith in
-                ap (λ (m : ℕ). getD (set places i v) m 0) (sym e) ∙ getD-set-same places i v 0 long ∙ p ∙ place-here ∙ ap (λ (m : ℕ). length (concat (take m (foldedOps os)))) e
-
-        inside-next : next ≤ length b
-        inside-next = omega (arith, n, folding-op .stands .whole)
-
-        -- it stays as it is
-        pub folding-stays : r ≡ NoResult → FoldingSo b out₀ out (set places i v) known′ values′ start from next to (i + 1)
-        folding-stays e =
-            record {
-              reads = ap (recordsAt rowOf b) n ∙ folding-op .others;
-              left-so = left-next;
-              copied =
-                  subst (λ (m : ℕ). Copying b out₀ out 0 from m to (concat (foldedOps os)) (concat (drop (i + 1) (foldedOps os)))) (sym n)
-                  (copying-over (s .copied) (suc (bodyLength rowOf (getD b at 0))) (more-is ∙ ap (λ (t : Stated). leftBy t o ++ concat (drop (i + 1) (foldedOps os))) e) (folding-op .stands .whole));
-              placed = placed-next;
-            }
-
-        -- a constant takes its place
-        pub folding-puts : {x to′ : ℕ} {out′ : List ℕ} → r ≡ Value x → out′ ≡ sets out to (take (at - from) (drop from b) ++ folding document01 .const (recordAt rowOf b at) x) → to′ ≡ to + (at - from) + 10
-            → FoldingSo b out₀ out′ (set places i v) known′ values′ start next next to′ (i + 1)
-        folding-puts {x} {to′} e q t =
-            let l = constant-long o x in
-            record {
-              reads = ap (recordsAt rowOf b) n ∙ folding-op .others;
-              left-so = left-next;
-              copied =
-                  copying-put (s .copied) (folding document01 .const o x) (more-is ∙ ap (λ (t : Stated). leftBy t o ++ concat (drop (i + 1) (foldedOps os))) e) q (t ∙ ap (λ (m : ℕ). to + (at - from) + m) (sym l)) inside-next;
-              placed = placed-next;
-            }
+    pub folding-puts : i < length marks → i < length constants → {x : ℕ} → r ≡ Value x → FoldingSo b P (set marks i 1) (set constants i x) known′ values′ ops (i + 1)
+    folding-puts long longer {x} e =
+        next-so (set marks i 1) (set constants i x) (getD-set-same marks i 1 0 long) (omega arith) (λ j l. getD-set-other marks i j 1 0 (λ z. omega arith))
+        (λ j l. getD-set-other constants i j x 0 (λ z. omega arith)) (rw (getD-set-same constants i x 0 longer) (becomes-so e))
 
   -- all have been folded
-  pub folding-ends : {out′ : List ℕ} → length (recordsAt rowOf b start) ≤ i → 10 * length (recordsAt rowOf b start) ≤ length out₀ → out′ ≡ sets out to (take (at - from) (drop from b))
-      → (to + at - from ≤ length out′) × Laid (take (to + at - from) out′) places (foldedOps (recordsAt rowOf b start)) (length (recordsAt rowOf b start))
-  folding-ends {out′} h l q =
-      let none-left : drop i (foldedOps os) ≡ [] = drop-of-length-le (foldedOps os) {i = i} (omega (arith, both-so b start .1)) in
-      let c = copying-ends (s .copied) (ap concat none-left) q in
-      let all = concat (foldedOps os) in
-      let z : length all ≡ to + at - from = omega (arith, c .1, s .copied .ordered) in
-      let w : out′ ≡ all ++ drop (0 + length all) out₀ = c .0 ∙ sets-eq all out₀ 0 (omega (arith, left-short b start)) in (
-        omega (arith, ap length w, length-append all (drop (0 + length all) out₀), z),
-        record {
-          count-is = sym (both-so b start .1);
-          bytes-are = ap (take (to + at - from)) w ∙ take-at all (drop (0 + length all) out₀) (to + at - from) z;
-          place-is = λ j m. s .placed j (omega arith);
-        },
-      )
+  pub folding-ends : ops ≤ i → Folded b P marks constants ops
+  folding-ends h = record { left = λ j l. s .done j (omega arith); marks-few = λ j l. s .few j (omega arith) }

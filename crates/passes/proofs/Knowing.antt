@@ -1,18 +1,18 @@
 -- What fold knows, and what it leaves of an op. Assumes nothing.
-use mathlib.Core.Path.{_≡_, refl, sym, ap, ap₂, _∙_, fun-ext}
+use mathlib.Core.Path.{_≡_, refl, sym, ap, ap₂, _∙_, subst, fun-ext}
 use mathlib.Core.Bool.{Bool, true, false, cond, not, _&&_, _||_, true≢false}
 use mathlib.Core.Logic.{_⊎_, inl, inr}
 use mathlib.Core.Option.{Option, none, some}
 use mathlib.Core.List.{List, [], _∷_}
-use Prim.Native.Nat.{ℕ, _+_, _≤_, _<_}
+use Prim.Native.Nat.{ℕ, zero, suc, _+_, _-_, _≤_, _<_}
 use native.Mathlib.Omega.{arith}
 use lib.Arith.{lt-of-le-ne}
 use lib.Dec.{eqb, ltb}
 use lib.ListN.{getD}
-use borrow.Author.Tests.{ltb-true, lt-ltb, le-ltb}
+use borrow.Author.Tests.{eqb-false, ltb-true, ltb-false, lt-ltb, le-ltb}
 use Rattle.theory.specs.Fold.{Known, nothing, put, learned, given, gain, consO, allKnown, bindO, tried, baseRule}
 use Rattle.theory.specs.Machine.{View, calc, access, label, flow, computes as stated, inputs, outputs, pure, closes, upd, reads, writes}
-use Rattle.theory.specs.Sets.{Vars, empty, has, plus, without}
+use Rattle.theory.specs.Sets.{Vars, empty, has, without}
 use Rattle.theory.proofs.Sets.{and-l, and-r, tell, clash}
 use Rattle.theory.proofs.Views.{no-some}
 use Rattle.memory.specs.Bytes.{lowFirst}
@@ -23,7 +23,7 @@ use Rattle.ops.specs.Ops.{rowAt, bytesAt, Fault, viewOf, tcg, foldableRow, fold
 use Rattle.ops.proofs.Entry.{digits}
 use Rattle.ops.proofs.Folding.{const-view, computing-role}
 use Rattle.ops.proofs.Traits.{closes-at, pure-at, outputs-at}
-use Rattle.block.specs.Scan.{recordAt, Stands, SetAt}
+use Rattle.block.specs.Scan.{recordAt, Stands, SetAt, marked}
 use Rattle.block.proofs.MarkSets.{at-place}
 use Rattle.block.proofs.Operands.{eachBy}
 use Rattle.block.proofs.Views.{body-from, byte, row-at, constant-view, pure-view}
@@ -32,18 +32,28 @@ use Rattle.runs.proofs.Roles.{role-by}
 use Rattle.ops.proofs.Table.{number-of}
 use Rattle.ops.proofs.Document01.{lawful}
 use Rattle.passes.specs.Knows.{knownOf, everyIn, statedBy, StatesKnown, Stays, Folds}
+use Rattle.passes.specs.Laid.{Constant}
 use Rattle.passes.proofs.Before.{its-role, its-outputs}
 use Rattle.passes.proofs.Constants.{computing-folds, one-output}
+use Rattle.passes.proofs.Counts.{few-outs, none-else}
 use Rattle.word.specs.declared.Stated.the-variants.{Value, NoResult}
 use Rattle.word.specs.declared.Stated.{Stated}
 
 -- a variable that is known, with its value
-pub put-known : (known : Vars) {known′ : Vars} {values values′ : List ℕ} {v x : ℕ} → known′ ≡ plus known (v ∷ []) → SetAt values v x values′
-    → knownOf known′ values′ ≡ upd (knownOf known values) v (some x)
-put-known known {known′} {values} {values′} {v} {x} s t =
-    fun-ext (λ u. ap₂ (λ (l : Vars) (m : ℕ). cond (l u) (some m) none) s (at-place t u) ∙ go (eqb v u) u)
+pub put-known : {known known′ values values′ : List ℕ} {v x : ℕ} → SetAt known v 1 known′ → SetAt values v x values′
+    → knownOf (marked known′) values′ ≡ upd (knownOf (marked known) values) v (some x)
+put-known {known} {known′} {values} {values′} {v} {x} s t =
+    fun-ext (λ u. ap₂ (λ (n m : ℕ). cond (eqb n 1) (some m) none) (at-place s u) (at-place t u) ∙ go (eqb v u) u)
   where
-    go : (b : Bool) (u : ℕ) → cond ((b || false) || known u) (some (cond b x (getD values u 0))) none ≡ cond b (some x) (knownOf known values u)
+    go : (b : Bool) (u : ℕ) → cond (eqb (cond b 1 (getD known u 0)) 1) (some (cond b x (getD values u 0))) none ≡ cond b (some x) (knownOf (marked known) values u)
+    go true u = refl
+    go false u = refl
+
+-- one that is known no longer
+pub forgotten : {known known′ : List ℕ} {v : ℕ} → SetAt known v 0 known′ → marked known′ ≡ without (marked known) (v ∷ [])
+forgotten {known} {known′} {v} s = fun-ext (λ u. ap (λ (n : ℕ). eqb n 1) (at-place s u) ∙ go (eqb v u) u)
+  where
+    go : (b : Bool) (u : ℕ) → eqb (cond b 0 (getD known u 0)) 1 ≡ (not (b || false) && marked known u)
     go true u = refl
     go false u = refl
 
@@ -72,6 +82,30 @@ forgets known known′ values outs e =
 pub all-each : (l : Vars) (vs : List ℕ) → eachBy (λ s v. l v) (λ s. s) 0 vs ≡ everyIn vs l
 all-each l [] = refl
 all-each l (v ∷ vs) = rw (all-each l vs)
+
+pub one-or-two : (n : ℕ) → (eqb n 0 || ltb 2 n) ≡ false → (0 < n) × (n ≤ 2)
+one-or-two n h = go (eqb n 0) refl (ltb 2 n) refl h
+  where
+    go : (t : Bool) → eqb n 0 ≡ t → (u : Bool) → ltb 2 n ≡ u → (t || u) ≡ false → (0 < n) × (n ≤ 2)
+    go true e u f z = absurd (true≢false z)
+    go false e true f z = absurd (true≢false z)
+    go false e false f z = (lt-of-le-ne {i = 0} {k = n} (omega arith) (λ y. eqb-false n 0 e (sym y)), ltb-false 2 n f)
+
+-- one or two of them, by the first and the last
+pub ends-known : (b : List ℕ) (p n : ℕ) (l : Vars) → 0 < n → n ≤ 2 → (l (getD b p 0) && l (getD b (p + n - 1) 0)) ≡ everyIn (bytesAt b p n) l
+ends-known b p zero l h k = absurd (omega arith)
+ends-known b p (suc zero) l h k = let e : p + 1 - 1 ≡ p = omega arith in rw e (go (l (getD b p 0)))
+  where
+    go : (t : Bool) → (t && t) ≡ (t && true)
+    go true = refl
+    go false = refl
+ends-known b p (suc (suc zero)) l h k = let e : p + 2 - 1 ≡ suc p = omega arith in rw e (go (l (getD b p 0)) (l (getD b (suc p) 0)))
+  where
+    go : (t u : Bool) → (t && u) ≡ (t && (u && true))
+    go true true = refl
+    go true false = refl
+    go false u = refl
+ends-known b p (suc (suc (suc n))) l h k = absurd (omega arith)
 
 -- the values of inputs that are all known
 inputs-known : (known : Vars) (values xs : List ℕ) → everyIn xs known ≡ true → allKnown (reads (knownOf known values) xs) ≡ some (reads (envOf values) xs)
@@ -152,7 +186,7 @@ module _ {b : List ℕ} {p : ℕ} (s : Stands rowOf b p (getD b p 0)) {known : V
       record {
         rule-so = rule-is (knownOf known values) (recordAt rowOf b p) ∙ ap (tried (tcg document01) (folding document01) (recordAt rowOf b p)) value-so;
         known-so = u ∙ sym (ap (learned (knownOf known values)) const-shape);
-        only-so = λ y z. computes-so;
+        constant-so = λ y z. let q : x ≡ y = cc in subst (λ (n : ℕ). Constant b p n (folding document01 .const (recordAt rowOf b p) n)) q (record { op-is = refl; role-is = computes-so; view-is = const-shape });
       }
 
 no-value : (x : ℕ) → NoResult ≡ Value x → ⊥
@@ -165,7 +199,7 @@ folds-none {b} {p} {known} {values = values} w u =
     record {
       rule-so = rule-is (knownOf known values) (recordAt rowOf b p) ∙ ap (tried (tcg document01) (folding document01) (recordAt rowOf b p)) (w .states-so);
       known-so = u .known-after;
-      only-so = λ x z. absurd (no-value x z);
+      constant-so = λ x z. absurd (no-value x z);
     }
 
 -- an op that states nothing of what is known gives no value
@@ -213,7 +247,7 @@ module _ {b : List ℕ} {p k : ℕ} (s : Stands rowOf b p k) {e n : ℕ} (q : e 
             rw (ap foldableRow (row-at s) ∙ computing-folds k (role-by computing k q m nine)) at (w .states-so)
         go (inr t) = impure (viewOf document01 o) (pure-at document01 o ∙ ap isPure (its-role s q) ∙ t) (allKnown (reads (knownOf known values) (inputs (viewOf document01 o))))
 
-    pub over-others : {known′ : Vars} → known′ ≡ without known (bytesAt b (p + 1) (outsIn e)) → Stays b p known values known′ values
+    over-others : {known′ : Vars} → known′ ≡ without known (bytesAt b (p + 1) (outsIn e)) → Stays b p known values known′ values
     over-others {known′} u =
         let stays : isClosing (roleNo (roleIn e)) ≡ false = le-ltb (numberOf (roleNo (roleIn e))) 6 (omega arith) in
         let outs : outputs (viewOf document01 o) ≡ bytesAt b (p + 1) (outsIn e) =
@@ -223,3 +257,10 @@ module _ {b : List ℕ} {p k : ℕ} (s : Stands rowOf b p k) {e n : ℕ} (q : e 
               forgets known known′ values (bytesAt b (p + 1) (outsIn e)) u
               ∙ sym (rw (closing ∙ stays) (ap₂ (λ (xs : List ℕ) (ys : List (Option ℕ)). writes none (knownOf known values) xs ys) outs (no-gain (knownOf known values) (inputs (viewOf document01 o)) (stated (viewOf document01 o)) nothing-stated)));
         }
+
+    -- by how many outputs it has
+    pub over-output : {known′ : Vars} {d : ℕ} → d ≡ outsIn e → d ≡ 1 → known′ ≡ without known (getD b (p + 1) 0 ∷ []) → Stays b p known values known′ values
+    over-output f g u = over-others (u ∙ ap (λ (m : ℕ). without known (bytesAt b (p + 1) m)) (sym g ∙ f))
+
+    pub over-nothing : {d : ℕ} → d ≡ outsIn e → (d ≡ 1 → ⊥) → Stays b p known values known values
+    over-nothing {d} f g = let z : outsIn e ≡ 0 = none-else (outsIn e) (few-outs k q) (λ y. g (f ∙ y)) in over-others (ap (λ (m : ℕ). without known (bytesAt b (p + 1) m)) (sym z))

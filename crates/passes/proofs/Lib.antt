@@ -2,10 +2,13 @@ pub mod Result
 pub mod Alike
 pub mod Demand
 pub mod Stores
+pub mod Placing
 pub mod Bytes
+pub mod Counts
 pub mod Constants
-pub mod Liveness
+pub mod Classes
 pub mod Before
+pub mod Events
 pub mod Pruning
 pub mod Knowing
 pub mod Forward

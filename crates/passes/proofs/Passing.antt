@@ -1,74 +1,69 @@
 -- The pass of a block: its declarations' bytes, and the result in the buffer. Assumes nothing.
-use mathlib.Core.Path.{_≡_, refl, sym, ap, ap₂, _∙_, subst, fun-ext}
+use mathlib.Core.Path.{_≡_, refl, sym, ap, ap₂, _∙_}
 use mathlib.Core.Bool.{Bool, true, false, cond}
 use mathlib.Core.List.{List, [], _∷_, _++_, append-assoc}
 use Prim.Native.Nat.{ℕ, zero, suc, _+_, _*_, _≤_, _<_}
 use native.Mathlib.Omega.{arith}
 use lib.Dec.{ltb}
-use lib.ListN.{length, take, drop, length-append, take-append-drop}
+use lib.ListN.{length, getD, take, drop, length-append, length-drop, take-append-drop}
 use lib.Seq.{take-at, length-take-le, sets, length-sets, sets-eq}
 use borrow.Author.Tests.{lt-leb}
 use native.Mathlib.Nat.{zero-add}
-use Rattle.theory.specs.Fold.{nothing}
 use Rattle.theory.specs.Prune.{prune}
 use Rattle.theory.specs.Sets.{Vars}
 use Rattle.ops.specs.Rows.{known, bodyLength}
 use Rattle.ops.specs.Ops.{tcg}
 use Rattle.ops.specs.Kinds.{rowOf, document01}
-use Rattle.block.specs.Checks.{checkOf}
+use Rattle.block.specs.Checks.{checkOf, checkBy}
 use Rattle.block.specs.Records.{Cut, stray, cons, cutBy, cutOf, recordsOf, concat, declarations, opsFrom, classesOf}
 use Rattle.block.specs.Rules.{start as unread, globalsIn, keptIn}
-use Rattle.block.specs.Scan.{recordsAt, Approved, Scanned, rejected, approved}
+use Rattle.block.specs.Scan.{Approved, Scanned, rejected, approved}
+use Rattle.block.proofs.Accepts.{check-accepts}
 use Rattle.block.proofs.Checker.{declaredIn, few-ops}
-use Rattle.block.proofs.Cut.{AllWhole, cut-concat, split-records}
+use Rattle.block.proofs.Cut.{split-records}
+use Rattle.block.proofs.Declaring.{classes-length}
 use Rattle.block.proofs.Parts.{Parts, parts}
-use Rattle.runs.proofs.Ran.{global-few}
 use Rattle.passes.specs.Knows.{foldedOps}
-use Rattle.passes.specs.Laid.{Laid, keptFrom}
+use Rattle.passes.specs.Laid.{opsAt, keptFrom}
 use Rattle.passes.specs.Live.{Keeps}
 use Rattle.passes.specs.Passes.{passOps, resultOf, Passed, passRefused, written, passChecked, passOf, passBy}
-use Rattle.passes.specs.Ready.{Ready}
-use Rattle.passes.proofs.Forward.{left-wholes}
-use Rattle.passes.proofs.Liveness.{globals-first}
-use Rattle.passes.proofs.Result.{declarations-size, concat-append, parts-size, kept-parts, result-of, pass-answers}
+use Rattle.passes.specs.Ready.{classIn, ClassesOf, Ready}
+use Rattle.passes.proofs.Classes.{globals-first, classes-so}
+use Rattle.passes.proofs.Placing.{scan-laid, scan-ops, scan-first}
+use Rattle.passes.proofs.Result.{declarations-size, ops-size, concat-append, parts-size, kept-parts, result-of, pass-answers}
 use Rattle.passes.proofs.Stores.{sets-append}
-use Rattle.block.specs.declared.Verdict.the-variants.{Refused as CheckRefused}
+use Rattle.block.specs.declared.Verdict.the-variants.{Accepted, Refused as CheckRefused}
 use Rattle.passes.specs.declared.Written.the-variants.{Refused, Length}
 use Rattle.ops.proofs.Document01.{lawful}
 
--- what a cut leaves stands after the records
-cut-front : (n : ℕ) (bytes : List ℕ) → (rest : List ℕ) × (concat ((cutBy rowOf n bytes) .records) ++ rest ≡ bytes)
+-- records that leave nothing over are the bytes
+cut-together : (n : ℕ) (bytes : List ℕ) → length bytes ≤ n → (cutBy rowOf n bytes) .tail ≡ 0 → concat ((cutBy rowOf n bytes) .records) ≡ bytes
 unfolding cutBy
-cut-front zero bytes = (bytes, refl)
-cut-front (suc n) [] = ([], refl)
-cut-front (suc n) (k ∷ bytes) = go (known rowOf k) (ltb (length bytes) (bodyLength rowOf k)) (cut-front n (drop (bodyLength rowOf k) bytes))
+cut-together zero [] l z = refl
+cut-together zero (k ∷ bytes) l z = absurd (omega arith)
+cut-together (suc n) [] l z = refl
+cut-together (suc n) (k ∷ bytes) l z =
+    go (cutBy rowOf n (drop (bodyLength rowOf k) bytes)) (known rowOf k) (ltb (length bytes) (bodyLength rowOf k))
+    (cut-together n (drop (bodyLength rowOf k) bytes) (omega (arith, length-drop (bodyLength rowOf k) bytes))) z
   where
-    body : List ℕ
-    body = take (bodyLength rowOf k) bytes
+    go : (more : Cut) (t u : Bool) → (more .tail ≡ 0 → concat (more .records) ≡ drop (bodyLength rowOf k) bytes)
+        → (cond t (cond u (stray 1) (cons (k ∷ take (bodyLength rowOf k) bytes) more)) (stray 2)) .tail ≡ 0
+        → concat ((cond t (cond u (stray 1) (cons (k ∷ take (bodyLength rowOf k) bytes) more)) (stray 2)) .records) ≡ k ∷ bytes
+    go more false u ih q = absurd (omega arith)
+    go more true true ih q = absurd (omega arith)
+    go more true false ih q =
+        ap (λ (l : List ℕ). k ∷ l) (ap (λ (l : List ℕ). take (bodyLength rowOf k) bytes ++ l) (ih q) ∙ take-append-drop (bodyLength rowOf k) bytes)
 
-    more : Cut
-    more = cutBy rowOf n (drop (bodyLength rowOf k) bytes)
-
-    go : (t s : Bool) → (rest : List ℕ) × (concat (more .records) ++ rest ≡ drop (bodyLength rowOf k) bytes)
-        → (rest : List ℕ) × (concat ((cond t (cond s (stray 1) (cons (k ∷ body) more)) (stray 2)) .records) ++ rest ≡ k ∷ bytes)
-    go true true c = (k ∷ bytes, refl)
-    go true false c = (
-      c .0,
-      ap (λ (q : List ℕ). k ∷ q)
-          (append-assoc body (concat (more .records)) (c .0) ∙ ap (λ (q : List ℕ). body ++ q) (c .1) ∙ take-append-drop (bodyLength rowOf k) bytes),
-    )
-    go false s c = (k ∷ bytes, refl)
-
-records-front : (block : List ℕ) → (rest : List ℕ) × (concat (recordsOf rowOf block) ++ rest ≡ block)
-unfolding cutOf
-records-front block = cut-front (length block) block
-
-classes-length : (ds : List (List ℕ)) → length (classesOf ds) ≡ length ds
-classes-length [] = refl
-classes-length (d ∷ ds) = ap suc (classes-length ds)
+-- an accepted block is its declarations and its ops
+accepted-bytes : (block : List ℕ) → checkOf block ≡ Accepted → concat (declarations (recordsOf rowOf block)) ++ concat (opsFrom (recordsOf rowOf block)) ≡ block
+unfolding checkBy cutOf
+accepted-bytes block h =
+    let rs = recordsOf rowOf block in
+    sym (concat-append (declarations rs) (opsFrom rs)) ∙ ap concat (split-records rs)
+    ∙ cut-together (length block) block (omega arith) ((check-accepts rowOf unread 0 ((cutOf rowOf block) .records) ((cutOf rowOf block) .tail) h) .0)
 
 -- an accepted block
-module _ {block : List ℕ} {glob kept : Vars} {start ops : ℕ} (r : Ready block glob kept start ops) where
+module _ {block places classes : List ℕ} {start ops : ℕ} (r : Ready block places classes start ops) where
   abbrev ds : List (List ℕ)
   ds = declarations (recordsOf rowOf block)
 
@@ -78,23 +73,12 @@ module _ {block : List ℕ} {glob kept : Vars} {start ops : ℕ} (r : Ready bloc
   its-parts : Parts document01 block ds os
   its-parts = parts lawful block (r .accepted)
 
-  split-bytes : (rest : List ℕ) × (concat ds ++ rest ≡ block)
-  split-bytes =
-      let c = records-front block in (
-        concat os ++ c .0,
-        sym (append-assoc (concat ds) (concat os) (c .0))
-            ∙ ap (λ (q : List ℕ). q ++ c .0) (sym (concat-append ds os) ∙ ap concat (split-records (recordsOf rowOf block))) ∙ c .1,
-      )
-
   -- its declarations are its first bytes
   declared-bytes : take start block ≡ concat ds
-  declared-bytes = ap (take start) (sym (split-bytes .1)) ∙ take-at (concat ds) (split-bytes .0) start (sym (r .start-is))
+  declared-bytes = ap (take start) (sym (accepted-bytes block (r .accepted))) ∙ take-at (concat ds) (concat os) start (sym (r .start-is))
 
   pub declared-fit : start ≤ length block
-  declared-fit = omega (arith, r .start-is, length-append (concat ds) (split-bytes .0), ap length (split-bytes .1))
-
-  pub count-here : ops ≡ length (recordsAt rowOf block start)
-  count-here = r .count-is ∙ ap length (sym (r .ops-are))
+  declared-fit = omega (arith, r .start-is, length-append (concat ds) (concat os), ap length (accepted-bytes block (r .accepted)))
 
   pub few-here : ops ≤ 256
   few-here = omega (arith, r .count-is, few-ops document01 (declaredIn unread ds) os (its-parts .checked) (omega arith))
@@ -111,93 +95,102 @@ module _ {block : List ℕ} {glob kept : Vars} {start ops : ℕ} (r : Ready bloc
       ap (passChecked (resultOf document01 block) out) (r .accepted)
       ∙ ap (λ (b : Bool). cond b (written (resultOf document01 block) out) (passRefused 12 0 out)) (lt-leb (length (resultOf document01 block)) (length out) l)
 
-  -- what fold leaves
-  module _ {bytes places : List ℕ} (f : Laid bytes places (foldedOps (recordsAt rowOf block start)) ops) where
-    records-are : recordsOf rowOf bytes ≡ foldedOps (recordsAt rowOf block start)
-    records-are =
-        ap (λ (x : List ℕ). recordsOf rowOf x) (f .bytes-are)
-        ∙ ap (λ (c : Cut). c .records)
-        (cut-concat rowOf (foldedOps (recordsAt rowOf block start)) (left-wholes (recordsAt rowOf block start) nothing (subst (AllWhole rowOf) (sym (r .ops-are)) (its-parts .wholes .1)) .0))
+  -- what prune keeps of what fold leaves
+  module _ {marks₀ marks : List ℕ} {size : ℕ} (k : Keeps (foldedOps (opsAt block places 0 ops)) (globalsIn classes) (keptIn classes) marks₀ marks size) where
+    abbrev left : List ℕ
+    left = concat (keptFrom 0 marks (foldedOps (opsAt block places 0 ops)))
 
-    pub its-ops : Laid bytes places (recordsOf rowOf bytes) ops
-    its-ops = subst (λ (xs : List (List ℕ)). Laid bytes places xs ops) (sym records-are) f
+    kept-ops : keptFrom 0 marks (foldedOps (opsAt block places 0 ops)) ≡ passOps document01 (classesOf ds) os
+    unfolding passOps
+    kept-ops =
+        k .kept-are ∙ ap₂ (λ (g m : Vars). prune (tcg document01) g m (foldedOps (opsAt block places 0 ops))) (r .classes-are .globals-so) (r .classes-are .kept-so)
+        ∙ ap (λ (q : List (List ℕ)). prune (tcg document01) (globalsIn (classesOf ds)) (keptIn (classesOf ds)) (foldedOps q)) (r .ops-are)
 
-    -- and what prune keeps of it
-    module _ {keep : List ℕ} {size : ℕ} (k : Keeps (recordsOf rowOf bytes) glob kept keep size) where
-      abbrev left : List ℕ
-      left = concat (keptFrom 0 keep (recordsOf rowOf bytes))
+    result-is : resultOf document01 block ≡ concat ds ++ left
+    result-is =
+        result-of block ds os its-parts ∙ concat-append ds (passOps document01 (classesOf ds) os) ∙ ap (λ (x : List (List ℕ)). concat ds ++ concat x) (sym kept-ops)
 
-      kept-ops : keptFrom 0 keep (recordsOf rowOf bytes) ≡ passOps document01 (classesOf ds) os
-      unfolding passOps
-      kept-ops =
-          k .kept-are ∙ ap₂ (λ (g m : Vars). prune (tcg document01) g m (recordsOf rowOf bytes)) (r .globals-are) (r .kept-are)
-          ∙ ap (prune (tcg document01) (globalsIn (classesOf ds)) (keptIn (classesOf ds))) (records-are ∙ ap foldedOps (r .ops-are))
+    result-size : start + size ≡ length (resultOf document01 block)
+    result-size = omega (arith, ap length result-is, length-append (concat ds) left, r .start-is, k .size-is)
 
-      result-is : resultOf document01 block ≡ concat ds ++ left
-      result-is =
-          result-of block ds os its-parts ∙ concat-append ds (passOps document01 (classesOf ds) os) ∙ ap (λ (x : List (List ℕ)). concat ds ++ concat x) (sym kept-ops)
+    pub size-small : start + size ≤ 2752
+    size-small = omega (arith, result-size, result-small)
 
-      result-size : start + size ≡ length (resultOf document01 block)
-      result-size = omega (arith, ap length result-is, length-append (concat ds) left, r .start-is, k .size-is)
+    -- too short a buffer
+    pub pass-short : {out : List ℕ} → length out < start + size → (Refused 12 0 ≡ (passOf block out) .answer) × (out ≡ (passOf block out) .out)
+    pass-short {out} l =
+        let e = no-room out (omega (arith, result-size, l)) in (sym (ap (λ (p : Passed). p .answer) e), sym (ap (λ (p : Passed). p .out) e))
 
-      pub size-small : start + size ≤ 2752
-      size-small = omega (arith, result-size, result-small)
+    -- the declarations are stored, then the kept ops
+    module _ (out : List ℕ) {out₁ : List ℕ} (l : start + size ≤ length out) (e : out₁ ≡ sets out 0 (take start (drop 0 block))) where
+      pub ops-fit : start + length (concat (keptFrom 0 marks (foldedOps (opsAt block places 0 ops)))) ≤ length out₁
+      ops-fit = omega (arith, ap length e, length-sets out 0 (take start (drop 0 block)), l, k .size-is)
 
-      -- too short a buffer
-      pub pass-short : {out : List ℕ} → length out < start + size → (Refused 12 0 ≡ (passOf block out) .answer) × (out ≡ (passOf block out) .out)
-      pass-short {out} l =
-          let e = no-room out (omega (arith, result-size, l)) in (sym (ap (λ (p : Passed). p .answer) e), sym (ap (λ (p : Passed). p .out) e))
+      stored : {out₂ : List ℕ} → out₂ ≡ sets out₁ start left → out₂ ≡ resultOf document01 block ++ drop (length (resultOf document01 block)) out
+      stored q =
+          q ∙ ap₂ (λ (x : List ℕ) (m : ℕ). sets x m left) (e ∙ ap (sets out 0) declared-bytes) (r .start-is ∙ sym (zero-add (length (concat ds))))
+          ∙ sym (sets-append out 0 (concat ds) left) ∙ ap (sets out 0) (sym result-is) ∙ sets-eq (resultOf document01 block) out 0 (omega (arith, l, result-size))
+          ∙ ap (λ (m : ℕ). resultOf document01 block ++ drop m out) (zero-add (length (resultOf document01 block)))
 
-      -- the declarations are stored, then the kept ops
-      module _ (out : List ℕ) {out₁ : List ℕ} (l : start + size ≤ length out) (e : out₁ ≡ sets out 0 (take start (drop 0 block))) where
-        pub ops-fit : start + length (concat (keptFrom 0 keep (recordsOf rowOf bytes))) ≤ length out₁
-        ops-fit = omega (arith, ap length e, length-sets out 0 (take start (drop 0 block)), l, k .size-is)
-
-        stored : {out₂ : List ℕ} → out₂ ≡ sets out₁ start left → out₂ ≡ resultOf document01 block ++ drop (length (resultOf document01 block)) out
-        stored q =
-            q ∙ ap₂ (λ (x : List ℕ) (m : ℕ). sets x m left) (e ∙ ap (sets out 0) declared-bytes) (r .start-is ∙ sym (zero-add (length (concat ds))))
-            ∙ sym (sets-append out 0 (concat ds) left) ∙ ap (sets out 0) (sym result-is) ∙ sets-eq (resultOf document01 block) out 0 (omega (arith, l, result-size))
-            ∙ ap (λ (m : ℕ). resultOf document01 block ++ drop m out) (zero-add (length (resultOf document01 block)))
-
-        pub pass-stores : {out₂ : List ℕ} → out₂ ≡ sets out₁ start (concat (keptFrom 0 keep (recordsOf rowOf bytes)))
-            → (Length (start + size) ≡ (passOf block out) .answer) × (out₂ ≡ (passOf block out) .out)
-        pass-stores q =
-            let a = pass-answers document01 block out (r .accepted) (omega (arith, l, result-size)) in
-            (ap Length result-size ∙ sym (ap (λ (p : Passed). p .answer) a), stored q ∙ sym (ap (λ (p : Passed). p .out) a))
+      pub pass-stores : {out₂ : List ℕ} → out₂ ≡ sets out₁ start (concat (keptFrom 0 marks (foldedOps (opsAt block places 0 ops))))
+          → (Length (start + size) ≡ (passOf block out) .answer) × (out₂ ≡ (passOf block out) .out)
+      pass-stores q =
+          let a = pass-answers document01 block out (r .accepted) (omega (arith, l, result-size)) in
+          (ap Length result-size ∙ sym (ap (λ (p : Passed). p .answer) a), stored q ∙ sym (ap (λ (p : Passed). p .out) a))
 
 -- what the scan tells
-module _ {block places₀ classes types places labels : List ℕ} {start n globals ops : ℕ} (a : Approved rowOf block places₀ classes types places labels start n globals ops) where
+module _ {block places₀ base places labels : List ℕ} {start n globals ops : ℕ} (a : Approved rowOf block places₀ base places labels start n globals ops) where
   abbrev declared : List (List ℕ)
   declared = declarations (recordsOf rowOf block)
 
   its : Parts document01 block declared (opsFrom (recordsOf rowOf block))
   its = parts lawful block (a .accepted)
 
-  counted : length declared ≡ n
-  counted = sym (classes-length declared) ∙ ap length (a .classes-are) ∙ length-take-le n classes (omega (arith, a .few, a .long-classes))
+  start-so : start ≡ length (concat declared)
+  start-so = a .start-is ∙ sym (declarations-size lawful declared (its .wholes .0) (its .all-declared) ∙ ap (λ (m : ℕ). 3 * m) (a .variables))
 
-  ready : {glob kept : Vars} → ((v : ℕ) → glob v ≡ ltb v globals) → kept ≡ keptIn (take n classes) → Ready block glob kept start ops
-  ready g k =
+  abbrev ops-in : List (List ℕ)
+  ops-in = opsFrom (recordsOf rowOf block)
+
+  all-bytes : start + length (concat ops-in) ≡ length block
+  all-bytes = omega (arith, start-so, length-append (concat declared) (concat ops-in), ap length (accepted-bytes block (a .accepted)))
+
+  ops-few : length ops-in ≤ 256
+  ops-few = omega (arith, few-ops document01 (declaredIn unread declared) ops-in (its .checked) (omega arith))
+
+  block-small : length block < 65536
+  block-small = omega (arith, all-bytes, a .start-is, a .few, ops-few, ops-size lawful ops-in (its .wholes .1))
+
+  -- the classes of its variables
+  classed : (of : List ℕ) → ((v : ℕ) → getD of v 2 ≡ cond (ltb v n) (classIn base globals v) 2) → ClassesOf (classesOf declared) of
+  classed of c =
+      classes-so of globals (a .coded) (λ v. globals-first rowOf unread declared (its .all-declared) (its .met) v ∙ ap (ltb v) (sym (a .globals-are)))
+      (λ v. c v ∙ ap (λ (m : ℕ). cond (ltb v m) (classIn base globals v) 2) (sym (classes-length declared ∙ a .variables)))
+
+  ready : length places₀ ≡ 256 → (of : List ℕ) → ((v : ℕ) → getD of v 2 ≡ cond (ltb v n) (classIn base globals v) 2) → Ready block places of start ops
+  ready l of c =
+      let room : length ops-in ≤ length places₀ = omega (arith, ops-few) in
       record {
         accepted = a .accepted;
-        start-is = a .start-is ∙ sym (declarations-size lawful declared (its .wholes .0) (its .all-declared) ∙ ap (λ (m : ℕ). 3 * m) counted);
-        ops-are = a .ops-are;
+        start-is = start-so;
+        first-is = rw (a .count-is) (scan-first block places₀ places start ops-in (a .ops-are) (a .places-are) room all-bytes block-small);
+        laid = rw (a .count-is) (scan-laid block places₀ places start ops-in (a .ops-are) (a .places-are) room all-bytes block-small);
+        ops-are = rw (a .count-is) (scan-ops block places₀ places start ops-in (a .ops-are) (a .places-are) room all-bytes block-small);
         count-is = a .count-is;
-        globals-are = fun-ext (λ v. g v ∙ ap (ltb v) (a .globals-are) ∙ sym (globals-first rowOf unread declared (its .all-declared) (its .met) v));
-        kept-are = k ∙ ap keptIn (sym (a .classes-are));
+        classes-are = classed of c;
       }
 
-  few : (n ≤ 256) × (globals ≤ 256) × (length classes ≡ 256)
-  few = (omega (arith, a .few), omega (arith, a .few, a .globals-are, global-few (classesOf declared), classes-length declared, counted), a .long-classes)
+  few : n ≤ 256
+  few = omega (arith, a .few)
 
 -- of an accepted block, and of a refused one
-module _ {block places₀ classes types places labels : List ℕ} {start n globals ops : ℕ} where
-  pub ready-by : {rule place : ℕ} {glob kept : Vars} → Scanned rowOf block places₀ classes types places labels rule place start n globals ops → rule ≡ 0
-      → ((v : ℕ) → glob v ≡ ltb v globals) → kept ≡ keptIn (take n classes) → Ready block glob kept start ops
-  ready-by (rejected z q) e g k = absurd (z e)
-  ready-by (approved a) e g k = ready a g k
+module _ {block places₀ base places labels : List ℕ} {start n globals ops : ℕ} where
+  pub ready-by : {rule place : ℕ} → Scanned rowOf block places₀ base places labels rule place start n globals ops → rule ≡ 0 → length places₀ ≡ 256 → (of : List ℕ)
+      → ((v : ℕ) → getD of v 2 ≡ cond (ltb v n) (classIn base globals v) 2) → Ready block places of start ops
+  ready-by (rejected z q) e l of c = absurd (z e)
+  ready-by (approved a) e l of c = ready a l of c
 
-  pub few-by : {rule place : ℕ} → Scanned rowOf block places₀ classes types places labels rule place start n globals ops → rule ≡ 0 → (n ≤ 256) × (globals ≤ 256) × (length classes ≡ 256)
+  pub few-by : {rule place : ℕ} → Scanned rowOf block places₀ base places labels rule place start n globals ops → rule ≡ 0 → n ≤ 256
   few-by (rejected z q) e = absurd (z e)
   few-by (approved a) e = few a
 

@@ -3,17 +3,16 @@ use mathlib.Core.Path.{_≡_}
 use mathlib.Core.Bool.{Bool, true, _&&_, cond}
 use mathlib.Core.Option.{Option, none, some}
 use mathlib.Core.List.{List, [], _∷_}
-use Prim.Native.Nat.{ℕ}
+use Prim.Native.Nat.{ℕ, _<_}
 use lib.ListN.{getD}
 use Rattle.theory.specs.Machine.{inputs, computes, reads}
 use Rattle.theory.specs.Sets.{Vars}
 use Rattle.theory.specs.Fold.{Known, nothing, put, on, learned, fold, baseRule, bindO, allKnown}
-use Rattle.ops.specs.Rows.{computing}
-use Rattle.ops.specs.Rows.{roleOf}
 use Rattle.ops.specs.Ops.{rowAt, viewOf, tcg, foldableRow, folding}
 use Rattle.ops.specs.Kinds.{rowOf, document01}
 use Rattle.block.specs.Scan.{recordAt}
 use Rattle.runs.specs.Evaluates.{valuesOf}
+use Rattle.passes.specs.Laid.{opsAt, Constant, Leaves}
 use Rattle.word.specs.declared.Stated.{Stated}
 use Rattle.word.specs.declared.Stated.the-variants.{Value, NoResult}
 
@@ -46,8 +45,18 @@ pub record Stays (block : List ℕ) (place : ℕ) (known : Vars) (values : List 
 pub record Folds (block : List ℕ) (place : ℕ) (known : Vars) (values : List ℕ) (known′ : Vars) (values′ : List ℕ) (r : Stated) : Type 0 where
   pub rule-so : baseRule (tcg document01) (folding document01) (knownOf known values) (recordAt rowOf block place) ≡ put (leftBy r (recordAt rowOf block place))
   pub known-so : knownOf known′ values′ ≡ learned (knownOf known values) (viewOf document01 (leftBy r (recordAt rowOf block place)))
-  pub only-so : (x : ℕ) → r ≡ Value x → roleOf rowOf (getD block place 0) ≡ computing
+  pub constant-so : (x : ℕ) → r ≡ Value x → Constant block place x (folding document01 .const (recordAt rowOf block place) x)
 
 -- the ops that fold leaves
 abbrev pub foldedOps : List (List ℕ) → List (List ℕ)
 foldedOps os = fold (tcg document01) (baseRule (tcg document01) (folding document01)) os (on nothing)
+
+-- fold of so many ops: the mark of each, and the values of the constants
+pub record Folded (block places marks constants : List ℕ) (ops : ℕ) : Type 0 where
+  pub left : (i : ℕ) → i < ops → Leaves block (getD places i 0) (getD marks i 0) (getD constants i 0) (getD (foldedOps (opsAt block places 0 ops)) i [])
+  pub marks-few : (i : ℕ) → i < ops → getD marks i 0 < 2
+
+-- the same with some constants
+pub record Noted (block places marks : List ℕ) (ops : ℕ) : Type 0 where
+  pub constants : List ℕ
+  pub folded : Folded block places marks constants ops

@@ -151,6 +151,6 @@ codes-fit {base} {classes} {types} globals c few lt lb = upto base types globals
     same : (v : ℕ) → v < length globals → codeFits (getD base v 0) (getD globals v 0) ≡ narrowOk (bitsOf (getD types v 0)) (getD globals v 0)
     same v h =
         let q : getD base v 0 ≡ against (keptIn classes v || false) (getD types v 0) =
-            getD-any base v 0 15 (omega arith) ∙ ap (λ (codes : ℕ → ℕ). codes v) (c .codes-are) ∙ rw (lt-ltb v (length classes) (omega arith)) in
+        getD-any base v 0 15 (omega arith) ∙ ap (λ (codes : ℕ → ℕ). codes v) (c .codes-are) ∙ rw (lt-ltb v (length classes) (omega arith)) in
         ap (λ (x : ℕ). codeFits x (getD globals v 0)) q
         ∙ code-wide (keptIn classes v || false) (getD globals v 0) (getD types v 0) (c .types-small v)

@@ -1,67 +1,53 @@
--- Each byte is tested until one names a variable that is not known. Assumes nothing.
-use borrow.Author.Needs.{needs}
-use mathlib.Core.Path.{sym, _∙_}
-use Prim.Native.Nat.{_-_, _≤_}
+-- One or two bytes are tested without a loop. Assumes nothing.
+use mathlib.Core.Path.{sym, ap₂, _∙_}
+use mathlib.Core.Bool.{Bool, _&&_}
 use native.Mathlib.Omega.{arith}
-use borrow.Author.Tests.{not-true, not-false}
-use Rattle.ops.specs.Ops.{bytesAt}
-use Rattle.sets.specs.Words.{members}
-use Rattle.block.proofs.Operands.{Left, left-start, left-next, left-stops, left-ends}
-use Rattle.passes.proofs.Knowing.{all-each}
+use borrow.Author.Needs.{needs}
+use Rattle.block.specs.Scan.{marked}
+use Rattle.passes.proofs.Knowing.{one-or-two, ends-known}
 use Rattle.fold.proofs.all_known.Statement.{statement}
 use Rattle.fold.proofs.all_known.Tie as tie
 
-abbrev Inv-loop : tie.InvT-loop
-Inv-loop block from count known j₀ j = (j ≤ count) × Left (λ s v. members known v) (λ s. s) block from count 0 j 0
+each-known-requires : tie.Need-each-known-requires
+each-known-requires c κs = search needs
 
-abbrev μ-loop : tie.MeasureT-loop
-μ-loop block from count known j₀ j = count - j
+returns : tie.Need-returns
+returns c = search needs
 
-loop-holds : tie.Need-loop-holds Inv-loop μ-loop
-loop-holds c = (omega arith, left-start _ _ _ _ _ _)
+shared-slice-read-is-known : tie.Need-shared-slice-read-is-known
+shared-slice-read-is-known c = omega (arith, one-or-two (c .before .before .before .args .count) (c .before .if1 .left), c .before .before .before .pre)
 
-add-has : tie.Need-add-has Inv-loop μ-loop
-add-has c = search needs
+is-known-requires : tie.Need-is-known-requires
+is-known-requires c κs = search needs
 
-shared-slice-read-has : tie.Need-shared-slice-read-has Inv-loop μ-loop
-shared-slice-read-has c = search needs
+add-is-known : tie.Need-add-is-known
+add-is-known c = search needs
 
-has-requires : tie.Need-has-requires Inv-loop μ-loop
-has-requires c κs = search needs
+sub-is-known : tie.Need-sub-is-known
+sub-is-known c = omega (arith, one-or-two (c .before .before .before .before .args .count) (c .before .before .if1 .left))
 
-returns : tie.Need-returns Inv-loop μ-loop
-returns c =
-    let a = c .before .before .before .before .before .before .args in
-    left-stops (c .before .before .before .before .loop .inv .1) (c .before .before .before .loop-test .taken) (sym (c .before .has .ensures) ∙ not-true _ (c .if1 .taken))
-    ∙ all-each (members (a .known .now)) (bytesAt (a .block .now) (a .from) (a .count))
+shared-slice-read-is-known-2 : tie.Need-shared-slice-read-is-known-2
+shared-slice-read-is-known-2 c = omega (arith, one-or-two (c .before .before .before .before .before .args .count) (c .before .before .before .if1 .left), c .before .before .before .before .before .pre)
 
-add-j : tie.Need-add-j Inv-loop μ-loop
-add-j c = search needs
+is-known-requires-2 : tie.Need-is-known-requires-2
+is-known-requires-2 c κs = search needs
 
-loop-less : tie.Need-loop-less Inv-loop μ-loop
-loop-less c = search needs
-
-loop-again : tie.Need-loop-again Inv-loop μ-loop
-loop-again c =
-    (search needs, left-next (c .before .before .before .before .loop .inv .1) (c .before .before .before .loop-test .taken) (sym (c .before .has .ensures) ∙ not-false _ (c .if1 .left)))
-
-returns-2 : tie.Need-returns-2 Inv-loop μ-loop
+returns-2 : tie.Need-returns-2
 returns-2 c =
-    let a = c .before .before .before .args in
-    left-ends (c .before .loop .inv .1) (c .loop-test .left) ∙ all-each (members (a .known .now)) (bytesAt (a .block .now) (a .from) (a .count))
+    let a = c .before .before .before .before .before .before .args in
+    let few = one-or-two (a .count) (c .before .before .before .before .if1 .left) in
+    ap₂ (λ (t u : Bool). t && u) (c .before .before .is-known .ensures) (c .is-known2 .ensures) ∙ ends-known (a .block .now) (a .from) (a .count) (marked (a .known .now)) (few .0) (few .1)
 
 pub all-known-spec : {M : Type 1} → statement M
 all-known-spec =
     tie.close
     (tie.spec
-    Inv-loop
-    μ-loop
-    loop-holds
-    add-has
-    shared-slice-read-has
-    has-requires
+    each-known-requires
     returns
-    add-j
-    loop-less
-    loop-again
+    shared-slice-read-is-known
+    is-known-requires
+    add-is-known
+    sub-is-known
+    shared-slice-read-is-known-2
+    is-known-requires-2
     returns-2)

@@ -1,21 +1,21 @@
 -- What is known after an op that stays, by the number of its role. Assumes nothing.
-use mathlib.Core.Path.{_≡_}
+use mathlib.Core.Path.{_≡_, refl}
 use native.Mathlib.Omega.{arith}
 use lib.ListN.{getD}
-use Rattle.ops.specs.Rows.{constant}
-use Rattle.ops.specs.Rows.{roleOf}
+use Rattle.ops.specs.Rows.{constant, roleOf}
 use Rattle.ops.specs.Kinds.{rowOf}
-use Rattle.sets.specs.Words.{members}
+use Rattle.block.specs.Scan.{marked}
+use Rattle.block.proofs.MarkSets.{marked-none}
 use Rattle.block.proofs.Views.{inside}
 use Rattle.passes.proofs.Before.{operands-inside}
-use Rattle.passes.proofs.Knowing.{is-constant, over-constant, over-end, over-others}
+use Rattle.passes.proofs.Knowing.{is-constant, over-constant, over-end, over-output, over-nothing, forgotten}
 use borrow.Author.Needs.{needs}
 use Rattle.fold.proofs.pass_over.Statement.{statement}
 use Rattle.fold.proofs.pass_over.Tie as tie
 
 -- past the first test
 constant-so : (r : tie.After-role) → r .role .result ≡ 8 → (let a = r .before .before .args in roleOf rowOf (getD (a .block .now) (a .at) 0) ≡ constant)
-constant-so r h = let start = r .before .before in is-constant (start .pre .0) (start .pre .1) (r .role .ensures) (members (start .args .known .now)) (start .args .values .now) h
+constant-so r h = let start = r .before .before in is-constant (start .pre .0) (start .pre .1) (r .role .ensures) (marked (start .args .known .now)) (start .args .values .now) h
 
 role-requires : tie.Need-role-requires
 role-requires c κs = search needs
@@ -38,30 +38,36 @@ learn-requires c κs = search needs
 returns : tie.Need-returns
 returns c =
     let start = c .before .before .before .before .before .before .before .before in
-    over-constant (start .pre .0) (start .pre .1) (c .before .before .before .before .before .before .role .ensures) (members (start .args .known .now)) (start .args .values .now) (c .before .before .before .before .before .if1 .taken) (c .before .low-first .ensures .0) (c .learn .ensures)
-
-empty-requires : tie.Need-empty-requires
-empty-requires c κs = search needs
+    over-constant (start .pre .0) (start .pre .1) (c .before .before .before .before .before .before .role .ensures) (marked (start .args .known .now)) (start .args .values .now) (c .before .before .before .before .before .if1 .taken) (c .before .low-first .ensures .0) (c .learn .ensures)
 
 returns-2 : tie.Need-returns-2
 returns-2 c =
     let start = c .before .before .before .before .before in
-    over-end (start .pre .0) (start .pre .1) (c .before .before .before .role .ensures) (members (start .args .known .now)) (start .args .values .now) (c .before .if2 .taken) (c .empty .ensures)
-
-add-remove-all : tie.Need-add-remove-all
-add-remove-all c = search needs
+    over-end (start .pre .0) (start .pre .1) (c .before .before .before .role .ensures) (marked (start .args .known .now)) (start .args .values .now) (c .before .if2 .taken) (marked-none 256 refl)
 
 outs-requires : tie.Need-outs-requires
 outs-requires c κs = search needs
 
-remove-all-requires : tie.Need-remove-all-requires
-remove-all-requires c κs = omega (arith, operands-inside (c .before .before .before .before .before .before .pre .0) (c .before .before .before .before .before .before .pre .1), c .before .outs .ensures)
+add-put : tie.Need-add-put
+add-put c = search needs
+
+shared-slice-read-put : tie.Need-shared-slice-read-put
+shared-slice-read-put c = omega (arith, operands-inside (c .before .before .before .before .before .before .before .before .pre .0) (c .before .before .before .before .before .before .before .before .pre .1), c .before .before .before .outs .ensures, c .before .before .if3 .taken)
+
+put-requires : tie.Need-put-requires
+put-requires c κs = search needs
 
 returns-3 : tie.Need-returns-3
 returns-3 c =
-    let start = c .before .before .before .before .before .before .before in
-    over-others (start .pre .0) (start .pre .1) (c .before .before .before .before .before .role .ensures) (members (start .args .known .now)) (start .args .values .now) (c .before .before .before .if2 .left) (c .before .before .before .before .if1 .left) (start .pre .2)
-    (rw (c .before .before .outs .ensures) at (c .remove-all .ensures))
+    let start = c .before .before .before .before .before .before .before .before .before in
+    over-output (start .pre .0) (start .pre .1) (c .before .before .before .before .before .before .before .role .ensures) (marked (start .args .known .now)) (start .args .values .now) (c .before .before .before .before .before .if2 .left) (c .before .before .before .before .before .before .if1 .left) (start .pre .2)
+    (c .before .before .before .before .outs .ensures) (c .before .before .before .if3 .taken) (forgotten (c .put .ensures))
+
+returns-4 : tie.Need-returns-4
+returns-4 c =
+    let start = c .before .before .before .before .before .before in
+    over-nothing (start .pre .0) (start .pre .1) (c .before .before .before .before .role .ensures) (marked (start .args .known .now)) (start .args .values .now) (c .before .before .if2 .left) (c .before .before .before .if1 .left) (start .pre .2)
+    (c .before .outs .ensures) (c .if3 .left)
 
 pub pass-over-spec : {M : Type 1} → statement M
 pass-over-spec =
@@ -74,9 +80,10 @@ pass-over-spec =
     low-first-requires
     learn-requires
     returns
-    empty-requires
     returns-2
-    add-remove-all
     outs-requires
-    remove-all-requires
-    returns-3)
+    add-put
+    shared-slice-read-put
+    put-requires
+    returns-3
+    returns-4)

@@ -4,7 +4,7 @@ use native.Mathlib.Omega.{arith}
 use lib.ListN.{getD}
 use borrow.Author.Tests.{not-true, not-false}
 use Rattle.runs.specs.Evaluates.{Computed}
-use Rattle.sets.specs.Words.{members}
+use Rattle.block.specs.Scan.{marked}
 use Rattle.passes.proofs.Before.{operands-inside}
 use Rattle.passes.proofs.Knowing.{computed-at, states-known, unknown-states, others-state}
 use borrow.Author.Needs.{needs}
@@ -22,7 +22,7 @@ is-computing-requires c κs = search needs
 returns : tie.Need-returns
 returns c =
     let start = c .before .before .before in
-    others-state (start .pre .0) (start .pre .1) (members (start .args .known .now)) (start .args .values .now) (sym (c .before .is-computing .ensures) ∙ not-true _ (c .if1 .taken))
+    others-state (start .pre .0) (start .pre .1) (marked (start .args .known .now)) (start .args .values .now) (sym (c .before .is-computing .ensures) ∙ not-true _ (c .if1 .taken))
 
 add-all-known : tie.Need-add-all-known
 add-all-known c = search needs
@@ -48,12 +48,12 @@ evaluate-requires c κs = (computes (c .before .before .before .before .before),
 returns-2 : tie.Need-returns-2
 returns-2 c =
     let start = c .before .before .before .before .before .before .before .before .before in
-    states-known (computes (c .before .before .before .before .before .before)) (start .pre .1) (members (start .args .known .now)) (start .args .values .now) (c .before .before .before .before .before .outs .ensures) (c .before .before .before .before .ins .ensures) (c .before .before .before .all-known .ensures) (c .before .before .if2 .taken) (c .evaluate .ensures)
+    states-known (computes (c .before .before .before .before .before .before)) (start .pre .1) (marked (start .args .known .now)) (start .args .values .now) (c .before .before .before .before .before .outs .ensures) (c .before .before .before .before .ins .ensures) (c .before .before .before .all-known .ensures) (c .before .before .if2 .taken) (c .evaluate .ensures)
 
 returns-3 : tie.Need-returns-3
 returns-3 c =
     let start = c .before .before .before .before .before .before .before in
-    unknown-states (computes (c .before .before .before .before)) (start .pre .1) (members (start .args .known .now)) (start .args .values .now) (c .before .before .before .outs .ensures) (c .before .before .ins .ensures) (c .before .all-known .ensures) (c .if2 .left)
+    unknown-states (computes (c .before .before .before .before)) (start .pre .1) (marked (start .args .known .now)) (start .args .values .now) (c .before .before .before .outs .ensures) (c .before .before .ins .ensures) (c .before .all-known .ensures) (c .if2 .left)
 
 pub stated-by-spec : {M : Type 1} → statement M
 stated-by-spec =

@@ -11,14 +11,11 @@ slice-aggregate-write-result c = search needs
 slice-aggregate-write-result-2 : tie.Need-slice-aggregate-write-result-2
 slice-aggregate-write-result-2 c = search needs
 
-slice-aggregate-write-result-3 : tie.Need-slice-aggregate-write-result-3
-slice-aggregate-write-result-3 c = search needs
-
 write-result-requires : tie.Need-write-result-requires
 write-result-requires c κs =
-    let pre = c .before .before .before .before .before .before .pre in
+    let pre = c .before .before .before .before .before .pre in
     let few = few-here (pre .0) in
-    (pre .0, few, few, omega (arith, few), pre .1)
+    (pre .0, few, few, pre .1)
 
 same-length : tie.Need-same-length
 same-length c = search needs
@@ -32,7 +29,6 @@ write-long-spec =
     (tie.spec
     slice-aggregate-write-result
     slice-aggregate-write-result-2
-    slice-aggregate-write-result-3
     write-result-requires
     same-length
     returns)

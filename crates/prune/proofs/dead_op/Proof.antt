@@ -1,8 +1,11 @@
--- Only a pure op is dead, where none of its outputs is live. Assumes nothing.
+-- Only a pure op is dead, where its output is not live. Assumes nothing.
+use Prim.Native.Nat.{_+_}
 use native.Mathlib.Omega.{arith}
-use Rattle.sets.specs.Words.{members}
-use Rattle.passes.proofs.Before.{operands-inside, never-dead, dead-if}
 use borrow.Author.Needs.{needs}
+use Rattle.passes.specs.Live.{liveOf}
+use Rattle.passes.proofs.Before.{operands-inside, never-dead, dead-if}
+use Rattle.passes.proofs.Counts.{pure-out}
+use Rattle.passes.proofs.Events.{none-one}
 use Rattle.prune.proofs.dead_op.Statement.{statement}
 use Rattle.prune.proofs.dead_op.Tie as tie
 
@@ -11,24 +14,32 @@ role-requires c κs = search needs
 
 returns : tie.Need-returns
 returns c =
-    let start = c .before .before .before in
-    never-dead (start .pre .0) (start .pre .1) (members (start .args .live .now)) (c .before .role .ensures) (c .if1 .taken)
+    let a = c .before .before .before .args in
+    never-dead (c .before .before .before .pre .0) (c .before .before .before .pre .1) (liveOf (a .events .now) (a .floors .now) (a .classes .now)) (c .before .role .ensures) (c .if1 .taken)
 
-add-none-live : tie.Need-add-none-live
-add-none-live c = search needs
+add-is-live : tie.Need-add-is-live
+add-is-live c = search needs
 
-outs-requires : tie.Need-outs-requires
-outs-requires c κs = search needs
+shared-slice-read-is-live : tie.Need-shared-slice-read-is-live
+shared-slice-read-is-live c = omega (arith, operands-inside (c .before .before .before .before .pre .0) (c .before .before .before .before .pre .1), pure-out _ (c .before .before .before .before .pre .1) (omega (arith, c .before .before .role .ensures, c .before .if1 .left)))
 
-none-live-requires : tie.Need-none-live-requires
-none-live-requires c κs = omega (arith, operands-inside (c .before .before .before .before .pre .0) (c .before .before .before .before .pre .1), c .outs .ensures)
+is-live-requires : tie.Need-is-live-requires
+is-live-requires c κs = search needs
 
 returns-2 : tie.Need-returns-2
 returns-2 c =
     let start = c .before .before .before .before .before in
-    dead-if (start .pre .0) (start .pre .1) (members (start .args .live .now)) (c .before .before .before .role .ensures) (c .before .before .if1 .left) (rw (c .before .outs .ensures) at (c .none-live .ensures))
+    let a = start .args in
+    let l = liveOf (a .events .now) (a .floors .now) (a .classes .now) in
+    dead-if (start .pre .0) (start .pre .1) l (c .before .before .before .role .ensures) (c .before .before .if1 .left) (none-one l (a .block .now) (a .at + 1) (pure-out _ (start .pre .1) (omega (arith, c .before .before .before .role .ensures, c .before .before .if1 .left))) (c .is-live .ensures))
 
 pub dead-op-spec : {M : Type 1} → statement M
 dead-op-spec =
     tie.close
-    (tie.spec role-requires returns add-none-live outs-requires none-live-requires returns-2)
+    (tie.spec
+    role-requires
+    returns
+    add-is-live
+    shared-slice-read-is-live
+    is-live-requires
+    returns-2)

@@ -71,9 +71,10 @@ after : (m : tie.After-length Inv-loop μ-loop) → let k = reading (m .before .
     (k .before .loop .at + m .length .result ≤ length (k .before .before .before .before .args .block .now)) × (0 < m .length .result)
 after m =
     let e = m .before .before .before .before .before in
-    let k = reading e in
-    (inside (k .before .loop .inv .1) (k .loop-test .taken) (e .before .op-ok .ensures) (passed e) (its-plan (planned e)) (m .length .ensures),
-    further (k .before .loop .inv .1) (k .loop-test .taken) (e .before .op-ok .ensures) (passed e) (its-plan (planned e)) (m .length .ensures))
+    let k = reading e in (
+      inside (k .before .loop .inv .1) (k .loop-test .taken) (e .before .op-ok .ensures) (passed e) (its-plan (planned e)) (m .length .ensures),
+      further (k .before .loop .inv .1) (k .loop-test .taken) (e .before .op-ok .ensures) (passed e) (its-plan (planned e)) (m .length .ensures),
+    )
 
 loop-again : tie.Need-loop-again Inv-loop μ-loop
 loop-again c =

@@ -1,0 +1,57 @@
+-- How many outputs and inputs an op has: a test of the whole table. Assumes nothing.
+use mathlib.Core.Path.{_≡_, refl}
+use mathlib.Core.Bool.{Bool, true, false, not, _&&_, _||_}
+use mathlib.Core.Logic.{_⊎_, inl, inr}
+use Prim.Native.Nat.{ℕ, zero, suc, _≤_, _<_}
+use native.Mathlib.Omega.{arith}
+use lib.Dec.{eqb, ltb, leb}
+use lib.ListN.{length, getD}
+use borrow.Author.Tests.{ltb-true, ltb-false, leb-true, eqb-true, lt-ltb}
+use Rattle.theory.proofs.Sets.{and-l, and-r, tell}
+use Rattle.ops.specs.Rows.{outsIn, insIn, roleIn, roleNo, numberOf}
+use Rattle.ops.specs.Kinds.{kindTable}
+use Rattle.ops.proofs.Ranges.{every, listed}
+use Rattle.ops.proofs.Table.{beyond}
+
+-- at most four inputs, at most one output, and a pure op has one
+abbrev oneOut : ℕ → ℕ → Bool
+oneOut k e = leb (insIn e) 4 && (leb (outsIn e) 1 && (not (ltb 7 (numberOf (roleNo (roleIn e)))) || eqb (outsIn e) 1))
+
+all-so : every oneOut 0 kindTable ≡ true
+unfolding kindTable roleNo
+all-so = refl
+
+long-so : length kindTable ≡ 256
+unfolding kindTable
+long-so = refl
+
+none-so : oneOut 0 0 ≡ true
+unfolding roleNo
+none-so = refl
+
+one-out : (k : ℕ) → oneOut k (getD kindTable k 0) ≡ true
+one-out k = go (tell (ltb k 256))
+  where
+    go : (ltb k 256 ≡ true) ⊎ (ltb k 256 ≡ false) → oneOut k (getD kindTable k 0) ≡ true
+    go (inl h) = listed oneOut kindTable all-so k (omega (arith, long-so, ltb-true k 256 h))
+    go (inr h) = rw (beyond k (ltb-false k 256 h)) none-so
+
+module _ {e : ℕ} (k : ℕ) (q : e ≡ getD kindTable k 0) where
+  so : oneOut k e ≡ true
+  so = rw q (one-out k)
+
+  pub few-outs : outsIn e ≤ 1
+  few-outs = leb-true (outsIn e) 1 (and-l (leb (outsIn e) 1) _ (and-r (leb (insIn e) 4) _ so))
+
+  pub few-ins : insIn e ≤ 4
+  few-ins = leb-true (insIn e) 4 (and-l (leb (insIn e) 4) _ so)
+
+  pub pure-out : 7 < numberOf (roleNo (roleIn e)) → outsIn e ≡ 1
+  pure-out h =
+      let t : (not (ltb 7 (numberOf (roleNo (roleIn e)))) || eqb (outsIn e) 1) ≡ true = and-r (leb (outsIn e) 1) _ (and-r (leb (insIn e) 4) _ so) in
+      eqb-true (outsIn e) 1 (rw (lt-ltb 7 (numberOf (roleNo (roleIn e))) h) at t)
+
+pub none-else : (n : ℕ) → n ≤ 1 → (n ≡ 1 → ⊥) → n ≡ 0
+none-else zero h k = refl
+none-else (suc zero) h k = absurd (k refl)
+none-else (suc (suc n)) h k = absurd (omega arith)
