@@ -7,18 +7,18 @@ use Prim.Native.Nat.{ℕ, zero, suc, _+_, _-_, _*_, _/_, _≤_, _<_, min}
 use native.Mathlib.Omega.{arith}
 use lib.Dec.{eqb, ltb, leb, eqb·zero-suc, eqb·suc-suc}
 use lib.ListN.{length, getD, drop, set, replicate, length-set, length-append}
-use borrow.Author.Tests.{ltb-true, ltb-false, leb-true, leb-false, le-ltb, eqb-true, eqb-false, eq-eqb, ne-eqb}
+use borrow.Author.Tests.{ltb-true, ltb-false, lt-ltb, leb-true, leb-false, le-ltb, eqb-true, eqb-false, eq-eqb, ne-eqb}
 use native.Mathlib.Numerals.{add-one}
 use Rattle.theory.specs.Prune.{before}
 use Rattle.theory.specs.Sets.{empty}
-use Rattle.theory.proofs.Sets.{and-l, and-r, tell}
+use Rattle.theory.proofs.Sets.{and-l, and-r, tell, clash}
 use Rattle.ops.specs.Rows.{isKnown, at, Table}
 use Rattle.ops.specs.Rows.{known, bodyLength}
 use Rattle.ops.specs.Ops.{kindOf}
 use Rattle.block.specs.Checks.{asks, firstBroken, answer, checkBy}
 use Rattle.block.specs.Records.{Cut, cons, cutOf, recordsOf, isDeclaration, classOf, typeOf, classesOf, declaredTypes, globalCount}
 use Rattle.block.specs.Rules.{Seen}
-use Rattle.block.specs.Scan.{Stands, codesIn, codeOf, Coded, codeFor, declarationOk, declaredRule, Stopped, DeclaredBy, refuses, reads-on}
+use Rattle.block.specs.Scan.{Stands, codesIn, codeOf, Coded, codeFor, declarationOk, declaresGlobal, declaresOther, declaredRule, Stopped, DeclaredBy, refuses, reads-on}
 use Rattle.block.proofs.Codes.{coded-more}
 use Rattle.block.proofs.Cut.{all-append}
 use Rattle.block.proofs.Views.{byte, kind-byte}
@@ -27,6 +27,7 @@ use Rattle.block.specs.Rules.{allGlobal, rule3, declared, next}
 use Rattle.block.specs.Scan.{recordAt, checkAt, declaredSeen, Declaring}
 use Rattle.block.specs.declared.Verdict.the-variants.{Refused}
 use Rattle.ops.specs.Lawful.{LawfulTable}
+use Rattle.ops.proofs.Plans.{not-so}
 
 pub last-false : (a b : Bool) → b ≡ false → false ≡ (a && b)
 last-false true b h = sym h
@@ -301,12 +302,70 @@ module _ {T : Table} (law : LawfulTable T) {b vars : List ℕ} {n globals : ℕ}
   pub again-other : {g x : ℕ} → x ≡ codeFor (getD b (3 * n + 1) 0) (getD b (3 * n + 2) 0) → (getD b (3 * n + 1) 0 ≡ 0 → ⊥) → g ≡ globals → Declaring T b (set vars n x) (3 * (n + 1)) (n + 1) g
   again-other c z q = rw (q, c) (next-place (declaring-other law d (omega arith) k (omega arith) (sym e ∙ t) z))
 
--- where no good declaration stands, the reading stops
-pub stops-at : (b : List ℕ) (p n globals : ℕ) {r : Bool} → r ≡ declarationOk (getD b (p + 1) 0) (getD b (p + 2) 0) globals n → (eqb (getD b p 0) 1 && r) ≡ false → Stopped b p n globals
-stops-at b p n globals {r} e t h k l = sym e ∙ (rw (eq-eqb (getD b p 0) 1 k) at t)
+-- a good declaration, by the tests of the two loops
+module _ (kind class type n : ℕ) (few : n < 64) where
+  global-ok : declaresGlobal kind class type ≡ true → declarationOk class type n n ≡ true
+  unfolding declarationOk
+  global-ok t =
+      let a = and-l (eqb kind 1 && eqb class 0) (leb type 1) t in
+      let z = eqb-true class 0 (and-r (eqb kind 1) (eqb class 0) a) in
+      rw (z, and-r (eqb kind 1 && eqb class 0) (leb type 1) t, eq-eqb n n refl, lt-ltb n 64 few)
 
-pub both-true : (x : ℕ) (r : Bool) → (eqb x 1 && r) ≡ true → (x ≡ 1) × (r ≡ true)
-both-true x r t = (eqb-true x 1 (and-l (eqb x 1) r t), and-r (eqb x 1) r t)
+  other-ok : (globals : ℕ) → declaresOther kind class type ≡ true → declarationOk class type globals n ≡ true
+  unfolding declarationOk
+  other-ok globals t =
+      let a = and-l (eqb kind 1 && not (eqb class 0) && leb class 2) (leb type 1) t in
+      let b = and-l (eqb kind 1 && not (eqb class 0)) (leb class 2) a in
+      rw (and-r (eqb kind 1 && not (eqb class 0)) (leb class 2) a, and-r (eqb kind 1 && not (eqb class 0) && leb class 2) (leb type 1) t, and-r (eqb kind 1) (not (eqb class 0)) b, lt-ltb n 64 few)
+
+pub global-kind : (kind class type : ℕ) → declaresGlobal kind class type ≡ true → (kind ≡ 1) × (class ≡ 0) × (type < 2)
+global-kind kind class type t =
+    let a = and-l (eqb kind 1 && eqb class 0) (leb type 1) t in
+    (eqb-true kind 1 (and-l (eqb kind 1) (eqb class 0) a), eqb-true class 0 (and-r (eqb kind 1) (eqb class 0) a), omega (arith, leb-true type 1 (and-r (eqb kind 1 && eqb class 0) (leb type 1) t)))
+
+pub other-kind : (kind class type : ℕ) → declaresOther kind class type ≡ true → (kind ≡ 1) × (class ≡ 0 → ⊥) × (type < 2)
+other-kind kind class type t =
+    let a = and-l (eqb kind 1 && not (eqb class 0) && leb class 2) (leb type 1) t in
+    let b = and-l (eqb kind 1 && not (eqb class 0)) (leb class 2) a in
+    (eqb-true kind 1 (and-l (eqb kind 1) (not (eqb class 0)) b), eqb-false class 0 (not-so (eqb class 0) (and-r (eqb kind 1) (not (eqb class 0)) b)), omega (arith, leb-true type 1 (and-r (eqb kind 1 && not (eqb class 0) && leb class 2) (leb type 1) t)))
+
+-- one turn of each loop
+pub next-global : {T : Table} (law : LawfulTable T) {b vars : List ℕ} {n x : ℕ} {r : Bool} → Declaring T b vars (3 * n) n n → n < length b / 3 → n < 64
+    → r ≡ declaresGlobal (getD b (3 * n) 0) (getD b (3 * n + 1) 0) (getD b (3 * n + 2) 0) → r ≡ true → x ≡ codeFor 0 (getD b (3 * n + 2) 0) → Declaring T b (set vars n x) (3 * (n + 1)) (n + 1) (n + 1)
+next-global law {b} {n = n} d h l e t c =
+    let k = global-kind (getD b (3 * n) 0) (getD b (3 * n + 1) 0) (getD b (3 * n + 2) 0) (sym e ∙ t) in
+    again-global law d h (k .0) refl (global-ok (getD b (3 * n) 0) (getD b (3 * n + 1) 0) (getD b (3 * n + 2) 0) n l (sym e ∙ t)) (c ∙ ap (λ (z : ℕ). codeFor z (getD b (3 * n + 2) 0)) (sym (k .1))) (k .1) refl
+
+pub next-other : {T : Table} (law : LawfulTable T) {b vars : List ℕ} {n globals x : ℕ} {r : Bool} → Declaring T b vars (3 * n) n globals → n < length b / 3 → n < 64
+    → r ≡ declaresOther (getD b (3 * n) 0) (getD b (3 * n + 1) 0) (getD b (3 * n + 2) 0) → r ≡ true → x ≡ codeFor (getD b (3 * n + 1) 0) (getD b (3 * n + 2) 0)
+    → Declaring T b (set vars n x) (3 * (n + 1)) (n + 1) globals
+next-other law {b} {n = n} {globals = globals} d h l e t c =
+    let k = other-kind (getD b (3 * n) 0) (getD b (3 * n + 1) 0) (getD b (3 * n + 2) 0) (sym e ∙ t) in
+    again-other law d h (k .0) refl (other-ok (getD b (3 * n) 0) (getD b (3 * n + 1) 0) (getD b (3 * n + 2) 0) n l globals (sym e ∙ t)) c (k .1) refl
+
+-- where the second loop stops, no good declaration stands
+pub stops-at : (b : List ℕ) (n globals : ℕ) {r : Bool} → r ≡ declaresOther (getD b (3 * n) 0) (getD b (3 * n + 1) 0) (getD b (3 * n + 2) 0) → r ≡ false
+    → (n ≡ globals → declaresGlobal (getD b (3 * n) 0) (getD b (3 * n + 1) 0) (getD b (3 * n + 2) 0) ≡ false) → Stopped b (3 * n) n globals
+unfolding declarationOk
+stops-at b n globals {r} e t g h k l = go (tell (eqb class 0)) (tell (leb class 2)) (tell (leb type 1)) (tell (eqb globals n))
+  where
+    class : ℕ
+    class = getD b (3 * n + 1) 0
+
+    type : ℕ
+    type = getD b (3 * n + 2) 0
+
+    other : declaresOther (getD b (3 * n) 0) (getD b (3 * n + 1) 0) (getD b (3 * n + 2) 0) ≡ false
+    other = sym e ∙ t
+
+    go : (eqb (getD b (3 * n + 1) 0) 0 ≡ true) ⊎ (eqb (getD b (3 * n + 1) 0) 0 ≡ false) → (leb (getD b (3 * n + 1) 0) 2 ≡ true) ⊎ (leb (getD b (3 * n + 1) 0) 2 ≡ false)
+        → (leb (getD b (3 * n + 2) 0) 1 ≡ true) ⊎ (leb (getD b (3 * n + 2) 0) 1 ≡ false) → (eqb globals n ≡ true) ⊎ (eqb globals n ≡ false)
+        → (leb (getD b (3 * n + 1) 0) 2 && leb (getD b (3 * n + 2) 0) 1 && (not (eqb (getD b (3 * n + 1) 0) 0) || eqb globals n) && ltb n 64) ≡ false
+    go x (inr y) z w = rw y
+    go x (inl y) (inr z) w = rw (y, z)
+    go (inl x) (inl y) (inl z) (inr w) = rw (y, z, x, w)
+    go (inr x) (inl y) (inl z) w = absurd (clash _ (rw (eq-eqb (getD b (3 * n) 0) 1 k, x, y, z) refl) other)
+    go (inl x) (inl y) (inl z) (inl w) = absurd (clash _ (rw (eq-eqb (getD b (3 * n) 0) 1 k, x, z) refl) (g (sym (eqb-true globals n w))))
 
 pub no-more-room : (b : List ℕ) (n globals : ℕ) {limit : ℕ} → limit ≡ min (length b / 3) 64 → limit ≤ n → Stopped b (3 * n) n globals
 no-more-room b n globals e l = go (tell (leb 64 n))

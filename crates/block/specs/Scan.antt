@@ -135,6 +135,17 @@ codeFor class type = against (ltb class 2) (type % 4)
 unfoldable pub declarationOk : ℕ → ℕ → ℕ → ℕ → Bool
 declarationOk class type globals n = leb class 2 && leb type 1 && (not (eqb class 0) || eqb globals n) && ltb n 64
 
+-- three bytes declare a global; or another variable
+abbrev pub declaresGlobal : ℕ → ℕ → ℕ → Bool
+declaresGlobal kind class type = eqb kind 1 && eqb class 0 && leb type 1
+
+abbrev pub declaresOther : ℕ → ℕ → ℕ → Bool
+declaresOther kind class type = eqb kind 1 && not (eqb class 0) && leb class 2 && leb type 1
+
+-- the n-th declaration, where there is room for one, is not that of a global
+abbrev pub NoGlobal : List ℕ → ℕ → ℕ → Type 0
+NoGlobal block limit n = n < limit → declaresGlobal (getD block (3 * n) 0) (getD block (3 * n + 1) 0) (getD block (3 * n + 2) 0) ≡ false
+
 -- where the declarations have been read, no good one stands at the place
 abbrev pub Stopped : List ℕ → ℕ → ℕ → ℕ → Type 0
 Stopped block place n globals =

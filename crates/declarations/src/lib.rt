@@ -4,15 +4,8 @@ ghost use Prim.Native.Nat.{_*_, _/_, _≤_, _<_, min};
 ghost use lib.ListN.{length, replicate};
 ghost use Rattle.ops.specs.Rows.{Table};
 ghost use Rattle.ops.specs.Lawful.{LawfulTable};
-ghost use Rattle.block.specs.Scan.{codeFor, declarationOk, declaredRule, Declaring, Stopped, DeclaredBy};
+ghost use Rattle.block.specs.Scan.{codeFor, declaresGlobal, declaresOther, declaredRule, Declaring, NoGlobal, Stopped, DeclaredBy};
 use ops::MAX_VARIABLES;
-
-// Rule 3, for the declaration of the n-th variable, of which so many are globals.
-fn declaration_ok(class: u8, ty: u8, globals: usize, n: usize) -> bool
-    ensures { λ r. ⌜ r ≡ declarationOk class ty globals n ⌝ }
-{
-    (class <= 2) & (ty <= 1) & ((class != 0) | (globals == n)) & (n < MAX_VARIABLES)
-}
 
 // The byte of a variable: it has no other type, and may not be read unless it outlives a basic block.
 fn code(class: u8, ty: u8) -> u8
@@ -30,40 +23,54 @@ fn most(length: usize) -> usize
     if n < MAX_VARIABLES { n } else { MAX_VARIABLES }
 }
 
-// How many variables have been declared, and how many globals.
-pub struct Counted {
-    pub variables: usize,
-    pub globals: usize,
+// Whether these three bytes declare a global; or another variable.
+fn declares_global(kind: u8, class: u8, ty: u8) -> bool
+    ensures { λ r. ⌜ r ≡ declaresGlobal kind class ty ⌝ }
+{
+    (kind == 1) & (class == 0) & (ty <= 1)
 }
 
-// Reads declarations up to the first record that is no good one.
-fn count_declarations(block: &[u8], vars: &mut [u8; 256]) -> Counted
-    requires { ⌜ now vars ≡ replicate 256 15 ⌝ }
-    ensures { λ r. ⌜ ((T : Table) → LawfulTable T → Declaring T (now (block .entry)) (now (vars .exit)) (3 * (r .variables)) (r .variables) (r .globals)) × Stopped (now (block .entry)) (3 * (r .variables)) (r .variables) (r .globals) × ((r .variables) ≤ 64) ⌝ }
+fn declares_other(kind: u8, class: u8, ty: u8) -> bool
+    ensures { λ r. ⌜ r ≡ declaresOther kind class ty ⌝ }
 {
-    let limit = most(block.len());
+    (kind == 1) & (class != 0) & (class <= 2) & (ty <= 1)
+}
+
+// Reads declarations of globals, up to the first record that is none; how many there are.
+fn count_globals(block: &[u8], limit: usize, vars: &mut [u8; 256]) -> usize
+    requires { ⌜ (now vars ≡ replicate 256 15) × (limit ≡ min (length (now block) / 3) 64) ⌝ }
+    ensures { λ r. ⌜ ((T : Table) → LawfulTable T → Declaring T (now (block .entry)) (now (vars .exit)) (3 * r) r r) × (r ≤ limit) × NoGlobal (now (block .entry)) limit r ⌝ }
+{
     let mut n: usize = 0;
-    let mut globals: usize = 0;
+    while n < limit {
+        let at = 3 * n;
+        let ty = block[at + 2];
+        if !declares_global(block[at], block[at + 1], ty) {
+            return n;
+        }
+        vars[n] = code(0, ty);
+        n += 1;
+    }
+    n
+}
+
+// Reads declarations after the globals, up to the first record that is no good one; how many variables there are.
+fn count_others(block: &[u8], limit: usize, globals: usize, vars: &mut [u8; 256]) -> usize
+    requires { ⌜ ((T : Table) → LawfulTable T → Declaring T (now block) (now vars) (3 * globals) globals globals) × (globals ≤ limit) × NoGlobal (now block) limit globals × (limit ≡ min (length (now block) / 3) 64) ⌝ }
+    ensures { λ r. ⌜ ((T : Table) → LawfulTable T → Declaring T (now (block .entry)) (now (vars .exit)) (3 * r) r globals) × Stopped (now (block .entry)) (3 * r) r globals × (r ≤ 64) ⌝ }
+{
+    let mut n = globals;
     while n < limit {
         let at = 3 * n;
         let class = block[at + 1];
         let ty = block[at + 2];
-        if !((block[at] == 1) & declaration_ok(class, ty, globals, n)) {
-            return Counted {
-                variables: n,
-                globals,
-            };
+        if !declares_other(block[at], class, ty) {
+            return n;
         }
         vars[n] = code(class, ty);
-        if class == 0 {
-            globals += 1;
-        }
         n += 1;
     }
-    Counted {
-        variables: n,
-        globals,
-    }
+    n
 }
 
 // Where the declarations end: the rule that is broken there, or 0; how many variables and globals there are.
@@ -95,13 +102,14 @@ pub fn scan_declarations(block: &[u8], vars: &mut [u8; 256]) -> Declared
     requires { ⌜ now vars ≡ replicate 256 15 ⌝ }
     ensures { λ r. ⌜ ((T : Table) → LawfulTable T → DeclaredBy T (now (block .entry)) (now (vars .exit)) (r .rule) (r .place) (r .variables) (r .globals)) ⌝ }
 {
-    let c = count_declarations(block, vars);
-    let n = c.variables;
+    let limit = most(block.len());
+    let globals = count_globals(block, limit, vars);
+    let n = count_others(block, limit, globals, vars);
     let at = 3 * n;
     Declared {
         rule: rule_at(block, at),
         place: at,
         variables: n,
-        globals: c.globals,
+        globals,
     }
 }

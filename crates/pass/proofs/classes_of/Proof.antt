@@ -23,9 +23,11 @@ loop-again : tie.Need-loop-again Inv-loop μ-loop
 loop-again c =
     let s = c .before .before .before .before .before in
     let l = c .before .before .before .loop in
-    let more = c .before .before .loop-test .taken in
-    (omega (arith, more), length-set (l .of) (l .i) _ ∙ l .inv .1,
-    filled-next (l .inv .2) (omega (arith, s .pre, l .inv .1, more)) (c .class-of .ensures ∙ ap (λ (x : ℕ). classBy x (l .i) (s .args .globals)) (code-at (s .args .base .now) (l .i) (omega (arith, s .pre, more, c .before .before .before .before .codes .given)) refl)))
+    let more = c .before .before .loop-test .taken in (
+      omega (arith, more),
+      length-set (l .of) (l .i) _ ∙ l .inv .1,
+      filled-next (l .inv .2) (omega (arith, s .pre, l .inv .1, more)) (c .class-of .ensures ∙ ap (λ (x : ℕ). classBy x (l .i) (s .args .globals)) (code-at (s .args .base .now) (l .i) (omega (arith, s .pre, more, c .before .before .before .before .codes .given)) refl)),
+    )
 
 returns : tie.Need-returns Inv-loop μ-loop
 returns c = filled-ends (c .before .loop .inv .2) (omega (arith, c .before .loop .inv .0, c .loop-test .left))
