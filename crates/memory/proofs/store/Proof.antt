@@ -18,7 +18,8 @@ put-number-requires : tie.Need-put-number-requires
 put-number-requires c κs =
     let g = c .before in
     let s = g .before .before .before .before in
-    room (s .args .flags) (s .args .address) (s .args .m .now) (g .before .before .size .ensures) (g .before .inside .ensures) (not-false _ (g .if1 .left)) .0
+    let size = g .before .before .size .ensures in
+    ((room (s .args .flags) (s .args .address) (s .args .m .now) size (g .before .inside .ensures) (not-false _ (g .if1 .left))) .0, size)
 
 same-length : tie.Need-same-length
 same-length c = search needs
