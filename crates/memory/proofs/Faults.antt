@@ -2,7 +2,7 @@
 use mathlib.Core.Path.{_≡_, refl, sym, ap, _∙_}
 use mathlib.Core.Bool.{Bool, true, false, cond}
 use mathlib.Core.List.{List}
-use Prim.Native.Nat.{ℕ, _+_, _-_, _*_, _%_, _^_, _≤_, _<_}
+use Prim.Native.Nat.{ℕ, zero, suc, _+_, _-_, _*_, _%_, _^_, _≤_, _<_}
 use native.Mathlib.Nat.{one-mul, mod-eq-of-lt}
 use native.Mathlib.Decide.{decLt}
 use native.Mathlib.Omega.{arith}
@@ -21,6 +21,17 @@ size-is f = let l : f % 4 < 64 = omega arith in ap (λ (k : ℕ). k % 2 ^ 64) (o
 
 pub sized : (f : ℕ) → (0 < sizeOf f) × (sizeOf f ≤ 8)
 sized f = let l : f % 4 ≤ 3 = omega arith in (pow-pos (f % 4), pow-mono {j = 3} l)
+
+-- the size that a match on the others leaves over
+pub eight : (f : ℕ) {n : ℕ} → n ≡ sizeOf f → ((Unit {0} × (n ≡ 1 → ⊥)) × (n ≡ 2 → ⊥)) × (n ≡ 4 → ⊥) → n ≡ 8
+eight f {n} e (((u, n1), n2), n4) = go (f % 4) e (omega arith)
+  where
+    go : (k : ℕ) → n ≡ 2 ^ k → k < 4 → n ≡ 8
+    go zero q l = absurd (n1 q)
+    go (suc zero) q l = absurd (n2 q)
+    go (suc (suc zero)) q l = absurd (n4 q)
+    go (suc (suc (suc zero))) q l = q
+    go (suc (suc (suc (suc k)))) q l = absurd (omega arith)
 
 -- the test without a sum
 pub test : (l p n : ℕ) → n ≤ l → leb p (l - n) ≡ leb (p + n) l

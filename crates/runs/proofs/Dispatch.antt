@@ -9,7 +9,7 @@ use lib.Dec.{eqb, ltb}
 use lib.ListN.{length, getD}
 use borrow.Author.Tests.{ltb-true, ne-eqb}
 use Rattle.theory.proofs.Sets.{and-l, and-r, clash}
-use Rattle.ops.specs.Rows.{Role, setsLabel, jumpsTo, exits, branches, loads, stores, constant, computing, roleNo, tableOf, typesOf, isComputing, numberOf, roleOf, bodyLength}
+use Rattle.ops.specs.Rows.{Role, setsLabel, jumpsTo, exits, branches, loads, stores, constant, computing, roleNo, tableOf, isComputing, numberOf, roleOf, bodyLength}
 use Rattle.ops.specs.Kinds.{between, kindTable, rowOf}
 use Rattle.ops.specs.Ops.{foldableRow}
 use Rattle.ops.proofs.Inputs.{outside, foldable-kinds}

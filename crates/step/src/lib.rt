@@ -2,7 +2,7 @@
 ghost use mathlib.Core.Path.{_≡_};
 ghost use mathlib.Core.Bool.{true, false};
 ghost use Prim.Native.Nat.{_+_, _≤_, _<_, _%_, _^_};
-ghost use lib.ListN.{length, getD};
+ghost use lib.ListN.{length};
 ghost use Rattle.word.specs.Condition.{condW};
 ghost use Rattle.memory.specs.Answer.{accessWidth};
 ghost use Rattle.ops.specs.Ops.{viewOf};
@@ -126,17 +126,11 @@ fn compute_step(
 }
 
 // The kinds 91 to a9, and a record that is no op. A kind that is written out lets the compiler make straight code for it, so that an op costs one jump.
-fn wide_op(
-    kinds: &[u32; 256],
-    block: &[u8],
-    at: usize,
-    kind: u8,
-    values: &mut [u64; 256],
-) -> Outcome
-    requires { ⌜ Stands rowOf (now block) at kind × (now kinds ≡ kindTable) × (plainKind kind ≡ true) × (between 0x05 0x07 kind ≡ false) × (between 0x11 0x29 kind ≡ false) ⌝ }
+fn wide_op(kinds: &[u32; 256], block: &[u8], at: usize, k: u8, values: &mut [u64; 256]) -> Outcome
+    requires { ⌜ Stands rowOf (now block) at k × (now kinds ≡ kindTable) × (plainKind k ≡ true) × (between 0x05 0x07 k ≡ false) × (between 0x11 0x29 k ≡ false) ⌝ }
     ensures { λ r. ⌜ PerformsAlone (viewOf document01 (recordAt rowOf (now (block .entry)) at)) (nextAt (now (block .entry)) at) (now (values .entry)) (now (values .exit)) r ⌝ }
 {
-    match kind {
+    match k {
         0x91 => compute_step(kinds, block, at, 0x91, values),
         0x92 => compute_step(kinds, block, at, 0x92, values),
         0x93 => compute_step(kinds, block, at, 0x93, values),
@@ -167,17 +161,11 @@ fn wide_op(
 }
 
 // The kinds 05 to 07 and 11 to 29, or those above.
-fn narrow_op(
-    kinds: &[u32; 256],
-    block: &[u8],
-    at: usize,
-    kind: u8,
-    values: &mut [u64; 256],
-) -> Outcome
-    requires { ⌜ Stands rowOf (now block) at kind × (now kinds ≡ kindTable) × (plainKind kind ≡ true) ⌝ }
+fn narrow_op(kinds: &[u32; 256], block: &[u8], at: usize, k: u8, values: &mut [u64; 256]) -> Outcome
+    requires { ⌜ Stands rowOf (now block) at k × (now kinds ≡ kindTable) × (plainKind k ≡ true) ⌝ }
     ensures { λ r. ⌜ PerformsAlone (viewOf document01 (recordAt rowOf (now (block .entry)) at)) (nextAt (now (block .entry)) at) (now (values .entry)) (now (values .exit)) r ⌝ }
 {
-    match kind {
+    match k {
         0x05 => compute_step(kinds, block, at, 0x05, values),
         0x06 => compute_step(kinds, block, at, 0x06, values),
         0x07 => compute_step(kinds, block, at, 0x07, values),
@@ -206,7 +194,7 @@ fn narrow_op(
         0x27 => compute_step(kinds, block, at, 0x27, values),
         0x28 => compute_step(kinds, block, at, 0x28, values),
         0x29 => compute_step(kinds, block, at, 0x29, values),
-        _ => wide_op(kinds, block, at, kind, values),
+        _ => wide_op(kinds, block, at, k, values),
     }
 }
 

@@ -19,7 +19,7 @@ number-requires : tie.Need-number-requires
 number-requires c κs =
     let s = c .before .before .before .before in
     let r = room (s .args .flags) (s .args .address) (s .args .m .now) (c .before .before .size .ensures) (c .before .inside .ensures) (not-false _ (c .if1 .left)) in
-    (r .0, r .2)
+    (r .0, c .before .before .size .ensures)
 
 extend-requires : tie.Need-extend-requires
 extend-requires c κs =

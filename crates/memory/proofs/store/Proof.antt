@@ -1,7 +1,7 @@
 -- A store: outside, where nothing changes, and inside. Assumes nothing.
-use borrow.Author.Tests.{eq-eqb, ne-eqb, not-true, not-false}
-use Rattle.memory.proofs.Faults.{room, store-faults, store-leaves}
 use borrow.Author.Needs.{needs}
+use borrow.Author.Tests.{not-true, not-false}
+use Rattle.memory.proofs.Faults.{room, store-faults, store-leaves}
 use Rattle.memory.proofs.store.Statement.{statement}
 use Rattle.memory.proofs.store.Tie as tie
 
@@ -14,46 +14,20 @@ inside-requires c κs = search needs
 returns : tie.Need-returns
 returns c = store-faults _ _ _ (c .before .before .size .ensures) (c .before .inside .ensures) _ (not-true _ (c .if1 .taken))
 
-put-high-requires : tie.Need-put-high-requires
-put-high-requires c κs =
-    let g = c .before .before in
+put-number-requires : tie.Need-put-number-requires
+put-number-requires c κs =
+    let g = c .before in
     let s = g .before .before .before .before in
-    room (s .args .flags) (s .args .address) (s .args .m .now) (g .before .before .size .ensures) (g .before .inside .ensures) (not-false _ (g .if1 .left)) .0
+    let size = g .before .before .size .ensures in
+    ((room (s .args .flags) (s .args .address) (s .args .m .now) size (g .before .inside .ensures) (not-false _ (g .if1 .left))) .0, size)
 
 same-length : tie.Need-same-length
 same-length c = search needs
 
 returns-2 : tie.Need-returns-2
 returns-2 c =
-    let g = c .before .before .before .before .before in
-    store-leaves _ _ _ (g .before .before .size .ensures) (g .before .inside .ensures) _ (not-false _ (g .if1 .left))
-    (rw (eq-eqb _ 1 (c .before .before .before .before .if2 .taken)) (c .before .before .put-high .ensures))
-
-put-low-requires : tie.Need-put-low-requires
-put-low-requires c κs =
-    let g = c .before .before in
-    let s = g .before .before .before .before in
-    room (s .args .flags) (s .args .address) (s .args .m .now) (g .before .before .size .ensures) (g .before .inside .ensures) (not-false _ (g .if1 .left)) .0
-
-same-length-2 : tie.Need-same-length-2
-same-length-2 c = search needs
-
-returns-3 : tie.Need-returns-3
-returns-3 c =
-    let g = c .before .before .before .before .before in
-    store-leaves _ _ _ (g .before .before .size .ensures) (g .before .inside .ensures) _ (not-false _ (g .if1 .left))
-    (rw (ne-eqb _ 1 (c .before .before .before .before .if2 .left)) (c .before .before .put-low .ensures))
+    let g = c .before .before .before .before in
+    store-leaves _ _ _ (g .before .before .size .ensures) (g .before .inside .ensures) _ (not-false _ (g .if1 .left)) (c .before .before .put-number .ensures)
 
 pub store-spec : {M : Type 1} → statement M
-store-spec =
-    tie.close
-    (tie.spec
-    size-requires
-    inside-requires
-    returns
-    put-high-requires
-    same-length
-    returns-2
-    put-low-requires
-    same-length-2
-    returns-3)
+store-spec = tie.close (tie.spec size-requires inside-requires returns put-number-requires same-length returns-2)

@@ -38,7 +38,7 @@ narrow-op-spec =
     (λ c κs. search (computed, needs))
     (λ c κs.
     let start = c .before .before .before in
-    let none = not-narrow (start .args .kind) (c .before .match .rest) in
+    let none = not-narrow (start .args .k) (c .before .match .rest) in
     (start .pre .0, start .pre .1, start .pre .2, none .0, none .1))
     (λ c. search needs)
     (λ c. search needs)

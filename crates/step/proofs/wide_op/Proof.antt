@@ -61,4 +61,4 @@ wide-op-spec =
     (λ c. search needs)
     (λ c.
     let start = c .before .before in
-    step-none (start .pre .0) (start .args .values .now) (no-op (start .args .kind) (search needs) (start .pre .2) (start .pre .3) (start .pre .4) (c .match .rest))))
+    step-none (start .pre .0) (start .args .values .now) (no-op (start .args .k) (search needs) (start .pre .2) (start .pre .3) (start .pre .4) (c .match .rest))))
