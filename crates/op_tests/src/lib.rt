@@ -81,22 +81,22 @@ fn more_ok(h: u32, block: &[u8], at: usize, vars: &[u8; 256], labels: &[u16; 256
     label_ok(h, block, at, labels)
 }
 
-// Whether an op stands at a place, whole, and meets every rule: the fast test. h is the plan of its kind.
+// Whether an op, the op-th, stands at a place, whole, and meets every rule: the fast test. h is the plan of its kind.
 pub fn op_ok(
     h: u32,
     block: &[u8],
     at: usize,
-    ops: usize,
+    op: usize,
     vars: &[u8; 256],
     labels: &[u16; 256],
 ) -> bool
     requires { ⌜ (at < length (now block)) × (h ≡ planOf (getD kindTable (getD (now block) at 0) 0)) ⌝ }
-    ensures { λ r. ⌜ r ≡ opPasses (getD kindTable (getD (now (block .entry)) at 0) 0) (now (block .entry)) at ops (now (vars .entry)) (now (labels .entry)) ⌝ }
+    ensures { λ r. ⌜ r ≡ opPasses (getD kindTable (getD (now (block .entry)) at 0) 0) (now (block .entry)) at op (now (vars .entry)) (now (labels .entry)) ⌝ }
 {
     if block.len() - at < length(h) {
         return false;
     }
-    if MAX_OPS <= ops {
+    if MAX_OPS <= op {
         return false;
     }
     let x = block[at + byte_at(h)];

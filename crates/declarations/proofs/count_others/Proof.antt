@@ -33,10 +33,12 @@ returns : tie.Need-returns Inv-loop μ-loop
 returns c =
     let k = c .before .before .before .before .before in
     let l = k .before .loop in
-    let s = k .before .before .before in
-    (l .inv .1, stops-at (s .args .block .now) (l .n) (s .args .globals) (c .before .declares-other .ensures) (not-true _ (c .if1 .taken))
-    (λ q. subst (λ (n : ℕ). declaresGlobal (getD (s .args .block .now) (3 * n) 0) (getD (s .args .block .now) (3 * n + 1) 0) (getD (s .args .block .now) (3 * n + 2) 0) ≡ false) (sym q) (s .pre .2 (omega (arith, k .loop-test .taken, q)))),
-    omega (arith, room k .1))
+    let s = k .before .before .before in (
+      l .inv .1,
+      stops-at (s .args .block .now) (l .n) (s .args .globals) (c .before .declares-other .ensures) (not-true _ (c .if1 .taken))
+          (λ q. subst (λ (n : ℕ). declaresGlobal (getD (s .args .block .now) (3 * n) 0) (getD (s .args .block .now) (3 * n + 1) 0) (getD (s .args .block .now) (3 * n + 2) 0) ≡ false) (sym q) (s .pre .2 (omega (arith, k .loop-test .taken, q)))),
+      omega (arith, room k .1),
+    )
 
 code-requires : tie.Need-code-requires Inv-loop μ-loop
 code-requires c κs =

@@ -15,12 +15,12 @@ use Rattle.op_tests.proofs.op_ok.Tie as tie
 returns : tie.Need-returns
 returns c =
     let s = c .before .before .before in
-    fails-short (s .args .block .now) (s .args .at) (s .args .ops) (s .args .vars .now) (s .args .labels .now) (getD (s .args .block .now) (s .args .at) 0) refl refl (s .pre .1) (omega (arith, c .if1 .taken, c .before .length .ensures))
+    fails-short (s .args .block .now) (s .args .at) (s .args .op) (s .args .vars .now) (s .args .labels .now) (getD (s .args .block .now) (s .args .at) 0) refl refl (s .pre .1) (omega (arith, c .if1 .taken, c .before .length .ensures))
 
 returns-2 : tie.Need-returns-2
 returns-2 c =
     let s = c .before .before .before .before in
-    fails-late (s .args .block .now) (s .args .at) (s .args .ops) (s .args .vars .now) (s .args .labels .now) (getD (s .args .block .now) (s .args .at) 0) refl refl (s .pre .1) (c .if2 .taken)
+    fails-late (s .args .block .now) (s .args .at) (s .args .op) (s .args .vars .now) (s .args .labels .now) (getD (s .args .block .now) (s .args .at) 0) refl refl (s .pre .1) (c .if2 .taken)
 
 -- what the first tests leave
 abbrev start : tie.Else2 → tie.Start
@@ -32,7 +32,7 @@ whole k = omega (arith, k .before .if1 .left, k .before .before .length .ensures
 inside : (k : tie.Else2) → Placed (start k .args .h) (start k .args .block .now) (start k .args .at)
 inside k =
     let s = start k in
-    placed (s .args .block .now) (s .args .at) (s .args .ops) (s .args .vars .now) (s .args .labels .now) (getD (s .args .block .now) (s .args .at) 0) refl refl (s .pre .1) (whole k) (s .pre .0) (k .if2 .left)
+    placed (s .args .block .now) (s .args .at) (s .args .op) (s .args .vars .now) (s .args .labels .now) (getD (s .args .block .now) (s .args .at) 0) refl refl (s .pre .1) (whole k) (s .pre .0) (k .if2 .left)
 
 shared-slice-read-x : tie.Need-shared-slice-read-x
 shared-slice-read-x c = let p = inside (c .before .before) in omega (arith, p .whole, p .byte, c .before .byte-at .ensures)
@@ -52,13 +52,13 @@ returns-3 : tie.Need-returns-3
 returns-3 c =
     let k = entered (c .before) in
     let s = start k in
-    fails-fit (s .args .block .now) (s .args .at) (s .args .ops) (s .args .vars .now) (s .args .labels .now) (getD (s .args .block .now) (s .args .at) 0) refl refl (s .pre .1) (whole k) (s .pre .0) (k .if2 .left) (sym (tests (c .before)) ∙ not-true _ (c .if3 .taken))
+    fails-fit (s .args .block .now) (s .args .at) (s .args .op) (s .args .vars .now) (s .args .labels .now) (getD (s .args .block .now) (s .args .at) 0) refl refl (s .pre .1) (whole k) (s .pre .0) (k .if2 .left) (sym (tests (c .before)) ∙ not-true _ (c .if3 .taken))
 
 returns-4 : tie.Need-returns-4
 returns-4 c =
     let k = entered (c .before .before) in
     let s = start k in
-    passes-so (s .args .block .now) (s .args .at) (s .args .ops) (s .args .vars .now) (s .args .labels .now) (getD (s .args .block .now) (s .args .at) 0) refl refl (s .pre .1) (whole k) (s .pre .0) (k .if2 .left) (sym (tests (c .before .before)) ∙ not-false _ (c .before .if3 .left)) (c .more-ok .ensures)
+    passes-so (s .args .block .now) (s .args .at) (s .args .op) (s .args .vars .now) (s .args .labels .now) (getD (s .args .block .now) (s .args .at) 0) refl refl (s .pre .1) (whole k) (s .pre .0) (k .if2 .left) (sym (tests (c .before .before)) ∙ not-false _ (c .before .if3 .left)) (c .more-ok .ensures)
 
 pub op-ok-spec : {M : Type 1} → statement M
 op-ok-spec =
