@@ -1,4 +1,4 @@
--- The kinds 91 to a9, each by its own code. Assumes nothing.
+-- The kinds 91 to a9, each with code of its own. Assumes nothing.
 use Rattle.runs.proofs.Dispatch.{computed, no-op}
 use Rattle.runs.proofs.Performed.{step-none}
 use mathlib.Core.Path.{refl}
