@@ -11,7 +11,6 @@ use lib.ListN.{length, getD, take, set, replicate, List·getD-eq-default}
 use lib.Seq.{length-take-le, getD-take, getD-set-same, getD-set-other}
 use borrow.Author.Tests.{ltb-true, ltb-false, le-ltb, eqb-true, eqb-false, ne-eqb}
 use Rattle.theory.proofs.Sets.{tell}
-use Rattle.block.specs.Rules.{globalsIn, keptIn}
 use Rattle.passes.specs.Ready.{bounded, ClassesOf}
 
 -- the first i are filled in, and all others are 2
