@@ -1,7 +1,7 @@
 -- What is live before an op, and whether it is dead, by the columns of its role. Assumes nothing.
 use mathlib.Core.Path.{_≡_, refl, sym, ap, ap₂, _∙_, fun-ext}
-use mathlib.Core.Bool.{Bool, true, false, cond, not, _&&_, _||_}
-use mathlib.Core.List.{List, [], _∷_}
+use mathlib.Core.Bool.{Bool, true, false, cond, _&&_, _||_}
+use mathlib.Core.List.{List, []}
 use mathlib.Core.Logic.{_⊎_, inl, inr}
 use Prim.Native.Nat.{ℕ, _+_, _≤_, _<_}
 use native.Mathlib.Omega.{arith}
@@ -19,7 +19,6 @@ use Rattle.ops.proofs.Entry.{Digits, digits}
 use Rattle.ops.proofs.Table.{row-of}
 use Rattle.ops.proofs.Traits.{pure-at, outputs-at}
 use Rattle.block.specs.Scan.{recordAt, Stands}
-use Rattle.block.proofs.Operands.{eachBy}
 use Rattle.block.proofs.Views.{row-at, output-bytes, input-bytes}
 use Rattle.passes.specs.Live.{liveBefore, beforeBy}
 
@@ -107,8 +106,3 @@ module _ {b : List ℕ} {p k e : ℕ} (s : Stands rowOf b p k) (q : e ≡ getD k
     pub dead-if : {t : Bool} → 8 ≤ n → t ≡ noneIn (bytesAt b (p + 1) (outsIn e)) l → t ≡ dead (viewOf document01 (recordAt rowOf b p)) l
     dead-if h q =
         q ∙ sym (dead-is l ∙ ap (λ (t : Bool). t && noneIn (bytesAt b (p + 1) (outsIn e)) l) (lt-ltb 7 (numberOf (roleNo (roleIn e))) (omega arith)))
-
--- the loop over the outputs
-pub none-each : (l : Vars) (vs : List ℕ) → eachBy (λ s v. not (l v)) (λ s. s) 0 vs ≡ noneIn vs l
-none-each l [] = refl
-none-each l (v ∷ vs) = rw (none-each l vs)

@@ -1,14 +1,13 @@
 -- The ops that are kept, by their marks. Assumes nothing.
-use mathlib.Core.Path.{_≡_, refl, sym, ap, ap₂, _∙_}
-use mathlib.Core.Bool.{Bool, true, false, cond}
-use mathlib.Core.List.{List, [], _∷_, _++_}
-use Prim.Native.Nat.{ℕ, suc, _+_, _≤_, _<_}
+use mathlib.Core.Path.{_≡_, refl, ap₂}
+use mathlib.Core.Bool.{cond}
+use mathlib.Core.List.{List, [], _∷_}
+use Prim.Native.Nat.{ℕ, suc, _≤_, _<_}
 use native.Mathlib.Omega.{arith}
 use lib.Dec.{ltb}
-use lib.ListN.{length, getD, drop, set, length-append, drop-of-length-le}
+use lib.ListN.{length, getD, drop, set, drop-of-length-le}
 use lib.Seq.{getD-set-other}
 use borrow.Author.Tests.{lt-ltb, le-ltb}
-use Rattle.block.specs.Records.{concat}
 use Rattle.passes.specs.Laid.{keptFrom}
 
 -- those from the i-th on
@@ -30,14 +29,3 @@ unfolding keptFrom
 kept-later i j x marks [] h = refl
 kept-later i j x marks (o ∷ os) h =
     ap₂ (λ (k : ℕ) (more : List (List ℕ)). cond (ltb k 2) (o ∷ more) more) (getD-set-other marks j i x 0 (λ e. omega arith)) (kept-later (suc i) j x marks os (omega arith))
-
--- they are not longer than all
-pub kept-short : (i : ℕ) (marks : List ℕ) (os : List (List ℕ)) → length (concat (keptFrom i marks os)) ≤ length (concat os)
-unfolding keptFrom
-kept-short i marks [] = omega arith
-kept-short i marks (o ∷ os) = go (ltb (getD marks i 0) 2) (kept-short (suc i) marks os)
-  where
-    go : (t : Bool) → length (concat (keptFrom (suc i) marks os)) ≤ length (concat os)
-        → length (concat (cond t (o ∷ keptFrom (suc i) marks os) (keptFrom (suc i) marks os))) ≤ length (o ++ concat os)
-    go true l = omega (arith, length-append o (concat os), length-append o (concat (keptFrom (suc i) marks os)))
-    go false l = omega (arith, length-append o (concat os))

@@ -9,19 +9,18 @@ use native.Mathlib.Omega.{arith}
 use lib.Dec.{ltb}
 use lib.ListN.{length, getD, drop, set}
 use lib.Seq.{drop-drop, getD-drop, getD-set-same, getD-set-other}
-use borrow.Author.Tests.{ltb-true, ltb-false, eq-eqb}
+use borrow.Author.Tests.{ltb-true, ltb-false}
 use Rattle.theory.specs.Fold.{Known, nothing, on, Rewrite, learned, emit, fold as foldOps}
 use Rattle.theory.specs.Machine.{headOr}
 use Rattle.theory.specs.Sets.{Vars, empty}
 use Rattle.theory.proofs.Rule.{Puts, same, folds, puts}
-use Rattle.theory.proofs.Sets.{tell, and-i}
-use Rattle.ops.specs.Ops.{kindOf, viewOf, tcg, folding}
-use Rattle.ops.specs.Rows.{known, bodyLength, at as byteAt}
+use Rattle.theory.proofs.Sets.{tell}
+use Rattle.ops.specs.Ops.{viewOf, tcg, folding}
+use Rattle.ops.specs.Rows.{known}
 use Rattle.ops.specs.Kinds.{rowOf, document01}
 use Rattle.ops.proofs.Document01.{lawful}
-use Rattle.ops.proofs.Folding.{constants, states, constant-for}
+use Rattle.ops.proofs.Folding.{constants}
 use Rattle.block.specs.Scan.{recordAt}
-use Rattle.block.proofs.Cut.{whole, AllWhole}
 use Rattle.passes.specs.Laid.{opsAt, Constant, Leaves}
 use Rattle.passes.specs.Knows.{knownOf, leftBy, Folds, foldedOps, Folded}
 use Rattle.passes.proofs.Knowing.{none-known}

@@ -1,9 +1,9 @@
 -- Ops at places of a block: the i-th of them, and the places that the scan keeps. Assumes nothing.
 use mathlib.Core.Path.{_≡_, refl, sym, ap, ap₂, _∙_}
-use mathlib.Core.Bool.{true, false, cond}
+use mathlib.Core.Bool.{true, false}
 use mathlib.Core.List.{List, [], _∷_}
 use mathlib.Core.Logic.{_⊎_, inl, inr}
-use Prim.Native.Nat.{ℕ, zero, suc, _+_, _-_, _%_, _≤_, _<_}
+use Prim.Native.Nat.{ℕ, zero, suc, _+_, _-_, _≤_, _<_}
 use native.Mathlib.Omega.{arith}
 use native.Mathlib.Nat.{add-zero, zero-add, mod-eq-of-lt}
 use native.Mathlib.Numerals.{add-one}
@@ -14,7 +14,6 @@ use borrow.Author.Tests.{ltb-true, ltb-false, lt-ltb, le-ltb}
 use Rattle.theory.proofs.Sets.{tell}
 use Rattle.ops.specs.Rows.{bodyLength}
 use Rattle.ops.specs.Kinds.{rowOf}
-use Rattle.ops.proofs.Table.{body-short}
 use Rattle.block.specs.Records.{concat}
 use Rattle.block.specs.Scan.{recordAt, recordsAt, placesFrom, Stands}
 use Rattle.block.proofs.Places.{Standing, standing, spanOf, records-from, places-at}

@@ -1,10 +1,9 @@
 -- The kept ops, copied in runs. Assumes nothing.
 use mathlib.Core.Path.{ap, _∙_}
 use mathlib.Core.Logic.{⊎-elim}
-use Prim.Native.Nat.{_-_, _≤_, _<_}
+use Prim.Native.Nat.{_-_, _≤_}
 use native.Mathlib.Omega.{arith}
-use lib.Arith.{lt-of-le-ne}
-use lib.ListN.{length, getD}
+use lib.ListN.{length}
 use lib.Seq.{length-sets}
 use borrow.Author.Needs.{needs}
 use Rattle.passes.proofs.Emitting.{EmittingSo, emitting-start, here, emitting-stays, edit-computes, edit-room, emitting-edits, run-fits, emitting-ends, marked-some}

@@ -1,5 +1,4 @@
 -- There is room for as many ops as a block may have. Assumes nothing.
-use native.Mathlib.Omega.{arith}
 use borrow.Author.Needs.{needs}
 use Rattle.passes.proofs.Passing.{few-here}
 use Rattle.pass.proofs.write_long.Statement.{statement}

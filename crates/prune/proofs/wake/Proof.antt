@@ -1,9 +1,5 @@
 -- One or two bytes, or up to four. Assumes nothing.
-use Prim.Native.Nat.{_<_}
-use native.Mathlib.Omega.{arith}
-use lib.Arith.{lt-of-le-ne}
 use borrow.Author.Needs.{needs}
-use mathlib.Core.Path.{sym}
 use Rattle.ops.specs.Ops.{bytesAt}
 use Rattle.passes.proofs.Events.{timed-one, timed-none, timed-more, timed-as, two-bytes, four-bytes, counted}
 use Rattle.prune.proofs.wake.Statement.{statement}
