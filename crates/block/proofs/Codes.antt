@@ -5,7 +5,7 @@ use mathlib.Core.Bool.{Bool, true, false, cond, _&&_, _||_, Bool·beq}
 use mathlib.Core.List.{List, [], _∷_, _++_}
 use Prim.Native.Nat.{ℕ, zero, suc, _+_, _-_, _/_, _%_, _≤_, _<_}
 use native.Mathlib.Omega.{arith}
-use native.Mathlib.Nat.{sub-zero, add-zero, mod-eq-of-lt}
+use native.Mathlib.Nat.{mod-eq-of-lt}
 use lib.Dec.{eqb, ltb, eqb·suc-suc}
 use lib.ListN.{length, getD, drop, set, length-append}
 use lib.Seq.{getD-set-same, getD-set-other}
@@ -13,26 +13,9 @@ use borrow.Author.Tests.{eqb-true, eqb-false, ltb-true, ltb-false, lt-ltb, le-lt
 use Rattle.theory.specs.Sets.{Vars, empty, has, plus, allIn}
 use Rattle.theory.proofs.Sets.{tell, and-l, and-r}
 use Rattle.ops.specs.Rows.{Row, isClosing, typesOf}
-use Rattle.ops.specs.Ops.{bytesAt}
 use Rattle.ops.proofs.Ranges.{everyFrom, ranged, beq-same}
 use Rattle.block.specs.Rules.{keptIn, allBelow, haveTypes, wroteBy}
 use Rattle.block.specs.Scan.{SetAt, codesIn, against, codeOf, Coded, fitsAs, operandsFit, opened, openAll, codesBy, codeFor}
-
-and-none : (a : Bool) → (a && false) ≡ false
-and-none true = refl
-and-none false = refl
-
-or-none : (a : Bool) → (a || false) ≡ a
-or-none true = refl
-or-none false = refl
-
-or-all : (a : Bool) → (a || true) ≡ true
-or-all true = refl
-or-all false = refl
-
-and-all : (a : Bool) → (a && true) ≡ a
-and-all true = refl
-and-all false = refl
 
 -- what holds of each type below 4 by computation
 typed : (f : ℕ → Bool) → everyFrom f 0 4 ≡ true → (x : ℕ) → x < 4 → f x ≡ true
@@ -97,19 +80,7 @@ getD-set xs i x v d h = go (tell (eqb v i))
     go (inl e) = rw e (ap (λ (n : ℕ). getD (set xs i x) n d) (eqb-true v i e) ∙ getD-set-same xs i x d h)
     go (inr e) = rw e (getD-set-other xs i v x d (eqb-false v i e))
 
--- writing: bytes opened one after the other
-opened-again : (x : ℕ) → opened (opened x) ≡ opened x
-opened-again x = omega arith
-
-open-each : (codes : ℕ → ℕ) (x : ℕ) (xs : List ℕ) → openAll (openAll codes (x ∷ [])) xs ≡ openAll codes (x ∷ xs)
-open-each codes x xs = fun-ext (λ v. go (eqb x v) (has xs v) (codes v))
-  where
-    go : (e h : Bool) (y : ℕ) → cond h (opened (cond (e || false) (opened y) y)) (cond (e || false) (opened y) y) ≡ cond (e || h) (opened y) y
-    go true true y = opened-again y
-    go true false y = refl
-    go false true y = refl
-    go false false y = refl
-
+-- writing
 pub opened-here : (vars : List ℕ) (v : ℕ) {x y : ℕ} {vars′ : List ℕ} → x ≡ codesIn vars v → y ≡ opened x → SetAt vars v y vars′ → codesIn vars′ ≡ openAll (codesIn vars) (v ∷ [])
 opened-here vars v {x} {y} e z s = fun-ext (λ u. ap (λ (xs : List ℕ). getD xs u 15) (s .becomes) ∙ getD-set vars v y u 15 (s .inside) ∙ go u (tell (eqb u v)))
   where
@@ -144,28 +115,6 @@ code-at vars v h e = e ∙ go vars v h
     go [] v h = absurd (omega arith)
     go (x ∷ xs) zero h = refl
     go (x ∷ xs) (suc v) h = go xs v (omega arith)
-
--- the first j of count bytes have been opened
-pub record Opening (b vars₀ vars : List ℕ) (start count j : ℕ) : Type 0 where
-  pub so-far : openAll (codesIn vars) (bytesAt b (start + j) (count - j)) ≡ openAll (codesIn vars₀) (bytesAt b start count)
-
-pub opening-start : (b vars : List ℕ) (start count : ℕ) → Opening b vars vars start count 0
-opening-start b vars start count = record { so-far = ap₂ (λ (n m : ℕ). openAll (codesIn vars) (bytesAt b n m)) (add-zero start) (sub-zero count) }
-
-module _ {b vars₀ vars : List ℕ} {start count j : ℕ} (r : Opening b vars₀ vars start count j) where
-  pub opening-next : {vars′ : List ℕ} {v : ℕ} → j < count → v ≡ getD b (start + j) 0 → codesIn vars′ ≡ openAll (codesIn vars) (v ∷ []) → Opening b vars₀ vars′ start count (j + 1)
-  opening-next {vars′} {v} h z w =
-      let e : count - j ≡ suc (count - (j + 1)) = omega arith in
-      let q : start + (j + 1) ≡ suc (start + j) = omega arith in
-      record {
-        so-far =
-            ap₂ (λ (codes : ℕ → ℕ) (n : ℕ). openAll codes (bytesAt b n (count - (j + 1)))) (w ∙ ap (λ (n : ℕ). openAll (codesIn vars) (n ∷ [])) z) q
-            ∙ open-each (codesIn vars) (getD b (start + j) 0) (bytesAt b (suc (start + j)) (count - (j + 1)))
-            ∙ ap (λ (n : ℕ). openAll (codesIn vars) (bytesAt b (start + j) n)) (sym e) ∙ r .so-far;
-      }
-
-  pub opening-end : count ≤ j → codesIn vars ≡ openAll (codesIn vars₀) (bytesAt b start count)
-  opening-end h = let e : count - j ≡ 0 = omega arith in sym (ap (λ (n : ℕ). openAll (codesIn vars) (bytesAt b (start + j) n)) e) ∙ r .so-far
 
 -- one more declaration
 getD-append : (xs : List ℕ) (x v d : ℕ) → getD (xs ++ (x ∷ [])) v d ≡ cond (eqb v (length xs)) x (getD xs v d)

@@ -66,14 +66,6 @@ types-append : (ds : List (List ℕ)) (d : List ℕ) → declaredTypes (ds ++ (d
 types-append [] d = refl
 types-append (x ∷ ds) d = ap (λ (q : List ℕ). typeOf x ∷ q) (types-append ds d)
 
-count-small : (cs : List ℕ) → globalCount cs ≤ length cs
-count-small [] = omega arith
-count-small (c ∷ cs) = go (eqb c 0) (count-small cs)
-  where
-    go : (b : Bool) → globalCount cs ≤ length cs → cond b (suc (globalCount cs)) 0 ≤ suc (length cs)
-    go true h = omega arith
-    go false h = omega arith
-
 pub types-length : (ds : List (List ℕ)) → length (declaredTypes ds) ≡ length ds
 types-length [] = refl
 types-length (d ∷ ds) = ap suc (types-length ds)
@@ -81,10 +73,6 @@ types-length (d ∷ ds) = ap suc (types-length ds)
 pub classes-length : (ds : List (List ℕ)) → length (classesOf ds) ≡ length ds
 classes-length [] = refl
 classes-length (d ∷ ds) = ap suc (classes-length ds)
-
--- no more globals than variables
-pub declaring-few : {T : Table} {b vars : List ℕ} {p n globals : ℕ} → Declaring T b vars p n globals → globals ≤ n
-declaring-few d = omega (arith, d .globals-are, count-small (classesOf (d .before)), classes-length (d .before), d .count)
 
 pub declaring-start : (T : Table) (b vars : List ℕ) → vars ≡ replicate 256 15 → Declaring T b vars 0 0 0
 declaring-start T b vars lv =

@@ -1,24 +1,23 @@
 -- What an op leaves in the arrays, by the plan of its kind. Assumes nothing.
-use mathlib.Core.Path.{_≡_, refl, sym, ap, ap₂, _∙_, subst, fun-ext}
+use mathlib.Core.Path.{_≡_, refl, sym, ap, ap₂, _∙_, subst}
 use mathlib.Core.Logic.{_⊎_, inl, inr}
-use mathlib.Core.Bool.{Bool, true, false, cond, not, _&&_, _||_}
-use mathlib.Core.List.{List, [], _∷_}
+use mathlib.Core.Bool.{Bool, true, false, cond, not, _||_}
+use mathlib.Core.List.{List}
 use Prim.Native.Nat.{ℕ, zero, suc, _+_, _-_, _%_, _^_, _≤_, _<_}
 use native.Mathlib.Omega.{arith}
 use lib.Dec.{eqb, ltb}
 use lib.Pow.{pow-pos}
 use lib.ListN.{length, getD, set}
-use borrow.Author.Tests.{eqb-true, eqb-false, eq-eqb, ne-eqb, lt-ltb}
-use Rattle.theory.specs.Sets.{Vars}
+use borrow.Author.Tests.{eqb-true, eq-eqb, ne-eqb}
 use Rattle.theory.proofs.Sets.{tell, clash}
-use Rattle.ops.specs.Rows.{Table, outsIn, insIn, restIn, roleIn, rowIn, roleNo, numberOf, isClosing, isSetting, isJumping}
+use Rattle.ops.specs.Rows.{outsIn, insIn, restIn, roleIn, roleNo, numberOf, isClosing, isSetting, isJumping}
 use Rattle.ops.specs.Kinds.{kindTable, rowOf}
 use Rattle.ops.specs.Ops.{bytesAt}
-use Rattle.ops.specs.Plans.{typeIn, noOp, outAskBy, moreBy, flag, planOf, lengthIn, outAskIn, moreIn, closesIn, setsIn}
+use Rattle.ops.specs.Plans.{typeIn, noOp, moreBy, flag, planOf, lengthIn, outAskIn, moreIn, closesIn, setsIn}
 use Rattle.ops.proofs.Entry.{Digits, digits}
 use Rattle.ops.proofs.Plans.{Plan, plan, Sort, plainly, four-inputs, constant-sort, labelled, Sorted, sorted}
 use Rattle.block.specs.Rules.{markedBy}
-use Rattle.block.specs.Scan.{recordAt, Stands, SetAt, codesIn, openAll, outputBy, marked, numbered, LabelledAs, LabelMarks, setsLabel, jumpsTo, Marks}
+use Rattle.block.specs.Scan.{recordAt, Stands, SetAt, codesIn, openAll, outputBy, marked, numbered, LabelMarks, setsLabel, jumpsTo, Marks}
 use Rattle.block.proofs.Codes.{opened-here, set-same}
 use Rattle.block.proofs.MarkSets.{numbered-upd, marked-upd}
 use Rattle.block.proofs.Scanning.{marks-open, marks-closed}

@@ -1,6 +1,5 @@
 -- The rules of the op at a place, by the scan's tests. Assumes nothing.
 use mathlib.Core.Path.{_≡_, refl, sym, ap, ap₂, _∙_}
-use mathlib.Core.Logic.{_⊎_, inl, inr}
 use mathlib.Core.Bool.{Bool, true, false, cond, not, _&&_, _||_, Bool·beq}
 use mathlib.Core.List.{List, [], _∷_}
 use Prim.Native.Nat.{ℕ, zero, suc, _+_, _-_, _/_, _%_, _≤_, _<_}
@@ -9,11 +8,11 @@ use native.Mathlib.Nat.{add-zero, zero-add, suc-add}
 use lib.Bits.{bitAnd}
 use lib.Dec.{eqb, ltb, leb}
 use lib.ListN.{length, getD, take, drop}
-use borrow.Author.Tests.{eqb-true, lt-ltb, le-ltb, leb-true, leb-false, le-leb, lt-leb, eq-eqb, ne-eqb}
+use borrow.Author.Tests.{lt-ltb, le-ltb, le-leb, lt-leb, eq-eqb, ne-eqb}
 use Rattle.theory.specs.Sets.{Vars, allIn}
-use Rattle.theory.proofs.Sets.{tell, and-l, and-r}
+use Rattle.theory.proofs.Sets.{and-l, and-r}
 use Rattle.ops.specs.Limits.{maxOps}
-use Rattle.ops.specs.Rows.{Table, Row, outsIn, insIn, restIn, testIn, roleIn, typesIn, typesOf, rowIn, roleNo, isKnown, isClosing, testOk, outputCount, operandTypes, operandCount}
+use Rattle.ops.specs.Rows.{Table, Row, outsIn, insIn, restIn, testIn, roleIn, typesIn, typesOf, rowIn, roleNo, isKnown, testOk, outputCount, operandTypes, operandCount}
 use Rattle.ops.specs.Ops.{bytesAt}
 use Rattle.ops.specs.Plans.{ask}
 use Rattle.ops.proofs.Entry.{Digits}

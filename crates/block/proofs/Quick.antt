@@ -3,7 +3,7 @@ use mathlib.Core.Path.{_≡_, refl, sym, ap, ap₂, _∙_, subst}
 use mathlib.Core.Logic.{_⊎_, inl, inr}
 use mathlib.Core.Bool.{Bool, true, false, cond, not, _&&_, _||_, Bool·beq}
 use mathlib.Core.List.{List, [], _∷_}
-use Prim.Native.Nat.{ℕ, zero, suc, _+_, _-_, _*_, _/_, _%_, _^_, _≤_, _<_}
+use Prim.Native.Nat.{ℕ, zero, suc, _+_, _-_, _/_, _%_, _^_, _≤_, _<_}
 use native.Mathlib.Omega.{arith}
 use lib.Bits.{bitAnd}
 use lib.Dec.{eqb, ltb, leb}
@@ -17,14 +17,13 @@ use Rattle.memory.specs.Bytes.{lowFirst}
 use Rattle.ops.specs.Limits.{maxOps, labelCount}
 use Rattle.ops.specs.Rows.{outsIn, insIn, restIn, testIn, roleIn, typesIn, typesOf, rowIn, roleNo, isKnown, isSetting, isJumping, at, condOk, labelOk, testOk, asksFor}
 use Rattle.ops.specs.Kinds.{kindTable}
-use Rattle.ops.specs.Ops.{bytesAt}
-use Rattle.ops.specs.Plans.{ask, typeIn, noOp, outAskBy, secondBy, inAskBy, inAtBy, byteTestBy, byteAtBy, moreBy, flag, planOf, lengthIn, outAskIn, firstAskIn, secondAskIn, firstAtIn, secondAtIn, byteAtIn, byteTestIn, moreIn}
-use Rattle.ops.proofs.Plans.{Plan, plan, Sort, plainly, four-inputs, constant-sort, labelled, Sorted, sorted, no-op-so, NoPlan, no-plan, or-not, not-so}
+use Rattle.ops.specs.Plans.{typeIn, noOp, outAskBy, secondBy, inAskBy, inAtBy, byteTestBy, byteAtBy, moreBy, planOf, lengthIn, firstAskIn, firstAtIn, secondAtIn, byteAtIn, byteTestIn, moreIn}
+use Rattle.ops.proofs.Plans.{Plan, plan, Sort, plainly, four-inputs, constant-sort, labelled, Sorted, sorted, no-op-so, no-plan, or-not, not-so}
 use Rattle.ops.proofs.Ranges.{everyFrom, ranged, beq-same}
 use Rattle.ops.proofs.Table.{asks-few}
 use Rattle.block.specs.Rules.{labelFree}
 use Rattle.block.specs.Scan.{codesIn, meets, fitsAs, operandsFit, numbered, operandsOk, opStands, opOk, opPasses, Placed, codeAt, threeFit, byteOk, labelFits, moreOk}
-use Rattle.block.proofs.Rests.{cond-test, branch-test, label-test, constant-test}
+use Rattle.block.proofs.Rests.{branch-test, label-test, constant-test}
 
 -- nothing is asked
 askless : (x : ℕ) → meets 0 x ≡ true

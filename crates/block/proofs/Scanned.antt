@@ -8,7 +8,7 @@ use borrow.Author.Tests.{ne-eqb}
 use Rattle.theory.specs.Machine.{after}
 use Rattle.ops.specs.Ops.{kindOf}
 use Rattle.ops.specs.Rows.{Table}
-use Rattle.block.specs.Records.{recordsOf, declarations, opsFrom, classesOf, declaredTypes, globalCount}
+use Rattle.block.specs.Records.{recordsOf, declarations, opsFrom, classesOf, globalCount}
 use Rattle.block.specs.Rules.{start}
 use Rattle.block.specs.Scan.{DeclaredBy, refuses, reads-on, placesFrom, labelsFrom, recordsAt, ScannedBy, refuses-op, accepts-ops, Declaring, Begins, Approved}
 use Rattle.block.specs.Scan.{Scanned, rejected, approved}

@@ -6,15 +6,14 @@ use mathlib.Core.List.{List, [], _∷_}
 use Prim.Native.Nat.{ℕ, suc, _+_, _-_, _%_, _≤_, _<_}
 use native.Mathlib.Omega.{arith}
 use lib.Dec.{eqb, ltb, leb}
-use lib.ListN.{length, getD, take, drop, set, replicate}
+use lib.ListN.{length, getD, drop, set, replicate}
 use borrow.Author.Tests.{ltb-true, ltb-false, eqb-true, eqb-false, eq-eqb, ne-eqb, leb-false, le-leb, lt-leb, not-true}
 use native.Mathlib.Nat.{zero-add}
 use native.Mathlib.Numerals.{add-one}
 use Rattle.theory.specs.Sets.{Vars}
 use Rattle.theory.proofs.Sets.{tell, and-l, and-r}
 use Rattle.ops.specs.Rows.{known, bodyLength, Table}
-use Rattle.ops.specs.Limits.{maxOps}
-use Rattle.ops.specs.Rows.{outsIn, insIn, restIn, testIn, testOk, roleIn, rowIn, Row, roleNo, numberOf, isKnown, isClosing, isSetting, isJumping}
+use Rattle.ops.specs.Rows.{outsIn, insIn, restIn, roleIn, rowIn, Row, roleNo, numberOf, isKnown, isClosing, isSetting, isJumping}
 use Rattle.ops.specs.Ops.{kindOf, rowAt, bytesAt, outsBy, insBy, labelBy}
 use Rattle.ops.proofs.Entry.{Digits}
 use Rattle.block.proofs.Codes.{coded-next, codes-closed, codes-open}

@@ -1,11 +1,11 @@
 -- One turn of the loop over the ops, by the plan of the op's kind. Assumes nothing.
 use mathlib.Core.Path.{_≡_, refl, sym, ap, _∙_, subst}
 use mathlib.Core.Logic.{_⊎_, inl, inr}
-use mathlib.Core.Bool.{Bool, true, false, cond, not, _&&_}
+use mathlib.Core.Bool.{Bool, true, false}
 use mathlib.Core.List.{List, [], _∷_}
 use Prim.Native.Nat.{ℕ, zero, suc, _+_, _%_, _≤_, _<_}
 use native.Mathlib.Omega.{arith}
-use lib.Dec.{eqb, ltb}
+use lib.Dec.{eqb}
 use lib.ListN.{length, getD, set}
 use borrow.Author.Tests.{eqb-true, eqb-false}
 use Rattle.theory.proofs.Sets.{tell, and-l, and-r, clash}
@@ -14,7 +14,7 @@ use Rattle.ops.specs.Kinds.{kindTable, rowOf}
 use Rattle.ops.specs.Plans.{noOp, planOf, planned, planTable, lengthIn}
 use Rattle.ops.proofs.Entry.{digits}
 use Rattle.ops.proofs.Table.{table-long}
-use Rattle.block.specs.Scan.{recordAt, Stands, opStands, opOk, opPasses, entryRule, endRule, marked, numbered, ScannedBy, Marks, Reading}
+use Rattle.block.specs.Scan.{recordAt, opStands, opOk, opPasses, entryRule, endRule, marked, numbered, ScannedBy, Marks, Reading}
 use Rattle.block.specs.Rules.{allSet}
 use Rattle.block.proofs.Quick.{some-op}
 use Rattle.block.proofs.Marking.{length-here}

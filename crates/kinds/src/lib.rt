@@ -2,15 +2,13 @@
 ghost use mathlib.Core.Path.{_≡_};
 ghost use lib.Dec.{leb};
 ghost use lib.ListN.{getD};
-ghost use Rattle.ops.specs.Rows.{outsIn, insIn, restIn, testIn, roleIn, typesIn, roleNo, numberOf, isKnown, isPure, isComputing, isClosing, isSetting, isJumping};
+ghost use Rattle.ops.specs.Rows.{outsIn, insIn, restIn, testIn, roleIn, typesIn, roleNo, numberOf, isKnown, isComputing, isSetting, isJumping};
 ghost use Rattle.ops.specs.Kinds.{kindTable};
 ghost use Prim.Native.Nat.{_+_};
 use ops::BRANCHES;
 use ops::CONSTANT;
 use ops::JUMPS_TO;
-use ops::LOADS;
 use ops::SETS_LABEL;
-use ops::STORES;
 
 // A kind's entry, in hexadecimal digits from the lowest: its outputs, its inputs, the bytes after them, the number of their test, the number of its
 // role; then the types of its operands, two bits each, 1 for 64 bits. 0 for a kind that is unknown.
@@ -346,26 +344,13 @@ pub fn is_known(e: u32) -> bool
     0 < role(e)
 }
 
-// The op is pure; reads something too.
-pub fn is_pure(e: u32) -> bool
-    ensures { λ r. ⌜ r ≡ isPure (roleNo (roleIn e)) ⌝ }
-{
-    STORES < role(e)
-}
-
 pub fn is_computing(e: u32) -> bool
     ensures { λ r. ⌜ r ≡ isComputing (roleNo (roleIn e)) ⌝ }
 {
     CONSTANT < role(e)
 }
 
-// No basic block goes on after the op; it sets a label; it may jump to one.
-pub fn is_closing(e: u32) -> bool
-    ensures { λ r. ⌜ r ≡ isClosing (roleNo (roleIn e)) ⌝ }
-{
-    role(e) < LOADS
-}
-
+// The op sets a label; it may jump to one.
 pub fn is_setting(e: u32) -> bool
     ensures { λ r. ⌜ r ≡ isSetting (roleNo (roleIn e)) ⌝ }
 {

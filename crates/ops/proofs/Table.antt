@@ -1,6 +1,6 @@
 -- The row of a kind, from its role: one computed test over the table. Assumes nothing.
 use mathlib.Core.Path.{_≡_, refl, sym, ap, _∙_, subst}
-use mathlib.Core.Bool.{Bool, true, false, cond, not, _&&_, _||_, Bool·beq}
+use mathlib.Core.Bool.{Bool, true, false, cond, not, _&&_, _||_}
 use mathlib.Core.List.{List, [], _∷_}
 use mathlib.Core.Logic.{_⊎_, inl, inr}
 use Prim.Native.Nat.{ℕ, zero, suc, _+_, _*_, _/_, _%_, _^_, _≤_, _<_}
@@ -9,12 +9,12 @@ use lib.Dec.{eqb, ltb, leb, lit<}
 use lib.ListN.{length, getD}
 use borrow.Author.Tests.{eqb-true, eqb-false, ltb-true, ltb-false, leb-true}
 use Rattle.word.proofs.Tests.{cond-all}
-use Rattle.theory.proofs.Sets.{and-l, and-r, tell, clash}
+use Rattle.theory.proofs.Sets.{and-l, and-r, tell}
 use Rattle.ops.specs.Rows.{Role, unknown, declares, setsLabel, jumpsTo, exits, branches, loads, stores, constant, computing, roleNo, Row, entry}
 use Rattle.ops.specs.Rows.{outsIn, insIn, restIn, testIn, roleIn, typesIn, typesOf, rowIn, bodyOf, numberOf, asksFor, tableOf}
 use Rattle.ops.specs.Kinds.{movi, brcond, load, store, kindTable, rowOf}
 use Rattle.ops.specs.Rows.{roleOf, bodyLength}
-use Rattle.ops.proofs.Ranges.{everyFrom, ranged, every, listed, agreed}
+use Rattle.ops.proofs.Ranges.{ranged, every, listed}
 
 -- the type of the op's width: 0, or 1 for the kinds from 80 on
 abbrev pub typeAt : ℕ → ℕ
@@ -171,21 +171,6 @@ body-short k = rw (body-in (getD kindTable k 0)) (go (tell (ltb k 256)))
         let e = getD kindTable k 0 in
         leb-true _ 9 (and-l (leb (outsIn e + insIn e + restIn e) 9) (leb (asksFor (testIn e)) (restIn e)) (sizes-at k (ltb-true k 256 h)))
     go (inr h) = rw (beyond k (ltb-false k 256 h)) (omega arith)
-
--- only kind 01 declares
-abbrev isDeclaring : Role → Bool
-isDeclaring r = eqb (numberOf r) 1
-
-one-declares : everyFrom (λ k. Bool·beq (isDeclaring (roleOf rowOf k)) (eqb k 1)) 0 256 ≡ true
-unfolding tableOf kindTable roleNo
-one-declares = refl
-
-pub declares-one : (k : ℕ) → roleOf rowOf k ≡ declares → k ≡ 1
-declares-one k q = go (tell (ltb k 256))
-  where
-    go : (ltb k 256 ≡ true) ⊎ (ltb k 256 ≡ false) → k ≡ 1
-    go (inl h) = eqb-true k 1 (sym (agreed (λ j. isDeclaring (roleOf rowOf j)) (λ j. eqb j 1) 256 one-declares k (ltb-true k 256 h)) ∙ ap isDeclaring q)
-    go (inr h) = clash (isDeclaring (roleOf rowOf k)) (ap isDeclaring q) (ap isDeclaring (unknown-beyond k (ltb-false k 256 h)))
 
 -- the number of a role, as the code reads it
 pub role-read : (n : ℕ) → n < 16 → cond (ltb n 10) n 0 ≡ numberOf (roleNo n)

@@ -20,7 +20,7 @@ use Rattle.block.specs.Rules.{Seen, globalsIn, keptIn, allGlobal, rule3, next, 
 use Rattle.block.specs.Scan.{codesIn, against, Coded}
 use Rattle.block.proofs.Accepts.{allMet, meet}
 use Rattle.block.proofs.Cut.{AllDeclared}
-use Rattle.passes.specs.Ready.{classBy, classIn, ClassesOf}
+use Rattle.passes.specs.Ready.{classIn, ClassesOf}
 
 -- the first i are filled in, and all others are 2
 pub record Filled (f : ℕ → ℕ) (of : List ℕ) (i : ℕ) : Type 0 where

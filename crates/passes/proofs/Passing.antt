@@ -6,7 +6,7 @@ use Prim.Native.Nat.{ℕ, zero, suc, _+_, _*_, _≤_, _<_}
 use native.Mathlib.Omega.{arith}
 use lib.Dec.{ltb}
 use lib.ListN.{length, getD, take, drop, length-append, length-drop, take-append-drop}
-use lib.Seq.{take-at, length-take-le, sets, length-sets, sets-eq}
+use lib.Seq.{take-at, sets, length-sets, sets-eq}
 use borrow.Author.Tests.{lt-leb}
 use native.Mathlib.Nat.{zero-add}
 use Rattle.theory.specs.Prune.{prune}

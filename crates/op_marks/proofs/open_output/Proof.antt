@@ -1,5 +1,4 @@
 -- The output may be read. Assumes nothing.
-use mathlib.Core.Path.{refl}
 use borrow.Author.Needs.{needs}
 use Rattle.block.proofs.Marking.{opened-by}
 use Rattle.op_marks.proofs.open_output.Statement.{statement}
