@@ -133,7 +133,7 @@ module _ {b : List ℕ} {p k h : ℕ} (st : Stands rowOf b p k) (z : h ≡ planO
   jumps-so (constant-sort i x m t s) = rw (no-label m (λ u. omega arith)) (sym (neither-r (isSetting (roleNo (roleIn e))) (isJumping (roleNo (roleIn e))) s))
   jumps-so (labelled i m t r s) = rw (eq-eqb (moreIn h) 2 (its-plan .more-so ∙ m)) (ap not setting ∙ other (numberOf (roleNo (roleIn e))) s)
 
-  pub marks-ended : {t : Bool} {num : ℕ} {base vars vars′ labels labels′ targets targets′ : List ℕ} → t ≡ eqb (closesIn h) 1 → t ≡ true → vars′ ≡ base
+  pub marks-ended : {t : Bool} {num : ℕ} {base vars vars′ labels labels′ targets targets′ : List ℕ} → t ≡ eqb (closesIn h) 1 → t ≡ true → codesIn vars′ ≡ codesIn base
       → LabelMarks (setsLabel h) (jumpsTo h) (getD b (p + lengthIn h - 1) 0) num labels labels′ targets targets′ → Marks rowOf (recordAt rowOf b p) num base vars vars′ labels labels′ targets targets′
   marks-ended {num = num} {labels = labels} {targets = targets} q c w m =
       let l : p + lengthIn h - 1 ≡ p + (outsIn e + insIn e + restIn e) = omega (arith, length-here) in

@@ -17,6 +17,7 @@ use Rattle.ops.specs.Rows.{outsIn, insIn, restIn, roleIn, rowIn, Row, roleNo, n
 use Rattle.ops.specs.Ops.{kindOf, rowAt, bytesAt, outsBy, insBy, labelBy}
 use Rattle.ops.proofs.Entry.{Digits}
 use Rattle.block.proofs.Codes.{coded-next, codes-closed, codes-open}
+use Rattle.block.proofs.Declaring.{classes-length}
 use Rattle.block.proofs.OpRules.{Op, tests-alike, stopped-not, no-op, no-fit, op-fits}
 use Rattle.block.proofs.Views.{row-at, output-bytes, label-byte}
 use Rattle.block.specs.Checks.{asks, firstBroken, opRules, rulesOf, endRules, answer, checkBy}
@@ -239,6 +240,7 @@ module _ {T : Table} {b : List ℕ} {start : ℕ} {places₀ base vars labels ta
             ∙ sym (at-place T (s .seen) b p (k .here)) ∙ s .goes-on;
         coded = coded-next (s .based) (s .coded) row vars′ (outsBy row (recordAt T b p)) (w .codes-so) outs-below;
         based = s .based;
+        declared = s .declared;
         labels-so = ap (λ (ls : Vars). markedBy (isSetting (row .role)) ls (labelBy row (recordAt T b p))) (s .labels-so) ∙ sym (w .labelled .labels-so);
         targets-so = ap (λ (ts : Vars). markedBy (isJumping (row .role)) ts (labelBy row (recordAt T b p))) (s .targets-so) ∙ sym (w .targets-so);
         ops-so = ap suc (s .ops-so) ∙ sym (add-one ops);
@@ -290,6 +292,7 @@ begins-start {T = T} {b = b} {p = p} places₀ g z =
       goes-on = g .after .goes-on;
       coded = g .after .coded;
       based = g .after .coded;
+      declared = omega (arith, classes-length (g .after .before), g .after .count, g .after .few);
       labels-so = sym (numbered-none 256 z);
       targets-so = sym (marked-none 256 refl);
       ops-so = refl;
@@ -345,7 +348,7 @@ module _ {T : Table} {b : List ℕ} {p k e : ℕ} (s : Stands T b p k) (d : Digi
         (labelled-not (rowIn e) (getD b (p + (outsIn e + insIn e + restIn e)) 0) op refl (straight-sets f))
         (target-not (getD b (p + (outsIn e + insIn e + restIn e)) 0) targets refl (straight-jumps f))
 
-    pub marks-closed : {labels labels′ targets targets′ : List ℕ} → t ≡ true → vars′ ≡ base → LabelledAs (rowIn e) (getD b (p + (outsIn e + insIn e + restIn e)) 0) op labels labels′
+    pub marks-closed : {labels labels′ targets targets′ : List ℕ} → t ≡ true → codesIn vars′ ≡ codesIn base → LabelledAs (rowIn e) (getD b (p + (outsIn e + insIn e + restIn e)) 0) op labels labels′
         → marked targets′ ≡ markedBy (isJumping (roleNo (roleIn e))) (marked targets) (getD b (p + (outsIn e + insIn e + restIn e)) 0)
         → Marks T (recordAt T b p) op base vars vars′ labels labels′ targets targets′
-    marks-closed c w l u = marks-by (codes-closed (rowIn e) (codesIn base) (codesIn vars) (bytesAt b (p + 1) (outsIn e)) z c (ap codesIn w)) l u
+    marks-closed c w l u = marks-by (codes-closed (rowIn e) (codesIn base) (codesIn vars) (bytesAt b (p + 1) (outsIn e)) z c w) l u

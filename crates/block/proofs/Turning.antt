@@ -5,16 +5,18 @@ use mathlib.Core.Bool.{Bool, true, false}
 use mathlib.Core.List.{List, [], _∷_}
 use Prim.Native.Nat.{ℕ, zero, suc, _+_, _%_, _≤_, _<_}
 use native.Mathlib.Omega.{arith}
-use lib.Dec.{eqb}
+use lib.Dec.{eqb, ltb}
 use lib.ListN.{length, getD, set}
-use borrow.Author.Tests.{eqb-true, eqb-false}
+use borrow.Author.Tests.{eqb-true, eqb-false, le-ltb}
 use Rattle.theory.proofs.Sets.{tell, and-l, and-r, clash}
+use Rattle.theory.specs.Sets.{empty}
+use Rattle.ops.specs.Limits.{maxVariables}
 use Rattle.ops.specs.Rows.{bodyLength}
 use Rattle.ops.specs.Kinds.{kindTable, rowOf}
 use Rattle.ops.specs.Plans.{noOp, planOf, planned, planTable, lengthIn}
 use Rattle.ops.proofs.Entry.{digits}
 use Rattle.ops.proofs.Table.{table-long}
-use Rattle.block.specs.Scan.{recordAt, opStands, opOk, opPasses, entryRule, endRule, marked, numbered, ScannedBy, Marks, Reading}
+use Rattle.block.specs.Scan.{recordAt, codeOf, SameBeyond, opStands, opOk, opPasses, entryRule, endRule, marked, numbered, ScannedBy, Marks, Reading}
 use Rattle.block.specs.Rules.{allSet}
 use Rattle.block.proofs.Quick.{some-op}
 use Rattle.block.proofs.Marking.{length-here}
@@ -28,6 +30,13 @@ planned-at (e ∷ es) (suc k) h = planned-at es k (omega arith)
 
 pub plan-of : {plans : List ℕ} {h : ℕ} (k : ℕ) → k < 256 → h ≡ getD plans k 0 → plans ≡ planTable → h ≡ planOf (getD kindTable k 0)
 plan-of k l q z = q ∙ ap (λ (ps : List ℕ). getD ps k 0) z ∙ planned-at kindTable k (rw table-long l)
+
+-- beyond the variables' bytes none changes
+pub same-beyond : {b : List ℕ} {start : ℕ} {places₀ base vars labels targets places : List ℕ} {p ops last : ℕ} → Reading rowOf b start places₀ base vars labels targets places p ops last → SameBeyond base vars
+same-beyond {base = base} {vars = vars} s = record { beyond = λ v h. ap (λ (f : ℕ → ℕ). f v) (s .coded .codes-are) ∙ none v h ∙ sym (ap (λ (f : ℕ → ℕ). f v) (s .based .codes-are)) }
+  where
+    none : (v : ℕ) → maxVariables ≤ v → codeOf (s .seen .classes) (s .seen .types) (s .seen .written) v ≡ codeOf (s .seen .classes) (s .seen .types) empty v
+    none v h = let l : ltb v (length (s .seen .classes)) ≡ false = le-ltb v (length (s .seen .classes)) (omega (arith, s .declared, h)) in rw l
 
 module _ {b : List ℕ} {start : ℕ} {places₀ base vars labels targets places : List ℕ} {p ops last : ℕ}
     (s : Reading rowOf b start places₀ base vars labels targets places p ops last) (here : p < length b) {r : Bool} (t : r ≡ opPasses (getD kindTable (getD b p 0) 0) b p ops vars labels) where

@@ -9,7 +9,7 @@ use lib.ListN.{length, getD, take, drop, set, replicate}
 use Rattle.theory.specs.Machine.{All}
 use Rattle.theory.specs.Sets.{Vars, empty, has}
 use Rattle.ops.specs.Rows.{known, bodyLength, Table}
-use Rattle.ops.specs.Limits.{maxOps, labelCount}
+use Rattle.ops.specs.Limits.{maxVariables, maxOps, labelCount}
 use Rattle.ops.specs.Plans.{ask, lengthIn, outAskIn, firstAskIn, secondAskIn, firstAtIn, secondAtIn, byteAtIn, moreIn, setsIn}
 use Rattle.memory.specs.Bytes.{lowFirst}
 use Rattle.ops.specs.Rows.{Row, outsIn, insIn, restIn, testIn, roleIn, typesIn, rowIn, roleNo, isKnown, isClosing, isSetting, isJumping, testOk}
@@ -255,6 +255,10 @@ pub data ScannedBy (T : Table) (block : List ℕ) (start : ℕ) (places₀ place
 abbrev pub endRule : ℕ → List ℕ → List ℕ → ℕ
 endRule last targets labels = cond (not (eqb last 0x04)) 10 (cond (allSet (marked targets) (numbered labels) labelCount) 0 7)
 
+-- no byte beyond those of the variables that can be declared has changed
+pub record SameBeyond (base vars : List ℕ) : Type 0 where
+  pub beyond : (v : ℕ) → maxVariables ≤ v → codesIn vars v ≡ codesIn base v
+
 -- the variables' bytes after an op, from those at the start of a basic block
 abbrev pub codesBy : Row → (ℕ → ℕ) → (ℕ → ℕ) → List ℕ → ℕ → ℕ
 codesBy row base codes outs = cond (isClosing (row .role)) base (openAll codes outs)
@@ -278,6 +282,7 @@ pub record Reading (T : Table) (b : List ℕ) (start : ℕ) (places₀ base vars
   pub goes-on : checkAt T seen b p ≡ checkBy T b
   pub coded : Coded vars (seen .classes) (seen .types) (seen .written)
   pub based : Coded base (seen .classes) (seen .types) empty
+  pub declared : length (seen .classes) ≤ maxVariables
   pub labels-so : seen .labels ≡ numbered labels
   pub targets-so : seen .targets ≡ marked targets
   pub ops-so : seen .ops ≡ ops

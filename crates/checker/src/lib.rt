@@ -2,7 +2,6 @@
 ghost use mathlib.Core.Path.{_≡_};
 ghost use Rattle.block.specs.Checks.{checkOf};
 use block::Verdict;
-use plans::table;
 
 // Whether a block meets every rule; if not, the first rule that is broken and its place.
 pub fn check(block: &[u8]) -> Verdict
@@ -11,8 +10,7 @@ pub fn check(block: &[u8]) -> Verdict
     let mut base = [15u8; 256];
     let mut places = [0u16; 256];
     let mut labels = [0u16; 256];
-    let plans = table();
-    let s = scan::scan(&plans, block, &mut base, &mut places, &mut labels);
+    let s = scan::scan(block, &mut base, &mut places, &mut labels);
     let rule = s.rule;
     if rule == 0 {
         return Verdict::Accepted;

@@ -6,9 +6,10 @@ ghost use lib.Dec.{eqb};
 ghost use lib.ListN.{length, getD};
 ghost use Rattle.ops.specs.Kinds.{rowOf, kindTable};
 ghost use Rattle.ops.specs.Plans.{noOp, planOf, lengthIn, outAskIn};
-ghost use Rattle.block.specs.Scan.{recordAt, Stands, codesIn, openAll, outputBy, LabelMarks, setsLabel, jumpsTo, Marks};
+ghost use Rattle.block.specs.Scan.{SameBeyond, recordAt, Stands, codesIn, openAll, outputBy, LabelMarks, setsLabel, jumpsTo, Marks};
 use marks::put;
 use marks::put_number;
+use ops::MAX_VARIABLES;
 use plans::closes;
 use plans::length;
 use plans::more;
@@ -55,6 +56,18 @@ fn mark_label(
     put(targets, l, 1);
 }
 
+// The variables' bytes are those at the start of a basic block.
+fn restart(base: &[u8; 256], vars: &mut [u8; 256])
+    requires { ⌜ SameBeyond (now base) (now vars) ⌝ }
+    ensures { λ _. ⌜ codesIn (now (vars .exit)) ≡ codesIn (now (base .entry)) ⌝ }
+{
+    let mut v: u8 = 0;
+    while (v as usize) < MAX_VARIABLES {
+        put(vars, v, code(base, v));
+        v += 1;
+    }
+}
+
 // What the op at a place leaves in the arrays; base: the variables' bytes at the start of a basic block.
 pub fn mark_op(
     h: u32,
@@ -66,13 +79,13 @@ pub fn mark_op(
     labels: &mut [u16; 256],
     targets: &mut [u8; 256],
 )
-    requires { ⌜ Stands rowOf (now block) at (getD (now block) at 0) × (op < 1024) × (h ≡ planOf (getD kindTable (getD (now block) at 0) 0)) × (noOp (getD kindTable (getD (now block) at 0) 0) ≡ false) ⌝ }
+    requires { ⌜ SameBeyond (now base) (now vars) × Stands rowOf (now block) at (getD (now block) at 0) × (op < 1024) × (h ≡ planOf (getD kindTable (getD (now block) at 0) 0)) × (noOp (getD kindTable (getD (now block) at 0) 0) ≡ false) ⌝ }
     ensures { λ r. ⌜ Marks rowOf (recordAt rowOf (now (block .entry)) at) op (now (base .entry)) (now (vars .entry)) (now (vars .exit)) (now (labels .entry)) (now (labels .exit)) (now (targets .entry)) (now (targets .exit)) ⌝ }
 {
     if !closes(h) {
         open_output(h, block, at, vars);
         return;
     }
-    *vars = *base;
+    restart(base, vars);
     mark_label(h, block, at, op, labels, targets);
 }

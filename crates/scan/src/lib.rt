@@ -4,7 +4,6 @@ ghost use mathlib.Core.Bool.{false};
 ghost use Prim.Native.Nat.{_≤_, _<_};
 ghost use lib.ListN.{length, getD, replicate};
 ghost use Rattle.ops.specs.Kinds.{rowOf, kindTable};
-ghost use Rattle.ops.specs.Plans.{planTable};
 ghost use Rattle.block.specs.Scan.{entryRule, endRule, Begins, ScannedBy, Scanned};
 use declarations::scan_declarations;
 use kinds::entry;
@@ -52,16 +51,16 @@ fn end_rule(last: u8, targets: &[u8; 256], labels: &[u16; 256]) -> u8
 
 // Reads the ops from a place on; places and labels then hold where each op and label is. base: the variables' bytes at the start of a basic block.
 fn scan_ops(
-    plans: &[u32; 256],
     block: &[u8],
     start: usize,
     base: &[u8; 256],
     places: &mut [u16; 256],
     labels: &mut [u16; 256],
 ) -> Ops
-    requires { ⌜ Begins rowOf (now block) (now base) start × (now plans ≡ planTable) × (now labels ≡ replicate 256 0) ⌝ }
+    requires { ⌜ Begins rowOf (now block) (now base) start × (now labels ≡ replicate 256 0) ⌝ }
     ensures { λ r. ⌜ ScannedBy rowOf (now (block .entry)) start (now (places .entry)) (now (places .exit)) (now (labels .exit)) (r .rule) (r .place) (r .ops) ⌝ }
 {
+    let plans = plans::table();
     let mut vars = *base;
     let mut targets = [0u8; 256];
     let mut at = start;
@@ -69,7 +68,7 @@ fn scan_ops(
     let mut last: u8 = 0;
     while at < block.len() {
         let kind = block[at];
-        let h = plan(plans, kind);
+        let h = plan(&plans, kind);
         if !op_ok(h, block, at, ops, &vars, labels) {
             return stopped(block, at, ops, &vars, labels);
         }
@@ -99,13 +98,12 @@ pub struct Found {
 
 // Reads a block; of an accepted one base then holds the variables' bytes at the start of a basic block, and the other arrays where each op and label is.
 pub fn scan(
-    plans: &[u32; 256],
     block: &[u8],
     base: &mut [u8; 256],
     places: &mut [u16; 256],
     labels: &mut [u16; 256],
 ) -> Found
-    requires { ⌜ (now base ≡ replicate 256 15) × (now plans ≡ planTable) × (now labels ≡ replicate 256 0) ⌝ }
+    requires { ⌜ (now base ≡ replicate 256 15) × (now labels ≡ replicate 256 0) ⌝ }
     ensures { λ r. ⌜ Scanned rowOf (now (block .entry)) (now (places .entry)) (now (base .exit)) (now (places .exit)) (now (labels .exit)) (r .rule) (r .place) (r .start) (r .variables) (r .globals) (r .ops) ⌝ }
 {
     let d = scan_declarations(block, base);
@@ -122,7 +120,7 @@ pub fn scan(
             ops: 0,
         };
     }
-    let o = scan_ops(plans, block, start, base, places, labels);
+    let o = scan_ops(block, start, base, places, labels);
     Found {
         rule: o.rule,
         place: o.place,

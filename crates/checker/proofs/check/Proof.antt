@@ -4,9 +4,6 @@ use Rattle.block.proofs.Scanned.{check-by, refuse-by}
 use Rattle.checker.proofs.check.Statement.{statement}
 use Rattle.checker.proofs.check.Tie as tie
 
-table-requires : tie.Need-table-requires
-table-requires c κs = tt
-
 scan-requires : tie.Need-scan-requires
 scan-requires c κs = search needs
 
@@ -17,4 +14,4 @@ returns-2 : tie.Need-returns-2
 returns-2 c = refuse-by (c .before .scan .ensures) (c .if1 .left)
 
 pub check-spec : {M : Type 1} → statement M
-check-spec = tie.close (tie.spec table-requires scan-requires returns returns-2)
+check-spec = tie.close (tie.spec scan-requires returns returns-2)

@@ -1,5 +1,4 @@
 -- `mark_op` marks what an op leaves. Assumes nothing.
-use mathlib.Core.Path.{refl}
 use native.Mathlib.Omega.{arith}
 use borrow.Author.Tests.{not-true, not-false}
 use borrow.Author.Needs.{needs}
@@ -10,24 +9,24 @@ use Rattle.op_marks.proofs.mark_op.Tie as tie
 open-output-requires : tie.Need-open-output-requires
 open-output-requires c κs =
     let p = c .before .before .before .before .pre in
-    let w = whole-here (p .0) (p .2) (p .3) in
+    let w = whole-here (p .1) (p .3) (p .4) in
     omega (arith, w .0, w .1)
 
 returns : tie.Need-returns
 returns c =
     let s = c .before .before .before .before .before in
-    marks-opened (s .pre .0) (s .pre .2) (s .pre .3) (s .args .labels .now) (s .args .targets .now) (c .before .before .before .closes .ensures) (not-true _ (c .before .before .if1 .taken)) (c .open-output .ensures)
+    marks-opened (s .pre .1) (s .pre .3) (s .pre .4) (s .args .labels .now) (s .args .targets .now) (c .before .before .before .closes .ensures) (not-true _ (c .before .before .if1 .taken)) (c .open-output .ensures)
 
 mark-label-requires : tie.Need-mark-label-requires
 mark-label-requires c κs =
-    let p = c .before .before .before .before .before .before .pre in
-    let w = whole-here (p .0) (p .2) (p .3) in
-    (w .0, w .1, p .1)
+    let p = c .before .before .before .before .before .before .before .pre in
+    let w = whole-here (p .1) (p .3) (p .4) in
+    (w .0, w .1, p .2)
 
 returns-2 : tie.Need-returns-2
 returns-2 c =
-    let s = c .before .before .before .before .before .before .before in
-    marks-ended (s .pre .0) (s .pre .2) (s .pre .3) (c .before .before .before .before .before .closes .ensures) (not-false _ (c .before .before .before .before .if1 .left)) refl (c .mark-label .ensures)
+    let s = c .before .before .before .before .before .before .before .before in
+    marks-ended (s .pre .1) (s .pre .3) (s .pre .4) (c .before .before .before .before .before .before .closes .ensures) (not-false _ (c .before .before .before .before .before .if1 .left)) (c .before .before .before .restart .ensures) (c .mark-label .ensures)
 
 pub mark-op-spec : {M : Type 1} → statement M
-mark-op-spec = tie.close (tie.spec (λ c κs. search needs) open-output-requires returns mark-label-requires returns-2)
+mark-op-spec = tie.close (tie.spec (λ c κs. search needs) open-output-requires returns (λ c κs. c .before .before .before .before .pre .0) mark-label-requires returns-2)

@@ -13,7 +13,7 @@ use Rattle.ops.specs.Kinds.{rowOf, document01}
 
 -- what stood before the scan
 abbrev start : tie.After-scan → tie.Start
-start s = s .before .before .before .before .before .before .before .before .before
+start s = s .before .before .before .before .before .before .before
 
 -- the scan before rule 11 was asked
 abbrev scanned : tie.After-lent-ok → tie.After-scan
@@ -48,7 +48,7 @@ runs-ops c =
 run-ops-requires : tie.Need-run-ops-requires
 run-ops-requires c κs =
     let e = c .before .before .before .before .before .before in
-    (ready-by (scanned (e .before) .scan .ensures) (e .before .before .before .before .before .if1 .left) refl, few-globals e, c .before .before .before .before .before .table2 .ensures)
+    (ready-by (scanned (e .before) .scan .ensures) (e .before .before .before .before .before .if1 .left) refl, few-globals e, c .before .before .before .before .before .table .ensures)
 
 returns-3 : tie.Need-returns-3
 returns-3 c = c .before .before .before .before .run-ops .ensures ∙ runs-ops (c .before .before .before .before .before .before .before .before .before .before .before)
@@ -56,5 +56,5 @@ returns-3 c = c .before .before .before .before .run-ops .ensures ∙ runs-ops (
 pub run-spec : {M : Type 1} → statement M
 run-spec =
     tie.close
-    (tie.spec (λ c κs. search needs) (λ c κs. search needs) returns lent-ok-requires (λ c. search needs) (λ c. search needs) returns-2 (λ c κs. search needs) run-ops-requires (λ c. search needs)
+    (tie.spec (λ c κs. search needs) returns lent-ok-requires (λ c. search needs) (λ c. search needs) returns-2 (λ c κs. search needs) run-ops-requires (λ c. search needs)
     (λ c. search needs) returns-3)

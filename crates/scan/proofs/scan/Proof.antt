@@ -13,7 +13,7 @@ scan-ops-requires : tie.Need-scan-ops-requires
 scan-ops-requires c κs =
     let d = c .before .before .before .before in
     let p = d .before .before .before .pre in
-    (begins-by (d .scan-declarations .ensures rowOf table-lawful) (c .before .before .before .if1 .left), p .1, p .2)
+    (begins-by (d .scan-declarations .ensures rowOf table-lawful) (c .before .before .before .if1 .left), p .1)
 
 returns-2 : tie.Need-returns-2
 returns-2 c = scan-done (c .before .before .before .before .before .scan-declarations .ensures rowOf table-lawful) (c .before .before .before .before .if1 .left) (c .scan-ops .ensures)

@@ -10,38 +10,38 @@ use Rattle.ops.specs.Kinds.{kindTable, rowOf}
 use Rattle.ops.specs.Plans.{planOf}
 use Rattle.block.specs.Scan.{Reading}
 use Rattle.block.proofs.Scanning.{few-ops-here, stands-at, begins-start, begins-inside}
-use Rattle.block.proofs.Turning.{plan-of, fails-at, sound, is-op, inside, further, again, ends-at}
+use Rattle.block.proofs.Turning.{plan-of, same-beyond, fails-at, sound, is-op, inside, further, again, ends-at}
 use Rattle.scan.proofs.scan_ops.Statement.{statement}
 use Rattle.scan.proofs.scan_ops.Tie as tie
 
 abbrev Inv-loop : tie.InvT-loop
-Inv-loop plans block start base places₀ labels₀ vars₀ targets₀ at₀ ops₀ last₀ places labels vars targets at ops last =
+Inv-loop block start base places₀ labels₀ plans vars₀ targets₀ at₀ ops₀ last₀ places labels vars targets at ops last =
     (at ≤ length block) × Reading rowOf block start places₀ base vars labels targets places at ops last
 
 abbrev μ-loop : tie.MeasureT-loop
-μ-loop plans block start base places₀ labels₀ vars₀ targets₀ at₀ ops₀ last₀ places labels vars targets at ops last = length block - at
+μ-loop block start base places₀ labels₀ plans vars₀ targets₀ at₀ ops₀ last₀ places labels vars targets at ops last = length block - at
 
 loop-holds : tie.Need-loop-holds Inv-loop μ-loop
-loop-holds c = let p = c .before .before .pre in (begins-inside (p .0), begins-start _ (p .0) (p .2))
+loop-holds c = let p = c .before .before .before .pre in (begins-inside (p .0), begins-start _ (p .0) (p .1))
 
 -- the plan of the op that is read
 abbrev turn : tie.After-plan Inv-loop μ-loop → tie.In-loop Inv-loop μ-loop
-turn k = k .before .before
+turn k = k .before .before .before
 
 its-plan : (k : tie.After-plan Inv-loop μ-loop) → let l = turn k .before in
-    k .plan .result ≡ planOf (getD kindTable (getD (l .before .before .before .args .block .now) (l .loop .at) 0) 0)
+    k .plan .result ≡ planOf (getD kindTable (getD (l .before .before .before .before .args .block .now) (l .loop .at) 0) 0)
 its-plan k =
     let l = turn k .before in
-    let s = l .before .before .before in
-    let small : getD (s .args .block .now) (l .loop .at) 0 < 256 = omega (arith, k .before .shared-slice-known2 .given (l .loop .at)) in
-    plan-of _ small (k .plan .ensures) (s .pre .1)
+    let s = l .before .before .before .before in
+    let small : getD (s .args .block .now) (l .loop .at) 0 < 256 = omega (arith, k .before .before .shared-slice-known2 .given (l .loop .at)) in
+    plan-of _ small (k .plan .ensures) (l .before .before .table .ensures)
 
 -- it passes the tests
 abbrev planned : tie.Else1 Inv-loop μ-loop → tie.After-plan Inv-loop μ-loop
 planned c = c .before .before .before .before
 
 op-ok-requires : tie.Need-op-ok-requires Inv-loop μ-loop
-op-ok-requires c κs = (c .before .before .before .before .loop-test .taken, its-plan (c .before .before))
+op-ok-requires c κs = (c .before .before .before .before .before .loop-test .taken, its-plan (c .before .before))
 
 returns : tie.Need-returns Inv-loop μ-loop
 returns c =
@@ -61,14 +61,14 @@ mark-op-requires c κs =
     let e = c .before .before .before in
     let k = reading e in
     let s = sound (k .before .loop .inv .1) (k .loop-test .taken) (e .before .op-ok .ensures) (passed e) in
-    (stands-at s, omega (arith, few-ops-here s), its-plan (planned e), is-op (k .before .loop .inv .1) (k .loop-test .taken) (e .before .op-ok .ensures) (passed e))
+    (same-beyond (k .before .loop .inv .1), stands-at s, omega (arith, few-ops-here s), its-plan (planned e), is-op (k .before .loop .inv .1) (k .loop-test .taken) (e .before .op-ok .ensures) (passed e))
 
 few : (c : tie.Else1 Inv-loop μ-loop) → reading c .before .loop .ops < 256
 few c = let k = reading c in few-ops-here (sound (k .before .loop .inv .1) (k .loop-test .taken) (c .before .op-ok .ensures) (passed c))
 
 -- the place after the op
 after : (m : tie.After-length Inv-loop μ-loop) → let k = reading (m .before .before .before .before .before) in
-    (k .before .loop .at + m .length .result ≤ length (k .before .before .before .before .args .block .now)) × (0 < m .length .result)
+    (k .before .loop .at + m .length .result ≤ length (k .before .before .before .before .before .args .block .now)) × (0 < m .length .result)
 after m =
     let e = m .before .before .before .before .before in
     let k = reading e in (
@@ -85,7 +85,7 @@ loop-again c =
 pub scan-ops-spec : {M : Type 1} → statement M
 scan-ops-spec =
     tie.close
-    (tie.spec Inv-loop μ-loop loop-holds (λ c. search needs) (λ c κs. search needs) op-ok-requires (λ c κs. c .before .before .before .before .before .before .before .before .loop-test .taken) returns mark-op-requires (λ c. search needs)
+    (tie.spec Inv-loop μ-loop (λ c κs. search needs) loop-holds (λ c. search needs) (λ c κs. search needs) op-ok-requires (λ c κs. c .before .before .before .before .before .before .before .before .before .loop-test .taken) returns mark-op-requires (λ c. search needs)
     (λ c. omega (arith, few (c .before .before .before .before))) (λ c. few (c .before .before .before .before)) (λ c. omega (arith, few (c .before .before .before .before))) (λ c κs. search needs)
     (λ c. omega (arith, after c .0)) (λ c. omega (arith, after c)) loop-again (λ c κs. search needs)
     (λ c. ends-at (c .before .before .before .before .loop .inv .1) (c .before .before .before .loop-test .left) (c .end-rule .ensures)))
