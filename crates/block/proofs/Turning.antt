@@ -22,7 +22,7 @@ use Rattle.block.proofs.Quick.{some-op}
 use Rattle.block.proofs.Marking.{length-here}
 use Rattle.block.proofs.Scanning.{Sound, stopped-at, unfit-at, sound-at, stands-at, again-at, whole-op, scanning-10, scanning-7, scanning-0}
 
--- the plan of a kind in the lent table
+-- the plan of a kind in the table
 planned-at : (es : List ℕ) (k : ℕ) → k < length es → getD (planned es) k 0 ≡ planOf (getD es k 0)
 planned-at [] k h = absurd (omega arith)
 planned-at (e ∷ es) zero h = refl

@@ -266,7 +266,7 @@ const PLANS: [u32; 256] = [
     0x4254000f, // ff
 ];
 
-// The table, which a call makes once and lends.
+// The table, which the loop over the ops makes once.
 pub fn table() -> [u32; 256]
     ensures { λ r. ⌜ r ≡ planTable ⌝ }
 {
