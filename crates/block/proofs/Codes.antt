@@ -73,6 +73,15 @@ module _ {vars classes types : List ℕ} {written : Vars} (c : Coded vars classe
       (ap₂ (λ (x y : Bool). x && y) (fits-at true v (codes % 4) (omega arith)) (fit-all outs (codes / 4) m vs (omega arith))
       ∙ shuffle (ltb v (length classes)) (eqb (getD types v 0) (codes % 4)) true (allBelow (length classes) vs) (haveTypes types vs (typesOf m (codes / 4))) (allIn (keptIn classes) (drop outs vs) written))
 
+  -- a byte has five bits
+  pub code-small : (v : ℕ) → codesIn vars v < 32
+  code-small v = let q : codesIn vars v ≡ codeOf classes types written v = ap (λ (codes : ℕ → ℕ). codes v) (c .codes-are) in rw q (go (ltb v (length classes)) (keptIn classes v || written v))
+    where
+      go : (below kept : Bool) → cond below (against kept (getD types v 0)) 15 < 32
+      go false kept = omega arith
+      go true true = omega arith
+      go true false = omega arith
+
 -- an entry of an array that one store changes
 getD-set : (xs : List ℕ) (i x v d : ℕ) → i < length xs → getD (set xs i x) v d ≡ cond (eqb v i) x (getD xs v d)
 getD-set xs i x v d h = go (tell (eqb v i))
@@ -91,14 +100,6 @@ opened-here vars v {x} {y} e z s = fun-ext (λ u. ap (λ (xs : List ℕ). getD x
         let c : y ≡ opened (codesIn vars u) = z ∙ ap opened (e ∙ ap (codesIn vars) (sym q)) in
         rw (t, eq-eqb v u (sym q), c)
     go u (inr t) = rw (t, ne-eqb v u (λ q. eqb-false u v t (sym q)))
-
--- a byte that is stored as it was
-pub set-same : (vars : List ℕ) (v : ℕ) {y : ℕ} {vars′ : List ℕ} → y ≡ codesIn vars v → SetAt vars v y vars′ → codesIn vars′ ≡ codesIn vars
-set-same vars v {y} e s = fun-ext (λ u. ap (λ (xs : List ℕ). getD xs u 15) (s .becomes) ∙ getD-set vars v y u 15 (s .inside) ∙ go u (tell (eqb u v)))
-  where
-    go : (u : ℕ) → (eqb u v ≡ true) ⊎ (eqb u v ≡ false) → cond (eqb u v) y (codesIn vars u) ≡ codesIn vars u
-    go u (inl t) = rw t (e ∙ ap (codesIn vars) (sym (eqb-true u v t)))
-    go u (inr t) = rw t
 
 -- the bytes after an op, by the column of its role
 module _ (row : Row) (base codes : ℕ → ℕ) (outs : List ℕ) {c : Bool} (e : c ≡ isClosing (row .role)) {x : ℕ → ℕ} where

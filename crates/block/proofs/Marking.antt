@@ -1,38 +1,33 @@
 -- What an op leaves in the arrays, by the plan of its kind. Assumes nothing.
-use mathlib.Core.Path.{_≡_, refl, sym, ap, ap₂, _∙_, subst}
+use mathlib.Core.Path.{_≡_, refl, sym, ap, ap₂, _∙_, subst, fun-ext}
 use mathlib.Core.Logic.{_⊎_, inl, inr}
 use mathlib.Core.Bool.{Bool, true, false, cond, not, _||_}
-use mathlib.Core.List.{List}
+use mathlib.Core.List.{List, [], _∷_}
 use Prim.Native.Nat.{ℕ, zero, suc, _+_, _-_, _%_, _^_, _≤_, _<_}
 use native.Mathlib.Omega.{arith}
 use lib.Dec.{eqb, ltb}
-use lib.Pow.{pow-pos}
+use native.Mathlib.Nat.{mod-eq-of-lt}
 use lib.ListN.{length, getD, set}
-use borrow.Author.Tests.{eqb-true, eq-eqb, ne-eqb}
+use borrow.Author.Tests.{eqb-true, eqb-false, ltb-true, eq-eqb, ne-eqb}
 use Rattle.theory.proofs.Sets.{tell, clash}
 use Rattle.ops.specs.Rows.{outsIn, insIn, restIn, roleIn, roleNo, numberOf, isClosing, isSetting, isJumping}
 use Rattle.ops.specs.Kinds.{kindTable, rowOf}
 use Rattle.ops.specs.Ops.{bytesAt}
-use Rattle.ops.specs.Plans.{typeIn, noOp, moreBy, flag, planOf, lengthIn, outAskIn, moreIn, closesIn, setsIn}
+use Rattle.ops.specs.Plans.{typeIn, noOp, moreBy, flag, planOf, lengthIn, outAskIn, moreIn, straightIn, closesIn, setsIn}
 use Rattle.ops.proofs.Entry.{Digits, digits}
 use Rattle.ops.proofs.Plans.{Plan, plan, Sort, plainly, four-inputs, constant-sort, labelled, Sorted, sorted}
 use Rattle.block.specs.Rules.{markedBy}
-use Rattle.block.specs.Scan.{recordAt, Stands, SetAt, codesIn, openAll, outputBy, marked, numbered, LabelMarks, setsLabel, jumpsTo, Marks}
-use Rattle.block.proofs.Codes.{opened-here, set-same}
+use Rattle.block.specs.Scan.{recordAt, Stands, SetAt, codesIn, openAll, FirstReady, marked, numbered, LabelMarks, setsLabel, jumpsTo, Marks}
 use Rattle.block.proofs.MarkSets.{numbered-upd, marked-upd}
 use Rattle.block.proofs.Scanning.{marks-open, marks-closed}
 
--- the output may be read
-pub opened-by : (h : ℕ) (b : List ℕ) (p : ℕ) (vars : List ℕ) {x y : ℕ} {vars′ : List ℕ} → x ≡ codesIn vars (getD b (p + 1) 0) → y ≡ cond (eqb (outAskIn h) 0) x (x % 16)
-    → SetAt vars (getD b (p + 1) 0) y vars′ → codesIn vars′ ≡ openAll (codesIn vars) (outputBy h b p)
-opened-by h b p vars {x} {y} {vars′} e f s = go (tell (eqb (outAskIn h) 0))
+-- a variable that may be read already
+opened-same : (codes : ℕ → ℕ) (v : ℕ) → codes v < 16 → openAll codes (v ∷ []) ≡ codes
+opened-same codes v l = fun-ext (λ u. go u (tell (eqb v u)))
   where
-    v : ℕ
-    v = getD b (p + 1) 0
-
-    go : (eqb (outAskIn h) 0 ≡ true) ⊎ (eqb (outAskIn h) 0 ≡ false) → codesIn vars′ ≡ openAll (codesIn vars) (outputBy h b p)
-    go (inl t) = rw t (set-same vars v (rw t at f ∙ e) s)
-    go (inr t) = rw t (opened-here vars v e (rw t at f) s)
+    go : (u : ℕ) → (eqb v u ≡ true) ⊎ (eqb v u ≡ false) → openAll codes (v ∷ []) u ≡ codes u
+    go u (inl t) = rw t (mod-eq-of-lt (rw (sym (eqb-true v u t)) l))
+    go u (inr t) = rw t
 
 -- the label is set, or jumped to
 module _ (h l op : ℕ) (labels targets : List ℕ) {m : ℕ} (e : m ≡ moreIn h) where
@@ -100,19 +95,25 @@ module _ {b : List ℕ} {p k h : ℕ} (st : Stands rowOf b p k) (z : h ≡ planO
   closing : {t : Bool} → t ≡ eqb (closesIn h) 1 → t ≡ isClosing (roleNo (roleIn e))
   closing q = q ∙ ap (λ (x : ℕ). eqb x 1) (its-plan .closes-so) ∙ flagged (ltb (roleIn e) 6) ∙ sym (op .closes)
 
-  outputs : outputBy h b p ≡ bytesAt b (p + 1) (outsIn e)
-  outputs = go (outsIn e) refl (op .few-outs)
+  -- the first operand is the output, or may be read already
+  outputs : (vars : List ℕ) → closesIn h ≡ 0 → FirstReady h b p vars → openAll (codesIn vars) (getD b (p + 1) 0 ∷ []) ≡ openAll (codesIn vars) (bytesAt b (p + 1) (outsIn e))
+  outputs vars c f = go (outsIn e) refl (op .few-outs)
     where
-      go : (o : ℕ) → outsIn e ≡ o → o < 2 → outputBy h b p ≡ bytesAt b (p + 1) (outsIn e)
-      go zero y l = let a : outAskIn h ≡ 0 = its-plan .out-ask ∙ rw y in rw (a, y)
-      go (suc zero) y l =
-          let a : outAskIn h ≡ 2 ^ typeIn e 0 = its-plan .out-ask ∙ rw y in
-          rw (ne-eqb (outAskIn h) 0 (λ q. omega (arith, a, q, pow-pos (typeIn e 0))), y)
+      go : (o : ℕ) → outsIn e ≡ o → o < 2 → openAll (codesIn vars) (getD b (p + 1) 0 ∷ []) ≡ openAll (codesIn vars) (bytesAt b (p + 1) (outsIn e))
+      go zero y l = let a : outAskIn h ≡ 0 = its-plan .out-ask ∙ rw y in rw y (opened-same (codesIn vars) (getD b (p + 1) 0) (f c a))
+      go (suc zero) y l = rw y
       go (suc (suc o)) y l = absurd (omega arith)
 
-  pub marks-opened : {t : Bool} {num : ℕ} {base vars vars′ : List ℕ} (labels targets : List ℕ) → t ≡ eqb (closesIn h) 1 → t ≡ false → codesIn vars′ ≡ openAll (codesIn vars) (outputBy h b p)
-      → Marks rowOf (recordAt rowOf b p) num base vars vars′ labels labels targets targets
-  marks-opened {vars = vars} labels targets q c w = marks-open st d (closing q) labels targets c refl (w ∙ ap (openAll (codesIn vars)) outputs)
+  module _ {num : ℕ} {base vars vars′ : List ℕ} (labels targets : List ℕ) (f : FirstReady h b p vars) (w : codesIn vars′ ≡ openAll (codesIn vars) (getD b (p + 1) 0 ∷ [])) where
+    pub marks-opened : {t : Bool} → t ≡ eqb (closesIn h) 1 → t ≡ false → Marks rowOf (recordAt rowOf b p) num base vars vars′ labels labels targets targets
+    marks-opened q c =
+        let none : closesIn h ≡ 0 = omega (arith, eqb-false (closesIn h) 1 (sym q ∙ c)) in
+        marks-open st d (closing q) labels targets c refl (w ∙ outputs vars none f)
+
+    pub marks-straight : {t : Bool} → t ≡ straightIn h → t ≡ true → Marks rowOf (recordAt rowOf b p) num base vars vars′ labels labels targets targets
+    marks-straight q y =
+        let none : closesIn h ≡ 0 = omega (arith, ltb-true h (2 ^ 28) (sym q ∙ y)) in
+        marks-opened refl (ne-eqb (closesIn h) 1 (λ u. omega (arith, none, u)))
 
   -- the label's columns
   no-label : {m : ℕ} → moreBy e ≡ m → (m ≡ 2 → ⊥) → eqb (moreIn h) 2 ≡ false

@@ -3,7 +3,7 @@ use mathlib.Core.Path.{_≡_, refl, sym, ap, ap₂, _∙_, subst}
 use mathlib.Core.Logic.{_⊎_, inl, inr}
 use mathlib.Core.Bool.{Bool, true, false, cond, not, _&&_, _||_, Bool·beq}
 use mathlib.Core.List.{List, [], _∷_}
-use Prim.Native.Nat.{ℕ, zero, suc, _+_, _-_, _/_, _%_, _^_, _≤_, _<_}
+use Prim.Native.Nat.{ℕ, zero, suc, _+_, _-_, _*_, _/_, _%_, _^_, _≤_, _<_}
 use native.Mathlib.Omega.{arith}
 use lib.Bits.{bitAnd}
 use lib.Dec.{eqb, ltb, leb}
@@ -17,12 +17,12 @@ use Rattle.memory.specs.Bytes.{lowFirst}
 use Rattle.ops.specs.Limits.{maxOps, labelCount}
 use Rattle.ops.specs.Rows.{outsIn, insIn, restIn, testIn, roleIn, typesIn, typesOf, rowIn, roleNo, isKnown, isSetting, isJumping, at, condOk, labelOk, testOk, asksFor}
 use Rattle.ops.specs.Kinds.{kindTable}
-use Rattle.ops.specs.Plans.{typeIn, noOp, outAskBy, secondBy, inAskBy, inAtBy, byteTestBy, byteAtBy, moreBy, planOf, lengthIn, firstAskIn, firstAtIn, secondAtIn, byteAtIn, byteTestIn, moreIn}
-use Rattle.ops.proofs.Plans.{Plan, plan, Sort, plainly, four-inputs, constant-sort, labelled, Sorted, sorted, no-op-so, no-plan, or-not, not-so}
+use Rattle.ops.specs.Plans.{typeIn, noOp, outAskBy, secondBy, inAskBy, inAtBy, byteTestBy, byteAtBy, moreBy, planOf, lengthIn, outAskIn, firstAskIn, secondAskIn, firstAtIn, secondAtIn, byteAtIn, byteTestIn, moreIn, straightIn, closesIn}
+use Rattle.ops.proofs.Plans.{Plan, plan, Sort, plainly, four-inputs, constant-sort, labelled, Sorted, sorted, no-op-so, no-plan, or-not, not-so, first-read}
 use Rattle.ops.proofs.Ranges.{everyFrom, ranged, beq-same}
 use Rattle.ops.proofs.Table.{asks-few}
 use Rattle.block.specs.Rules.{labelFree}
-use Rattle.block.specs.Scan.{codesIn, meets, fitsAs, operandsFit, numbered, operandsOk, opStands, opOk, opPasses, Placed, codeAt, threeFit, byteOk, labelFits, moreOk}
+use Rattle.block.specs.Scan.{codesIn, meets, fitsAs, operandsFit, numbered, operandsOk, opStands, opOk, opPasses, Placed, codeAt, threeFit, refusedBytes, byteOk, labelFits, moreOk}
 use Rattle.block.proofs.Rests.{branch-test, label-test, constant-test}
 
 -- nothing is asked
@@ -149,26 +149,36 @@ bytes-ok = refl
 one-no : (x : ℕ) → byteOk 1 x ≡ false
 unfolding byteOk
 one-no x =
-    let t : eqb (0xffffffff / 2 ^ (x % 32) % 2) 0 ≡ false = not-so (eqb (0xffffffff / 2 ^ (x % 32) % 2) 0) (ranged (λ y. not (eqb (0xffffffff / 2 ^ y % 2) 0)) 32 0 refl (x % 32) (omega arith) (omega arith)) in
-    ap (λ (z : Bool). ltb x 32 && z) t ∙ and-none (ltb x 32)
+    let t : 0xffffffff / 2 ^ (x % 32) % 2 ≡ 1 = eqb-true _ 1 (ranged (λ y. eqb (0xffffffff / 2 ^ y % 2) 1) 32 0 refl (x % 32) (omega arith) (omega arith)) in
+    rw t (ne-eqb (1 + x / 32 * 1) 0 (λ z. omega arith))
 
 zero-ok : (x : ℕ) → byteOk 0 x ≡ true
 unfolding byteOk
-zero-ok x = ranged (λ y. eqb (0 / 2 ^ y % 2) 0) 32 0 refl (x % 32) (omega arith) (omega arith)
+zero-ok x =
+    let t : 0 / 2 ^ (x % 32) % 2 ≡ 0 = eqb-true _ 0 (ranged (λ y. eqb (0 / 2 ^ y % 2) 0) 32 0 refl (x % 32) (omega arith) (omega arith)) in
+    rw t (eq-eqb (0 + x / 32 * 0) 0 (omega arith))
 
 unlike : false ≡ true → ⊥
 unlike q = omega (arith, ap (λ (b : Bool). cond {A = ℕ} b 0 1) q)
+
+-- a byte from 32 on passes no other test
+high-no : (a x t : ℕ) → 32 ≤ x → eqb (a + x / 32 * suc t) 0 ≡ false
+high-no a x t h = ne-eqb (a + x / 32 * suc t) 0 (λ z. go (x / 32) t (omega arith) (omega arith))
+  where
+    go : (q t : ℕ) → 0 < q → q * suc t ≡ 0 → ⊥
+    go zero t l e = omega arith
+    go (suc q) t l e = omega arith
 
 high-so : (x : ℕ) → 32 ≤ x → (t : ℕ) → t < 8 → byteTest t ≡ true → byteOk t x ≡ testOk t (x ∷ [])
 unfolding byteOk testOk flagsOk byteTest
 high-so x h zero l s = zero-ok x
 high-so x h (suc zero) l s = absurd (unlike s)
-high-so x h (suc (suc zero)) l s = rw (le-ltb x 32 h, lt-leb x 9 (omega arith))
+high-so x h (suc (suc zero)) l s = rw (high-no (refusedBytes 2 / 2 ^ (x % 32) % 2) x 1 h, lt-leb x 9 (omega arith))
 high-so x h (suc (suc (suc zero))) l s = absurd (unlike s)
-high-so x h (suc (suc (suc (suc zero)))) l s = rw (le-ltb x 32 h, le-ltb x 16 (omega arith))
-high-so x h (suc (suc (suc (suc (suc zero))))) l s = rw (le-ltb x 32 h, le-ltb x 16 (omega arith))
-high-so x h (suc (suc (suc (suc (suc (suc zero)))))) l s = rw (le-ltb x 32 h, le-ltb x 16 (omega arith))
-high-so x h (suc (suc (suc (suc (suc (suc (suc zero))))))) l s = rw (le-ltb x 32 h, le-ltb x 16 (omega arith))
+high-so x h (suc (suc (suc (suc zero)))) l s = rw (high-no (refusedBytes 4 / 2 ^ (x % 32) % 2) x 3 h, le-ltb x 16 (omega arith))
+high-so x h (suc (suc (suc (suc (suc zero))))) l s = rw (high-no (refusedBytes 5 / 2 ^ (x % 32) % 2) x 4 h, le-ltb x 16 (omega arith))
+high-so x h (suc (suc (suc (suc (suc (suc zero)))))) l s = rw (high-no (refusedBytes 6 / 2 ^ (x % 32) % 2) x 5 h, le-ltb x 16 (omega arith))
+high-so x h (suc (suc (suc (suc (suc (suc (suc zero))))))) l s = rw (high-no (refusedBytes 7 / 2 ^ (x % 32) % 2) x 6 h, le-ltb x 16 (omega arith))
 high-so x h (suc (suc (suc (suc (suc (suc (suc (suc t)))))))) l s = absurd (omega arith)
 
 byte-so : (t x : ℕ) → t < 8 → byteTest t ≡ true → byteOk t x ≡ testOk t (x ∷ [])
@@ -240,6 +250,20 @@ two-bytes = refl
 two-test : (x : ℕ) → testOk 2 (x ∷ []) ≡ condOk x
 unfolding testOk
 two-test x = refl
+
+-- what is asked has bit 4
+askedBelow : ℕ → ℕ → Bool
+askedBelow asked code = not (eqb (asked / 16) 1) || (not (eqb (bitAnd code asked) 0) || ltb code 16)
+
+all-below : everyFrom (λ asked. everyFrom (askedBelow asked) 0 32) 0 32 ≡ true
+unfolding askedBelow
+all-below = refl
+
+below-16 : (asked code : ℕ) → asked < 32 → code < 32 → asked / 16 ≡ 1 → eqb (bitAnd code asked) 0 ≡ true → code < 16
+unfolding askedBelow
+below-16 asked code l m o t =
+    let u = ranged (askedBelow asked) 32 0 (ranged (λ asked. everyFrom (askedBelow asked) 0 32) 32 0 all-below asked (omega arith) (omega arith)) code (omega arith) (omega arith) in
+    ltb-true code 16 (or-not (not (eqb (bitAnd code asked) 0)) _ (ap not t) (or-not (not (eqb (asked / 16) 1)) _ (rw o) u))
 
 -- an op with this entry and plan
 module _ (b : List ℕ) (p : ℕ) (vars labels : List ℕ) {e h : ℕ} (g : Plan e h) (few : asksFor (testIn e) ≤ restIn e) (some-op : noOp e ≡ false) where
@@ -363,7 +387,7 @@ module _ (b : List ℕ) (p ops : ℕ) (vars labels : List ℕ) (k : ℕ) {e h : 
   fails-late l = rw (le-ltb ops maxOps l) (sym (and-none (opStands e b p)))
 
   -- an op stands there, whole
-  module _ (l : lengthIn h ≤ length b - p) (here : p < length b) (few : ops < 256) (is-op : noOp e ≡ false) where
+  module _ (l : lengthIn h ≤ length b - p) (here : p < length b) (is-op : noOp e ≡ false) where
     op : Sorted k e
     op = sorted k q is-op
 
@@ -417,8 +441,8 @@ module _ (b : List ℕ) (p ops : ℕ) (vars labels : List ℕ) (k : ℕ) {e h : 
           inputs = λ m. more-in 3 m (op .sort) .0 refl;
         }
 
-    alike : (threeFit h b p vars && byteOk (byteTestIn h) (getD b (p + byteAtIn h) 0) && moreOk h b p vars labels) ≡ passes
-    alike = quick-so b p vars labels its-plan (asks-few k q) is-op (op .few-outs) (length-so is-op) (op .sort) ∙ sym (rw (stands-here, lt-ltb ops maxOps few))
+    alike : ops < 256 → (threeFit h b p vars && byteOk (byteTestIn h) (getD b (p + byteAtIn h) 0) && moreOk h b p vars labels) ≡ passes
+    alike few = quick-so b p vars labels its-plan (asks-few k q) is-op (op .few-outs) (length-so is-op) (op .sort) ∙ sym (rw (stands-here, lt-ltb ops maxOps few))
 
   -- no op: no byte passes its test
   module _ (l : lengthIn h ≤ length b - p) (here : p < length b) (n : noOp e ≡ true) where
@@ -442,27 +466,55 @@ module _ (b : List ℕ) (p ops : ℕ) (vars labels : List ℕ) (k : ℕ) {e h : 
     none-byte = let t : byteTestIn h ≡ 1 = its-plan .byte-test ∙ rw n in ap (λ (t : ℕ). byteOk t (getD b (p + byteAtIn h) 0)) t ∙ one-no (getD b (p + byteAtIn h) 0)
 
   module _ (l : lengthIn h ≤ length b - p) (here : p < length b) where
-    pub placed : (few : ops < 256) → Placed h b p
-    placed few = go (tell (noOp e))
+    pub placed : Placed h b p
+    placed = go (tell (noOp e))
       where
         go : (noOp e ≡ true) ⊎ (noOp e ≡ false) → Placed h b p
         go (inl n) = placed-none l here n
-        go (inr n) = placed-op l here few n
+        go (inr n) = placed-op l here n
 
-    module _ (few : ops < 256) where
-      pub fails-fit : (threeFit h b p vars && byteOk (byteTestIn h) (getD b (p + byteAtIn h) 0)) ≡ false → false ≡ passes
-      fails-fit t = go (tell (noOp e))
-        where
-          go : (noOp e ≡ true) ⊎ (noOp e ≡ false) → false ≡ passes
-          go (inl n) = rw (none-stands n)
-          go (inr n) = sym (ap (λ (x : Bool). x && moreOk h b p vars labels) t) ∙ alike l here few n
+    -- the tests of the operands and of the byte, and that it is not one op too many
+    abbrev tested-byte : Bool
+    tested-byte = byteOk (byteTestIn h) (getD b (p + byteAtIn h) 0)
 
-      pub passes-so : {r : Bool} → (threeFit h b p vars && byteOk (byteTestIn h) (getD b (p + byteAtIn h) 0)) ≡ true → r ≡ moreOk h b p vars labels → r ≡ passes
-      passes-so {r} t m = go (tell (noOp e))
-        where
-          go : (noOp e ≡ true) ⊎ (noOp e ≡ false) → r ≡ passes
-          go (inl n) = absurd (clash (byteOk (byteTestIn h) (getD b (p + byteAtIn h) 0)) (and-r (threeFit h b p vars) (byteOk (byteTestIn h) (getD b (p + byteAtIn h) 0)) t) (none-byte l here n))
-          go (inr n) = m ∙ sym (ap (λ (x : Bool). x && moreOk h b p vars labels) t) ∙ alike l here few n
+    abbrev tests : Bool
+    tests = threeFit h b p vars && tested-byte && ltb ops maxOps
+
+    pub fails-fit : tests ≡ false → false ≡ passes
+    fails-fit t = go (tell (noOp e)) (tell (ltb ops maxOps))
+      where
+        go : (noOp e ≡ true) ⊎ (noOp e ≡ false) → (ltb ops maxOps ≡ true) ⊎ (ltb ops maxOps ≡ false) → false ≡ passes
+        go (inl n) y = rw (none-stands n)
+        go (inr n) (inr y) = fails-late (ltb-false ops maxOps y)
+        go (inr n) (inl y) =
+            let t′ : (threeFit h b p vars && tested-byte) ≡ false = sym (and-one (threeFit h b p vars && tested-byte)) ∙ (rw y at t) in
+            sym (ap (λ (x : Bool). x && moreOk h b p vars labels) t′) ∙ alike l here n (ltb-true ops maxOps y)
+
+    pub passes-so : {r : Bool} → tests ≡ true → r ≡ moreOk h b p vars labels → r ≡ passes
+    passes-so {r} t m = go (tell (noOp e))
+      where
+        fit : (threeFit h b p vars && tested-byte) ≡ true
+        fit = and-l (threeFit h b p vars && tested-byte) (ltb ops maxOps) t
+
+        go : (noOp e ≡ true) ⊎ (noOp e ≡ false) → r ≡ passes
+        go (inl n) = absurd (clash tested-byte (and-r (threeFit h b p vars) tested-byte fit) (none-byte l here n))
+        go (inr n) = m ∙ sym (ap (λ (x : Bool). x && moreOk h b p vars labels) fit) ∙ alike l here n (ltb-true ops maxOps (and-r (threeFit h b p vars && tested-byte) (ltb ops maxOps) t))
+
+    -- nothing else is asked
+    pub passes-straight : tests ≡ true → straightIn h ≡ true → true ≡ passes
+    unfolding moreOk
+    passes-straight t y =
+        let m : moreIn h ≡ 0 = omega (arith, ltb-true h (2 ^ 28) y) in
+        passes-so t (rw m)
+
+    -- an op that passes reads its first operand, if that is not its output: its byte does not speak against it
+    pub first-met : (n : noOp e ≡ false) → ops < 256 → passes ≡ true → closesIn h ≡ 0 → outAskIn h ≡ 0 → codeAt b vars (p + 1) % 32 < 16
+    first-met n few y c o =
+        let (at-first, asked) = first-read k q z n c o in
+        let fit = and-l (threeFit h b p vars) tested-byte (and-l (threeFit h b p vars && tested-byte) (moreOk h b p vars labels) (alike l here n few ∙ y)) in
+        let met = and-r (meets (outAskIn h) (codeAt b vars (p + 1))) _ (and-l _ (meets (secondAskIn h) (codeAt b vars (p + secondAtIn h))) fit) in
+        below-16 (firstAskIn h) (codeAt b vars (p + 1) % 32) (omega arith) (omega arith) asked
+        (ap (λ (i : ℕ). meets (firstAskIn h) (codeAt b vars (p + i))) (sym at-first) ∙ met)
 
 -- an op that passes is one
 pub some-op : (b : List ℕ) (p ops : ℕ) (vars labels : List ℕ) (k : ℕ) {e : ℕ} → k ≡ getD b p 0 → e ≡ getD kindTable k 0 → opPasses e b p ops vars labels ≡ true → noOp e ≡ false

@@ -15,6 +15,7 @@ use Rattle.theory.proofs.Sets.{tell, and-l, and-r}
 use Rattle.ops.specs.Rows.{known, bodyLength, Table}
 use Rattle.ops.specs.Rows.{outsIn, insIn, restIn, roleIn, rowIn, Row, roleNo, numberOf, isKnown, isClosing, isSetting, isJumping}
 use Rattle.ops.specs.Ops.{kindOf, rowAt, bytesAt, outsBy, insBy, labelBy}
+use Rattle.ops.specs.Plans.{exitPlan}
 use Rattle.ops.proofs.Entry.{Digits}
 use Rattle.block.proofs.Codes.{coded-next, codes-closed, codes-open}
 use Rattle.block.proofs.Declaring.{classes-length}
@@ -224,10 +225,11 @@ module _ {T : Table} {b : List ℕ} {start : ℕ} {places₀ base vars labels ta
   unfolding rule4
   outs-below = below-left (length (s .seen .classes)) (outsBy (rowAt T (recordAt T b p)) (recordAt T b p)) (insBy (rowAt T (recordAt T b p)) (recordAt T b p)) (its-op .declared)
 
-  pub again-at : {m : ℕ} → m ≡ bodyLength T (getD b p 0) → (vars′ labels′ targets′ : List ℕ) → Marks T (recordAt T b p) ops base vars vars′ labels labels′ targets targets′
-      → Reading T b start places₀ base vars′ labels′ targets′ (set places ops (p % 65536)) (p + (1 + m)) (ops + 1) (getD b p 0)
+  pub again-at : {m h : ℕ} → m ≡ bodyLength T (getD b p 0) → eqb h exitPlan ≡ eqb (getD b p 0) 0x04 → (vars′ labels′ targets′ : List ℕ)
+      → Marks T (recordAt T b p) ops base vars vars′ labels labels′ targets targets′
+      → Reading T b start places₀ base vars′ labels′ targets′ (set places ops (p % 65536)) (p + (1 + m)) (ops + 1) h
   unfolding placesFrom labelsFrom
-  again-at {m} z vars′ labels′ targets′ w =
+  again-at {m} z exits vars′ labels′ targets′ w =
       let q : p + (1 + m) ≡ p + suc (bodyLength T (getD b p 0)) = omega (arith, z) in
       let long : p + length (recordAt T b p) ≡ p + suc (bodyLength T (getD b p 0)) = omega (arith, long-here) in
       let row = rowAt T (recordAt T b p) in
@@ -244,7 +246,7 @@ module _ {T : Table} {b : List ℕ} {start : ℕ} {places₀ base vars labels ta
         labels-so = ap (λ (ls : Vars). markedBy (isSetting (row .role)) ls (labelBy row (recordAt T b p))) (s .labels-so) ∙ sym (w .labelled .labels-so);
         targets-so = ap (λ (ts : Vars). markedBy (isJumping (row .role)) ts (labelBy row (recordAt T b p))) (s .targets-so) ∙ sym (w .targets-so);
         ops-so = ap suc (s .ops-so) ∙ sym (add-one ops);
-        last-so = kind-at T b p (whole-here .within);
+        last-so = exits ∙ sym (ap (λ (k : ℕ). eqb k 0x04) (kind-at T b p (whole-here .within)));
         count = s .count ∙ ap (λ (c : Cut). ops + length (c .records)) cut-here ∙ more ops (length (recordsAt T b (p + suc (bodyLength T (getD b p 0)))));
         places-are =
             s .places-are ∙ ap (λ (c : Cut). placesFrom p ops places (c .records)) cut-here
@@ -265,20 +267,20 @@ module _ {T : Table} {b : List ℕ} {start : ℕ} {places₀ base vars labels ta
   end-answer : answer (firstBroken (endRules (s .seen))) p Accepted ≡ checkBy T b
   end-answer = sym (at-end T (s .seen) b p h) ∙ s .goes-on
 
-  pub scanning-10 : (last ≡ 4 → ⊥) → ScannedBy T b start places₀ places labels 10 p ops
+  pub scanning-10 : eqb last exitPlan ≡ false → ScannedBy T b start places₀ places labels 10 p ops
   unfolding firstBroken rule10
-  scanning-10 q = refuses-op {rule = 10} (λ e. omega arith) (rw (s .last-so, ne-eqb last 0x04 q) at end-answer)
+  scanning-10 q = refuses-op {rule = 10} (λ e. omega arith) (rw (sym (s .last-so) ∙ q) at end-answer)
 
-  module _ {r : Bool} (q : last ≡ 4) (e : r ≡ allSet (marked targets) (numbered labels) 32) where
+  module _ {r : Bool} (q : eqb last exitPlan ≡ true) (e : r ≡ allSet (marked targets) (numbered labels) 32) where
     pub scanning-7 : r ≡ false → ScannedBy T b start places₀ places labels 7 p ops
     unfolding firstBroken rule10 rule7end
-    scanning-7 t = refuses-op {rule = 7} (λ z. omega arith) (rw (s .last-so, eq-eqb last 0x04 q, s .targets-so, s .labels-so, sym e ∙ t) at end-answer)
+    scanning-7 t = refuses-op {rule = 7} (λ z. omega arith) (rw (sym (s .last-so) ∙ q, s .targets-so, s .labels-so, sym e ∙ t) at end-answer)
 
     pub scanning-0 : r ≡ true → ScannedBy T b start places₀ places labels 0 p ops
     unfolding firstBroken rule10 rule7end placesFrom labelsFrom
     scanning-0 t =
         let rest : recordsAt T b p ≡ [] = ap (λ (c : Cut). c .records) (cut-end T b p h) in
-        accepts-ops {place = p} {ops = ops} (sym (rw (s .last-so, eq-eqb last 0x04 q, s .targets-so, s .labels-so, sym e ∙ t) at end-answer))
+        accepts-ops {place = p} {ops = ops} (sym (rw (sym (s .last-so) ∙ q, s .targets-so, s .labels-so, sym e ∙ t) at end-answer))
         (omega (arith, s .count, ap length rest))
         (sym (s .places-are ∙ ap (placesFrom p ops places) rest))
         (sym (s .labels-are ∙ ap (labelsFrom T ops labels) rest))

@@ -3,24 +3,26 @@ use mathlib.Core.Path.{_≡_, refl, sym, ap, _∙_, subst}
 use mathlib.Core.Logic.{_⊎_, inl, inr}
 use mathlib.Core.Bool.{Bool, true, false}
 use mathlib.Core.List.{List, [], _∷_}
-use Prim.Native.Nat.{ℕ, zero, suc, _+_, _%_, _≤_, _<_}
+use Prim.Native.Nat.{ℕ, zero, suc, _+_, _-_, _%_, _≤_, _<_}
 use native.Mathlib.Omega.{arith}
 use lib.Dec.{eqb, ltb}
 use lib.ListN.{length, getD, set}
-use borrow.Author.Tests.{eqb-true, eqb-false, le-ltb}
+use borrow.Author.Tests.{le-ltb}
 use Rattle.theory.proofs.Sets.{tell, and-l, and-r, clash}
 use Rattle.theory.specs.Sets.{empty}
 use Rattle.ops.specs.Limits.{maxVariables}
-use Rattle.ops.specs.Rows.{bodyLength}
+use Rattle.ops.specs.Rows.{bodyLength, outsIn, insIn, restIn}
 use Rattle.ops.specs.Kinds.{kindTable, rowOf}
-use Rattle.ops.specs.Plans.{noOp, planOf, planned, planTable, lengthIn}
+use Rattle.ops.specs.Plans.{noOp, planOf, planned, planTable, lengthIn, exitPlan}
 use Rattle.ops.proofs.Entry.{digits}
+use Rattle.ops.proofs.Plans.{exits-so}
 use Rattle.ops.proofs.Table.{table-long}
-use Rattle.block.specs.Scan.{recordAt, codeOf, SameBeyond, opStands, opOk, opPasses, entryRule, endRule, marked, numbered, ScannedBy, Marks, Reading}
+use Rattle.block.specs.Scan.{recordAt, codeOf, SameBeyond, opStands, opOk, opPasses, entryRule, endRule, marked, numbered, ScannedBy, Marks, FirstReady, Reading}
 use Rattle.block.specs.Rules.{allSet}
-use Rattle.block.proofs.Quick.{some-op}
+use Rattle.block.proofs.Codes.{code-small}
+use Rattle.block.proofs.Quick.{some-op, first-met}
 use Rattle.block.proofs.Marking.{length-here}
-use Rattle.block.proofs.Scanning.{Sound, stopped-at, unfit-at, sound-at, stands-at, again-at, whole-op, scanning-10, scanning-7, scanning-0}
+use Rattle.block.proofs.Scanning.{Sound, stopped-at, unfit-at, sound-at, few-ops-here, stands-at, again-at, whole-op, scanning-10, scanning-7, scanning-0}
 
 -- the plan of a kind in the table
 planned-at : (es : List ℕ) (k : ℕ) → k < length es → getD (planned es) k 0 ≡ planOf (getD es k 0)
@@ -74,17 +76,25 @@ module _ {b : List ℕ} {start : ℕ} {places₀ base vars labels targets places
       further = omega (arith, long)
 
       pub again : (vars′ labels′ targets′ : List ℕ) → Marks rowOf (recordAt rowOf b p) ops base vars vars′ labels labels′ targets targets′
-          → Reading rowOf b start places₀ base vars′ labels′ targets′ (set places ops (p % 65536)) (p + n) (ops + 1) (getD b p 0)
+          → Reading rowOf b start places₀ base vars′ labels′ targets′ (set places ops (p % 65536)) (p + n) (ops + 1) h
       again vars′ labels′ targets′ m =
-          subst (λ (i : ℕ). Reading rowOf b start places₀ base vars′ labels′ targets′ (set places ops (p % 65536)) i (ops + 1) (getD b p 0)) (ap (λ (i : ℕ). p + i) (sym long))
-          (again-at sound refl vars′ labels′ targets′ m)
+          subst (λ (i : ℕ). Reading rowOf b start places₀ base vars′ labels′ targets′ (set places ops (p % 65536)) i (ops + 1) h) (ap (λ (i : ℕ). p + i) (sym long))
+          (again-at sound refl (exits-so (getD b p 0) refl z is-op) vars′ labels′ targets′ m)
+
+    -- the first operand, if it is no output, may be read
+    pub ready : {h : ℕ} → h ≡ planOf e → FirstReady h b p vars
+    ready {h} z c o =
+        let long = length-here (stands-at sound) z is-op in
+        let body : bodyLength rowOf (getD b p 0) ≡ outsIn e + insIn e + restIn e = (digits kindTable refl) .body in
+        let l : lengthIn h ≤ length b - p = omega (arith, long, body, whole-op sound) in
+        omega (arith, first-met b p ops vars labels (getD b p 0) refl refl z l here is-op (few-ops-here sound) (sym t ∙ y) c o, code-small (s .coded) (getD b (p + 1) 0))
 
 -- the end
 pub ends-at : {b : List ℕ} {start : ℕ} {places₀ base vars labels targets places : List ℕ} {p ops last rule : ℕ} → Reading rowOf b start places₀ base vars labels targets places p ops last
-    → length b ≤ p → rule ≡ endRule last targets labels → ScannedBy rowOf b start places₀ places labels rule p ops
-ends-at {b} {start} {places₀} {labels = labels} {targets = targets} {places = places} {p = p} {ops = ops} {last = last} {rule = rule} s h e = go (tell (eqb last 4)) (tell (allSet (marked targets) (numbered labels) 32))
+    → length b ≤ p → rule ≡ endRule (eqb last exitPlan) targets labels → ScannedBy rowOf b start places₀ places labels rule p ops
+ends-at {b} {start} {places₀} {labels = labels} {targets = targets} {places = places} {p = p} {ops = ops} {last = last} {rule = rule} s h e = go (tell (eqb last exitPlan)) (tell (allSet (marked targets) (numbered labels) 32))
   where
-    go : (eqb last 4 ≡ true) ⊎ (eqb last 4 ≡ false) → (allSet (marked targets) (numbered labels) 32 ≡ true) ⊎ (allSet (marked targets) (numbered labels) 32 ≡ false) → ScannedBy rowOf b start places₀ places labels rule p ops
-    go (inr x) y = let q : rule ≡ 10 = e ∙ rw x in rw q (scanning-10 s h (eqb-false last 4 x))
-    go (inl x) (inr y) = let q : rule ≡ 7 = e ∙ rw (x, y) in rw q (scanning-7 s h (eqb-true last 4 x) refl y)
-    go (inl x) (inl y) = let q : rule ≡ 0 = e ∙ rw (x, y) in rw q (scanning-0 s h (eqb-true last 4 x) refl y)
+    go : (eqb last exitPlan ≡ true) ⊎ (eqb last exitPlan ≡ false) → (allSet (marked targets) (numbered labels) 32 ≡ true) ⊎ (allSet (marked targets) (numbered labels) 32 ≡ false) → ScannedBy rowOf b start places₀ places labels rule p ops
+    go (inr x) y = let q : rule ≡ 10 = e ∙ rw x in rw q (scanning-10 s h x)
+    go (inl x) (inr y) = let q : rule ≡ 7 = e ∙ rw (x, y) in rw q (scanning-7 s h x refl y)
+    go (inl x) (inl y) = let q : rule ≡ 0 = e ∙ rw (x, y) in rw q (scanning-0 s h x refl y)

@@ -10,7 +10,7 @@ use Rattle.theory.specs.Machine.{All}
 use Rattle.theory.specs.Sets.{Vars, empty, has}
 use Rattle.ops.specs.Rows.{known, bodyLength, Table}
 use Rattle.ops.specs.Limits.{maxVariables, maxOps, labelCount}
-use Rattle.ops.specs.Plans.{ask, lengthIn, outAskIn, firstAskIn, secondAskIn, firstAtIn, secondAtIn, byteAtIn, moreIn, setsIn}
+use Rattle.ops.specs.Plans.{ask, lengthIn, outAskIn, firstAskIn, secondAskIn, firstAtIn, secondAtIn, byteAtIn, moreIn, closesIn, setsIn, exitPlan}
 use Rattle.memory.specs.Bytes.{lowFirst}
 use Rattle.ops.specs.Rows.{Row, outsIn, insIn, restIn, testIn, roleIn, typesIn, rowIn, roleNo, isKnown, isClosing, isSetting, isJumping, testOk}
 use Rattle.ops.specs.Ops.{rowAt, bytesAt, outsBy, labelBy}
@@ -94,9 +94,10 @@ pub record LabelledAs (row : Row) (l op : ℕ) (labels labels′ : List ℕ) : T
   pub labels-so : numbered labels′ ≡ markedBy (isSetting (row .role)) (numbered labels) l
   pub numbers-so : labels′ ≡ labelledBy row l op labels
 
--- by the plan of its kind: the op's output; whether it sets its label, or may jump to it; what that leaves
-abbrev pub outputBy : ℕ → List ℕ → ℕ → List ℕ
-outputBy h block place = cond (eqb (outAskIn h) 0) [] (getD block (place + 1) 0 ∷ [])
+-- by the plan of its kind: the first operand of an op that has no output and closes no basic block may be read; whether the op sets its label, or
+-- may jump to it; what that leaves
+abbrev pub FirstReady : ℕ → List ℕ → ℕ → List ℕ → Type 0
+FirstReady h block place vars = closesIn h ≡ 0 → outAskIn h ≡ 0 → codesIn vars (getD block (place + 1) 0) < 16
 
 abbrev pub setsLabel : ℕ → Bool
 setsLabel h = eqb (moreIn h) 2 && eqb (setsIn h) 1
@@ -198,7 +199,7 @@ abbrev pub opPasses : ℕ → List ℕ → ℕ → ℕ → List ℕ → List ℕ
 opPasses e block place ops vars labels = opStands e block place && opOk e block place ops vars labels
 
 -- the same by the plan of its kind: the byte of the variable that stands so far into the record; the operands; the byte after them, of which those
--- below 32 have a bit each in a number, 1 if they are refused; what else is asked
+-- below 32 have a bit each in a number, 1 if they are refused, and the others pass test 0 alone; what else is asked
 abbrev pub codeAt : List ℕ → List ℕ → ℕ → ℕ
 codeAt block vars i = codesIn vars (getD block i 0)
 
@@ -211,7 +212,7 @@ abbrev pub refusedBytes : ℕ → ℕ
 refusedBytes t = cond (eqb t 1) 0xffffffff (cond (eqb t 2) 0xfffffc00 (cond (eqb t 4) 0xffff8888 (cond (eqb t 5) 0xffff0000 (cond (eqb t 6) 0xfffff8f8 (cond (eqb t 7) 0xfffff0f0 0)))))
 
 unfoldable pub byteOk : ℕ → ℕ → Bool
-byteOk t x = (eqb t 0 || ltb x 32) && eqb (refusedBytes t / 2 ^ (x % 32) % 2) 0
+byteOk t x = eqb (refusedBytes t / 2 ^ (x % 32) % 2 + x / 32 * (t % 8)) 0
 
 abbrev pub labelFits : List ℕ → ℕ → Bool
 labelFits labels l = ltb l labelCount && not (numbered labels l)
@@ -251,9 +252,9 @@ pub data ScannedBy (T : Table) (block : List ℕ) (start : ℕ) (places₀ place
   accepts-ops : {place ops : ℕ} → checkBy T block ≡ Accepted → ops ≡ length (recordsAt T block start) → places ≡ placesFrom start 0 places₀ (recordsAt T block start)
       → labels ≡ labelsFrom T 0 (replicate 256 0) (recordsAt T block start) → ScannedBy T block start places₀ places labels 0 place ops
 
--- the rule that is broken at the end, after an op of the kind last; 0 if none
-abbrev pub endRule : ℕ → List ℕ → List ℕ → ℕ
-endRule last targets labels = cond (not (eqb last 0x04)) 10 (cond (allSet (marked targets) (numbered labels) labelCount) 0 7)
+-- the rule that is broken at the end, after an op that is exit_tb or not; 0 if none
+abbrev pub endRule : Bool → List ℕ → List ℕ → ℕ
+endRule exits targets labels = cond (not exits) 10 (cond (allSet (marked targets) (numbered labels) labelCount) 0 7)
 
 -- no byte beyond those of the variables that can be declared has changed
 pub record SameBeyond (base vars : List ℕ) : Type 0 where
@@ -276,7 +277,7 @@ pub record Begins (T : Table) (block base : List ℕ) (place : ℕ) : Type 0 whe
   pub after : Declaring T block base place n globals
   pub no-more : place < length block → getD block place 0 ≡ 1 → ⊥
 
--- ops have been read up to a place, and the check goes on from there: what has been seen, and that the arrays hold it
+-- ops have been read up to a place, and the check goes on from there: what has been seen, and that the arrays hold it; last: the plan of the last op's kind
 pub record Reading (T : Table) (b : List ℕ) (start : ℕ) (places₀ base vars labels targets places : List ℕ) (p ops last : ℕ) : Type 0 where
   pub seen : Seen
   pub goes-on : checkAt T seen b p ≡ checkBy T b
@@ -286,7 +287,7 @@ pub record Reading (T : Table) (b : List ℕ) (start : ℕ) (places₀ base vars
   pub labels-so : seen .labels ≡ numbered labels
   pub targets-so : seen .targets ≡ marked targets
   pub ops-so : seen .ops ≡ ops
-  pub last-so : seen .last ≡ last
+  pub last-so : eqb last exitPlan ≡ eqb (seen .last) 0x04
   pub count : length (recordsAt T b start) ≡ ops + length (recordsAt T b p)
   pub places-are : placesFrom start 0 places₀ (recordsAt T b start) ≡ placesFrom p ops places (recordsAt T b p)
   pub labels-are : labelsFrom T 0 (replicate 256 0) (recordsAt T b start) ≡ labelsFrom T ops labels (recordsAt T b p)

@@ -1,36 +1,29 @@
 // What an op leaves: the variables that may be read in the basic block, the labels set and jumped to. h is the plan of its kind; its label is its last byte.
 ghost use mathlib.Core.Path.{_≡_};
-ghost use mathlib.Core.Bool.{false, cond};
-ghost use Prim.Native.Nat.{_+_, _-_, _%_, _≤_, _<_};
-ghost use lib.Dec.{eqb};
+ghost use mathlib.Core.Bool.{false};
+ghost use mathlib.Core.List.{[], _∷_};
+ghost use Prim.Native.Nat.{_+_, _-_, _≤_, _<_};
 ghost use lib.ListN.{length, getD};
 ghost use Rattle.ops.specs.Kinds.{rowOf, kindTable};
-ghost use Rattle.ops.specs.Plans.{noOp, planOf, lengthIn, outAskIn};
-ghost use Rattle.block.specs.Scan.{SameBeyond, recordAt, Stands, codesIn, openAll, outputBy, LabelMarks, setsLabel, jumpsTo, Marks};
+ghost use Rattle.ops.specs.Plans.{noOp, planOf, lengthIn};
+ghost use Rattle.block.specs.Scan.{SameBeyond, recordAt, Stands, codesIn, openAll, FirstReady, LabelMarks, setsLabel, jumpsTo, Marks};
 use marks::put;
 use marks::put_number;
 use ops::MAX_VARIABLES;
 use plans::closes;
 use plans::length;
 use plans::more;
-use plans::out_ask;
 use plans::sets;
+use plans::straight;
 use rules::code;
 
-// A variable's byte after the op: if it is the output, it may be read from now on.
-fn written(h: u32, x: u8) -> u8
-    ensures { λ r. ⌜ r ≡ cond (eqb (outAskIn h) 0) x (x % 16) ⌝ }
-{
-    if out_ask(h) == 0 { x } else { x % 16 }
-}
-
-// The output of the op at a place is written.
-fn open_output(h: u32, block: &[u8], at: usize, vars: &mut [u8; 256])
+// The first operand of the op at a place may be read from now on: it is the output, or an input that could be read before.
+fn open_first(block: &[u8], at: usize, vars: &mut [u8; 256])
     requires { ⌜ at + 1 < length (now block) ⌝ }
-    ensures { λ _. ⌜ codesIn (now (vars .exit)) ≡ openAll (codesIn (now (vars .entry))) (outputBy h (now (block .entry)) at) ⌝ }
+    ensures { λ _. ⌜ codesIn (now (vars .exit)) ≡ openAll (codesIn (now (vars .entry))) (getD (now (block .entry)) (at + 1) 0 ∷ []) ⌝ }
 {
     let v = block[at + 1];
-    put(vars, v, written(h, code(vars, v)));
+    put(vars, v, code(vars, v) % 16);
 }
 
 // Its label is set, or jumped to: a label's number is one more than its op's.
@@ -79,11 +72,15 @@ pub fn mark_op(
     labels: &mut [u16; 256],
     targets: &mut [u8; 256],
 )
-    requires { ⌜ SameBeyond (now base) (now vars) × Stands rowOf (now block) at (getD (now block) at 0) × (op < 1024) × (h ≡ planOf (getD kindTable (getD (now block) at 0) 0)) × (noOp (getD kindTable (getD (now block) at 0) 0) ≡ false) ⌝ }
+    requires { ⌜ SameBeyond (now base) (now vars) × Stands rowOf (now block) at (getD (now block) at 0) × (op < 1024) × (h ≡ planOf (getD kindTable (getD (now block) at 0) 0)) × (noOp (getD kindTable (getD (now block) at 0) 0) ≡ false) × FirstReady h (now block) at (now vars) ⌝ }
     ensures { λ r. ⌜ Marks rowOf (recordAt rowOf (now (block .entry)) at) op (now (base .entry)) (now (vars .entry)) (now (vars .exit)) (now (labels .entry)) (now (labels .exit)) (now (targets .entry)) (now (targets .exit)) ⌝ }
 {
+    if straight(h) {
+        open_first(block, at, vars);
+        return;
+    }
     if !closes(h) {
-        open_output(h, block, at, vars);
+        open_first(block, at, vars);
         return;
     }
     restart(base, vars);

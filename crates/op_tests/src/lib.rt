@@ -23,6 +23,7 @@ use plans::more;
 use plans::out_ask;
 use plans::second_ask;
 use plans::second_at;
+use plans::straight;
 use rules::all_declared;
 use rules::all_typed;
 use rules::byte_ok;
@@ -96,12 +97,12 @@ pub fn op_ok(
     if block.len() - at < length(h) {
         return false;
     }
-    if MAX_OPS <= op {
+    let x = block[at + byte_at(h)];
+    if !(three_fit(h, block, at, vars) & byte_ok(byte_test(h), x) & (op < MAX_OPS)) {
         return false;
     }
-    let x = block[at + byte_at(h)];
-    if !(three_fit(h, block, at, vars) & byte_ok(byte_test(h), x)) {
-        return false;
+    if straight(h) {
+        return true;
     }
     more_ok(h, block, at, vars, labels)
 }

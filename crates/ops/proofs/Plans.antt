@@ -2,7 +2,7 @@
 use mathlib.Core.Path.{_≡_, refl, sym, ap}
 use mathlib.Core.Bool.{Bool, true, false, cond, not, _&&_, _||_, Bool·beq}
 use mathlib.Core.Logic.{_⊎_, inl, inr}
-use Prim.Native.Nat.{ℕ, _+_, _-_, _*_, _≤_, _<_}
+use Prim.Native.Nat.{ℕ, _+_, _-_, _*_, _/_, _≤_, _<_}
 use native.Mathlib.Omega.{arith}
 use lib.Dec.{eqb, ltb, leb}
 use lib.ListN.{getD}
@@ -11,7 +11,7 @@ use Rattle.theory.proofs.Sets.{and-l, and-r, tell, clash}
 use Rattle.ops.specs.Rows.{outsIn, insIn, restIn, testIn, roleIn, typesOf, roleNo, isKnown, isClosing, isSetting, isJumping}
 use Rattle.ops.specs.Kinds.{kindTable}
 use Rattle.ops.specs.Plans.{typeIn, noOp, lengthBy, outAskBy, secondBy, inAskBy, inAtBy, byteTestBy, byteAtBy, moreBy, flag, planOf}
-use Rattle.ops.specs.Plans.{lengthIn, outAskIn, firstAskIn, secondAskIn, firstAtIn, secondAtIn, byteAtIn, byteTestIn, moreIn, closesIn, setsIn}
+use Rattle.ops.specs.Plans.{lengthIn, outAskIn, firstAskIn, secondAskIn, firstAtIn, secondAtIn, byteAtIn, byteTestIn, moreIn, closesIn, setsIn, exitPlan}
 use Rattle.ops.proofs.Ranges.{every, listed, beq-same}
 use Rattle.ops.proofs.Table.{table-long, beyond}
 
@@ -244,3 +244,35 @@ no-op-so k {e} q n = go (tell (isKnown (roleNo (roleIn e)))) (or-not (not (noOp 
     go : (isKnown (roleNo (roleIn e)) ≡ true) ⊎ (isKnown (roleNo (roleIn e)) ≡ false) → (not (isKnown (roleNo (roleIn e))) || eqb k 1) ≡ true → (isKnown (roleNo (roleIn e)) ≡ false) ⊎ (k ≡ 1)
     go (inl z) t = inr (eqb-true k 1 (or-not (not (isKnown (roleNo (roleIn e)))) (eqb k 1) (ap not z) t))
     go (inr z) t = inl z
+
+-- an op that has no output and closes nothing reads its first operand, which stands first
+abbrev readsOk : ℕ → ℕ → Bool
+readsOk k e =
+    let h = planOf e in
+    noOp e || (not (eqb (closesIn h) 0) || (not (eqb (outAskIn h) 0) || (eqb (firstAtIn h) 1 && eqb (firstAskIn h / 16) 1)))
+
+reads-right : every readsOk 0 kindTable ≡ true
+unfolding planOf kindTable typesOf
+reads-right = refl
+
+pub first-read : (k : ℕ) {e h : ℕ} → e ≡ getD kindTable k 0 → h ≡ planOf e → noOp e ≡ false → closesIn h ≡ 0 → outAskIn h ≡ 0 → (firstAtIn h ≡ 1) × (firstAskIn h / 16 ≡ 1)
+unfolding planOf typesOf
+first-read k {e} {h} q z n c o =
+    let t : readsOk k e ≡ true = rw q (for-each readsOk reads-right (λ k. refl) k) in
+    let t′ : (not (eqb (closesIn h) 0) || (not (eqb (outAskIn h) 0) || (eqb (firstAtIn h) 1 && eqb (firstAskIn h / 16) 1))) ≡ true = rw z (or-not (noOp e) _ n t) in
+    let (a, b) = both _ _ (or-not (not (eqb (outAskIn h) 0)) _ (rw o) (or-not (not (eqb (closesIn h) 0)) _ (rw c) t′)) in
+    (eqb-true _ _ a, eqb-true _ _ b)
+
+-- no other op has the plan of exit_tb
+abbrev exitOk : ℕ → ℕ → Bool
+exitOk k e = noOp e || Bool·beq (eqb (planOf e) exitPlan) (eqb k 0x04)
+
+exits-right : every exitOk 0 kindTable ≡ true
+unfolding planOf kindTable typesOf
+exits-right = refl
+
+pub exits-so : (k : ℕ) {e h : ℕ} → e ≡ getD kindTable k 0 → h ≡ planOf e → noOp e ≡ false → eqb h exitPlan ≡ eqb k 0x04
+unfolding planOf typesOf
+exits-so k {e} {h} q z n =
+    let t : exitOk k e ≡ true = rw q (for-each exitOk exits-right (λ k. refl) k) in
+    rw z (beq-same _ _ (or-not (noOp e) _ n t))

@@ -92,8 +92,16 @@ byteTestIn h = h / 33554432 % 8
 abbrev pub moreIn : ℕ → ℕ
 moreIn h = h / 268435456 % 4
 
+-- nothing else is asked, and the basic block goes on
+abbrev pub straightIn : ℕ → Bool
+straightIn h = ltb h (2 ^ 28)
+
 abbrev pub closesIn : ℕ → ℕ
 closesIn h = h / 1073741824 % 2
 
 abbrev pub setsIn : ℕ → ℕ
 setsIn h = h / 2147483648
+
+-- the plan of exit_tb
+abbrev pub exitPlan : ℕ
+exitPlan = 0x40165202

@@ -2,7 +2,7 @@
 ghost use mathlib.Core.Path.{_≡_};
 ghost use lib.Dec.{eqb};
 ghost use lib.ListN.{getD};
-ghost use Rattle.ops.specs.Plans.{planTable, lengthIn, outAskIn, firstAskIn, secondAskIn, firstAtIn, secondAtIn, byteAtIn, byteTestIn, moreIn, closesIn, setsIn};
+ghost use Rattle.ops.specs.Plans.{planTable, lengthIn, outAskIn, firstAskIn, secondAskIn, firstAtIn, secondAtIn, byteAtIn, byteTestIn, moreIn, straightIn, closesIn, setsIn};
 
 // A plan, in bits from the lowest: 4 for the record's length, 15 if it is no op; 4, 5 and 5 for what the output, the first and the second input ask; 2 and 2 for where
 // these inputs stand; 3 for where the byte stands that is tested, and 3 for the number of its test; 2 for what else is asked; whether no basic block
@@ -266,6 +266,9 @@ const PLANS: [u32; 256] = [
     0x4254000f, // ff
 ];
 
+// The plan of exit_tb, which no other kind has.
+pub const EXIT: u32 = 0x4016_5202;
+
 // The table, which the loop over the ops makes once.
 pub fn table() -> [u32; 256]
     ensures { λ r. ⌜ r ≡ planTable ⌝ }
@@ -331,6 +334,13 @@ pub fn more(h: u32) -> u32
     ensures { λ r. ⌜ r ≡ moreIn h ⌝ }
 {
     h / 268435456 % 4
+}
+
+// Nothing else is asked, and the basic block goes on: all bits from that of `more` on are 0.
+pub fn straight(h: u32) -> bool
+    ensures { λ r. ⌜ r ≡ straightIn h ⌝ }
+{
+    h < 0x1000_0000
 }
 
 pub fn closes(h: u32) -> bool

@@ -2,8 +2,10 @@
 ghost use mathlib.Core.Path.{_≡_};
 ghost use mathlib.Core.Bool.{false};
 ghost use Prim.Native.Nat.{_≤_, _<_};
+ghost use lib.Dec.{eqb};
 ghost use lib.ListN.{length, getD, replicate};
 ghost use Rattle.ops.specs.Kinds.{rowOf, kindTable};
+ghost use Rattle.ops.specs.Plans.{exitPlan};
 ghost use Rattle.block.specs.Scan.{entryRule, endRule, Begins, ScannedBy, Scanned};
 use declarations::scan_declarations;
 use kinds::entry;
@@ -11,6 +13,7 @@ use op_marks::mark_op;
 use op_tests::op_ok;
 use op_tests::record_rule;
 use ops::LABELS;
+use plans::EXIT;
 use plans::length;
 use plans::plan;
 use rules::all_set;
@@ -36,11 +39,11 @@ fn stopped(block: &[u8], at: usize, ops: usize, vars: &[u8; 256], labels: &[u16;
     }
 }
 
-// The rule that is broken at the end, after an op of the kind last; 0 if none.
-fn end_rule(last: u8, targets: &[u8; 256], labels: &[u16; 256]) -> u8
-    ensures { λ r. ⌜ r ≡ endRule last (now (targets .entry)) (now (labels .entry)) ⌝ }
+// The rule that is broken at the end, after an op with the plan last; 0 if none.
+fn end_rule(last: u32, targets: &[u8; 256], labels: &[u16; 256]) -> u8
+    ensures { λ r. ⌜ r ≡ endRule (eqb last exitPlan) (now (targets .entry)) (now (labels .entry)) ⌝ }
 {
-    if last != 4 {
+    if last != EXIT {
         return 10;
     }
     if !all_set(targets, labels, LABELS as usize) {
@@ -65,7 +68,7 @@ fn scan_ops(
     let mut targets = [0u8; 256];
     let mut at = start;
     let mut ops: usize = 0;
-    let mut last: u8 = 0;
+    let mut last: u32 = 0;
     while at < block.len() {
         let kind = block[at];
         let h = plan(&plans, kind);
@@ -75,7 +78,7 @@ fn scan_ops(
         mark_op(h, block, at, ops, base, &mut vars, labels, &mut targets);
         places[ops] = (at % 65536) as u16;
         ops += 1;
-        last = kind;
+        last = h;
         at += length(h);
     }
     Ops {
