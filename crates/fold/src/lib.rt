@@ -1,9 +1,11 @@
 // Fold: the values known in a basic block, and the ops that constants replace.
 ghost use mathlib.Core.Path.{_≡_};
 ghost use mathlib.Core.Option.{some};
-ghost use Prim.Native.Nat.{_+_, _≤_};
+ghost use mathlib.Core.Bool.{true};
+ghost use Prim.Native.Nat.{_+_, _≤_, _<_};
 ghost use lib.ListN.{length, getD};
 ghost use Rattle.theory.specs.Machine.{upd};
+ghost use Rattle.ops.specs.Rows.{roleIn, roleNo, isComputing};
 ghost use Rattle.ops.specs.Kinds.{kindTable, rowOf};
 ghost use Rattle.ops.specs.Ops.{bytesAt};
 ghost use Rattle.block.specs.Scan.{Stands, marked};
@@ -51,25 +53,25 @@ fn each_known(block: &[u8], from: usize, count: usize, known: &[u8; 256]) -> boo
     true
 }
 
-// The same: of one or two, the first and the last without a loop.
+// The same of one or more: the first and the last without a loop, then, of more than two, all.
 fn all_known(block: &[u8], from: usize, count: usize, known: &[u8; 256]) -> bool
-    requires { ⌜ from + count ≤ length (now block) ⌝ }
+    requires { ⌜ (from + count ≤ length (now block)) × (0 < count) ⌝ }
     ensures { λ r. ⌜ r ≡ everyIn (bytesAt (now (block .entry)) from count) (marked (now (known .entry))) ⌝ }
 {
-    if (count == 0) | (2 < count) {
-        return each_known(block, from, count, known);
+    if !(is_known(known, block[from]) & is_known(known, block[from + count - 1])) {
+        return false;
     }
-    is_known(known, block[from]) & is_known(known, block[from + count - 1])
+    if count <= 2 {
+        return true;
+    }
+    each_known(block, from, count, known)
 }
 
-// What an op that may fold states, where all its inputs are known.
+// What a computing op states, where all its inputs are known.
 fn stated_by(e: u32, block: &[u8], at: usize, known: &[u8; 256], values: &[u64; 256]) -> Stated
-    requires { ⌜ Stands rowOf (now block) at (getD (now block) at 0) × (e ≡ getD kindTable (getD (now block) at 0) 0) ⌝ }
+    requires { ⌜ Stands rowOf (now block) at (getD (now block) at 0) × (e ≡ getD kindTable (getD (now block) at 0) 0) × (isComputing (roleNo (roleIn e)) ≡ true) ⌝ }
     ensures { λ r. ⌜ StatesKnown (now (block .entry)) at (marked (now (known .entry))) (now (values .entry)) r ⌝ }
 {
-    if !is_computing(e) {
-        return Stated::NoResult;
-    }
     if all_known(block, at + 1 + outs(e), ins(e), known) {
         return evaluate(e, block, at, block[at], values);
     }
@@ -95,7 +97,32 @@ fn pass_over(e: u32, block: &[u8], at: usize, known: &mut [u8; 256], values: &mu
     }
 }
 
-// Fold at one op: the constant's value if one takes its place.
+// Fold at a computing op: the constant's value if one takes its place.
+fn fold_computing(
+    e: u32,
+    block: &[u8],
+    at: usize,
+    known: &mut [u8; 256],
+    values: &mut [u64; 256],
+) -> Stated
+    requires { ⌜ Stands rowOf (now block) at (getD (now block) at 0) × (e ≡ getD kindTable (getD (now block) at 0) 0) × (isComputing (roleNo (roleIn e)) ≡ true) ⌝ }
+    ensures { λ r. ⌜ Folds (now (block .entry)) at (marked (now (known .entry))) (now (values .entry)) (marked (now (known .exit))) (now (values .exit)) r ⌝ }
+{
+    let stated = stated_by(e, block, at, known, values);
+    let d = block[at + 1];
+    match stated {
+        Stated::Value(x) => {
+            learn(known, values, d, x);
+            Stated::Value(x)
+        }
+        Stated::NoResult => {
+            put(known, d, 0);
+            Stated::NoResult
+        }
+    }
+}
+
+// Fold at one op.
 fn fold_op(
     e: u32,
     block: &[u8],
@@ -106,17 +133,11 @@ fn fold_op(
     requires { ⌜ Stands rowOf (now block) at (getD (now block) at 0) × (e ≡ getD kindTable (getD (now block) at 0) 0) ⌝ }
     ensures { λ r. ⌜ Folds (now (block .entry)) at (marked (now (known .entry))) (now (values .entry)) (marked (now (known .exit))) (now (values .exit)) r ⌝ }
 {
-    let stated = stated_by(e, block, at, known, values);
-    match stated {
-        Stated::Value(x) => {
-            learn(known, values, block[at + 1], x);
-            Stated::Value(x)
-        }
-        Stated::NoResult => {
-            pass_over(e, block, at, known, values);
-            Stated::NoResult
-        }
+    if is_computing(e) {
+        return fold_computing(e, block, at, known, values);
     }
+    pass_over(e, block, at, known, values);
+    Stated::NoResult
 }
 
 // Fold of so many ops: the mark of each, 1 where a constant takes its place, and the constants' values.

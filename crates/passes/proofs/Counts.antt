@@ -8,14 +8,14 @@ use lib.Dec.{eqb, ltb, leb}
 use lib.ListN.{length, getD}
 use borrow.Author.Tests.{ltb-true, ltb-false, leb-true, eqb-true, lt-ltb}
 use Rattle.theory.proofs.Sets.{and-l, and-r, tell}
-use Rattle.ops.specs.Rows.{outsIn, insIn, roleIn, roleNo, numberOf}
+use Rattle.ops.specs.Rows.{outsIn, insIn, roleIn, roleNo, numberOf, isComputing}
 use Rattle.ops.specs.Kinds.{kindTable}
 use Rattle.ops.proofs.Ranges.{every, listed}
 use Rattle.ops.proofs.Table.{beyond}
 
--- at most four inputs, at most one output, and a pure op has one
+-- at most four inputs, at most one output; a pure op has an output, and a computing one an input
 abbrev oneOut : ℕ → ℕ → Bool
-oneOut k e = leb (insIn e) 4 && (leb (outsIn e) 1 && (not (ltb 7 (numberOf (roleNo (roleIn e)))) || eqb (outsIn e) 1))
+oneOut k e = leb (insIn e) 4 && (leb (outsIn e) 1 && ((not (ltb 7 (numberOf (roleNo (roleIn e)))) || eqb (outsIn e) 1) && (not (ltb 8 (numberOf (roleNo (roleIn e)))) || ltb 0 (insIn e))))
 
 all-so : every oneOut 0 kindTable ≡ true
 unfolding kindTable roleNo
@@ -48,8 +48,13 @@ module _ {e : ℕ} (k : ℕ) (q : e ≡ getD kindTable k 0) where
 
   pub pure-out : 7 < numberOf (roleNo (roleIn e)) → outsIn e ≡ 1
   pure-out h =
-      let t : (not (ltb 7 (numberOf (roleNo (roleIn e)))) || eqb (outsIn e) 1) ≡ true = and-r (leb (outsIn e) 1) _ (and-r (leb (insIn e) 4) _ so) in
+      let t : (not (ltb 7 (numberOf (roleNo (roleIn e)))) || eqb (outsIn e) 1) ≡ true = and-l _ (not (ltb 8 (numberOf (roleNo (roleIn e)))) || ltb 0 (insIn e)) (and-r (leb (outsIn e) 1) _ (and-r (leb (insIn e) 4) _ so)) in
       eqb-true (outsIn e) 1 (rw (lt-ltb 7 (numberOf (roleNo (roleIn e))) h) at t)
+
+  pub computing-in : isComputing (roleNo (roleIn e)) ≡ true → 0 < insIn e
+  computing-in h =
+      let t : (not (ltb 8 (numberOf (roleNo (roleIn e)))) || ltb 0 (insIn e)) ≡ true = and-r (not (ltb 7 (numberOf (roleNo (roleIn e)))) || eqb (outsIn e) 1) _ (and-r (leb (outsIn e) 1) _ (and-r (leb (insIn e) 4) _ so)) in
+      ltb-true 0 (insIn e) (rw h at t)
 
 pub none-else : (n : ℕ) → n ≤ 1 → (n ≡ 1 → ⊥) → n ≡ 0
 none-else zero h k = refl

@@ -83,14 +83,6 @@ pub all-each : (l : Vars) (vs : List ℕ) → eachBy (λ s v. l v) (λ s. s) 0 v
 all-each l [] = refl
 all-each l (v ∷ vs) = rw (all-each l vs)
 
-pub one-or-two : (n : ℕ) → (eqb n 0 || ltb 2 n) ≡ false → (0 < n) × (n ≤ 2)
-one-or-two n h = go (eqb n 0) refl (ltb 2 n) refl h
-  where
-    go : (t : Bool) → eqb n 0 ≡ t → (u : Bool) → ltb 2 n ≡ u → (t || u) ≡ false → (0 < n) × (n ≤ 2)
-    go true e u f z = absurd (true≢false z)
-    go false e true f z = absurd (true≢false z)
-    go false e false f z = (lt-of-le-ne {i = 0} {k = n} (omega arith) (λ y. eqb-false n 0 e (sym y)), ltb-false 2 n f)
-
 -- one or two of them, by the first and the last
 pub ends-known : (b : List ℕ) (p n : ℕ) (l : Vars) → 0 < n → n ≤ 2 → (l (getD b p 0) && l (getD b (p + n - 1) 0)) ≡ everyIn (bytesAt b p n) l
 ends-known b p zero l h k = absurd (omega arith)
@@ -106,6 +98,24 @@ ends-known b p (suc (suc zero)) l h k = let e : p + 2 - 1 ≡ suc p = omega arit
     go true false = refl
     go false u = refl
 ends-known b p (suc (suc (suc n))) l h k = absurd (omega arith)
+
+-- none, if the first or the last is not
+last-known : (b : List ℕ) (p n : ℕ) (l : Vars) → everyIn (bytesAt b p (suc n)) l ≡ true → l (getD b (p + n) 0) ≡ true
+last-known b p zero l h = let e : p + 0 ≡ p = omega arith in rw e (and-l (l (getD b p 0)) true h)
+last-known b p (suc n) l h = let e : p + suc n ≡ suc p + n = omega arith in rw e (last-known b (suc p) n l (and-r (l (getD b p 0)) _ h))
+
+pub ends-unknown : (b : List ℕ) (p n : ℕ) (l : Vars) → 0 < n → (l (getD b p 0) && l (getD b (p + n - 1) 0)) ≡ false → everyIn (bytesAt b p n) l ≡ false
+ends-unknown b p zero l h f = absurd (omega arith)
+ends-unknown b p (suc n) l h f = go (tell (everyIn (bytesAt b p (suc n)) l))
+  where
+    last : p + suc n - 1 ≡ p + n
+    last = omega arith
+
+    go : (everyIn (bytesAt b p (suc n)) l ≡ true) ⊎ (everyIn (bytesAt b p (suc n)) l ≡ false) → everyIn (bytesAt b p (suc n)) l ≡ false
+    go (inr t) = t
+    go (inl t) =
+        let both : (l (getD b p 0) && l (getD b (p + n) 0)) ≡ true = rw (and-l (l (getD b p 0)) _ t) (last-known b p n l t) in
+        absurd (clash _ both (rw last at f))
 
 -- the values of inputs that are all known
 inputs-known : (known : Vars) (values xs : List ℕ) → everyIn xs known ≡ true → allKnown (reads (knownOf known values) xs) ≡ some (reads (envOf values) xs)
@@ -264,3 +274,10 @@ module _ {b : List ℕ} {p k : ℕ} (s : Stands rowOf b p k) {e n : ℕ} (q : e 
 
     pub over-nothing : {d : ℕ} → d ≡ outsIn e → (d ≡ 1 → ⊥) → Stays b p known values known values
     over-nothing {d} f g = let z : outsIn e ≡ 0 = none-else (outsIn e) (few-outs k q) (λ y. g (f ∙ y)) in over-others (ap (λ (m : ℕ). without known (bytesAt b (p + 1) m)) (sym z))
+
+-- a computing op that states nothing of what is known: its output is known no longer
+pub over-computing : {b : List ℕ} {p e : ℕ} → Stands rowOf b p (getD b p 0) → e ≡ getD kindTable (getD b p 0) 0 → isComputing (roleNo (roleIn e)) ≡ true
+    → (known : Vars) (values : List ℕ) {known′ : Vars} → StatesKnown b p known values NoResult → known′ ≡ without known (getD b (p + 1) 0 ∷ []) → Stays b p known values known′ values
+over-computing {b} {p} {e} s q h known values w u =
+    let l = ltb-true 8 (numberOf (roleNo (roleIn e))) h in
+    over-output s q refl known values (omega arith) (λ z. omega arith) w (sym (one-output (getD b p 0) q ((computed-at s q h) .role-is))) refl u
