@@ -9,7 +9,7 @@ use native.Mathlib.Omega.{arith}
 use lib.Arith.{lt-of-le-ne}
 use lib.Dec.{eqb, ltb}
 use lib.ListN.{getD}
-use borrow.Author.Tests.{eqb-false, ltb-true, ltb-false, lt-ltb, le-ltb}
+use borrow.Author.Tests.{ltb-true, lt-ltb, le-ltb}
 use Rattle.theory.specs.Fold.{Known, nothing, put, learned, given, gain, consO, allKnown, bindO, tried, baseRule}
 use Rattle.theory.specs.Machine.{View, calc, access, label, flow, computes as stated, inputs, outputs, pure, closes, upd, reads, writes}
 use Rattle.theory.specs.Sets.{Vars, empty, has, without}
