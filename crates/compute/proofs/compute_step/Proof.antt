@@ -4,8 +4,8 @@ use borrow.Author.Needs.{needs}
 use Rattle.block.proofs.Views.{inside}
 use Rattle.runs.proofs.Dispatch.{entry-is}
 use Rattle.runs.proofs.Performed.{compute-falls, compute-unstated}
-use Rattle.step.proofs.compute_step.Statement.{statement}
-use Rattle.step.proofs.compute_step.Tie as tie
+use Rattle.compute.proofs.compute_step.Statement.{statement}
+use Rattle.compute.proofs.compute_step.Tie as tie
 
 entry-requires : tie.Need-entry-requires
 entry-requires c κs = search needs

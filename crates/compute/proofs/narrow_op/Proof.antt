@@ -1,13 +1,11 @@
--- The kinds 91 to a9, each with code of its own. Assumes nothing.
-use Rattle.runs.proofs.Dispatch.{computed, no-op}
-use Rattle.runs.proofs.Performed.{step-none}
+-- The kinds 05 to 07 and 11 to 29, each by its own code. Assumes nothing.
+use Rattle.runs.proofs.Dispatch.{computed, not-narrow}
 use mathlib.Core.Path.{refl}
-use borrow.Author.Needs.{needs}
-use Rattle.step.proofs.wide_op.Statement.{statement}
-use Rattle.step.proofs.wide_op.Tie as tie
+use Rattle.compute.proofs.narrow_op.Statement.{statement}
+use Rattle.compute.proofs.narrow_op.Tie as tie
 
-pub wide-op-spec : {M : Type 1} → statement M
-wide-op-spec =
+pub narrow-op-spec : {M : Type 1} → statement M
+narrow-op-spec =
     tie.close
     (tie.spec
     (λ c κs. (computed (c .before .before .before .pre .0) (c .before .match .keys1) refl, c .before .before .before .pre .1))
@@ -35,6 +33,13 @@ wide-op-spec =
     (λ c κs. (computed (c .before .before .before .pre .0) (c .before .match .keys23) refl, c .before .before .before .pre .1))
     (λ c κs. (computed (c .before .before .before .pre .0) (c .before .match .keys24) refl, c .before .before .before .pre .1))
     (λ c κs. (computed (c .before .before .before .pre .0) (c .before .match .keys25) refl, c .before .before .before .pre .1))
+    (λ c κs. (computed (c .before .before .before .pre .0) (c .before .match .keys26) refl, c .before .before .before .pre .1))
+    (λ c κs. (computed (c .before .before .before .pre .0) (c .before .match .keys27) refl, c .before .before .before .pre .1))
+    (λ c κs. (computed (c .before .before .before .pre .0) (c .before .match .keys28) refl, c .before .before .before .pre .1))
+    (λ c κs.
+    let start = c .before .before .before in
+    let none = not-narrow (start .args .k) (c .before .match .rest) in
+    (start .pre .0, start .pre .1, start .pre .2, none .0, none .1))
     (λ c. c .compute-step .ensures)
     (λ c. c .compute-step2 .ensures)
     (λ c. c .compute-step3 .ensures)
@@ -60,6 +65,7 @@ wide-op-spec =
     (λ c. c .compute-step23 .ensures)
     (λ c. c .compute-step24 .ensures)
     (λ c. c .compute-step25 .ensures)
-    (λ c.
-    let start = c .before .before in
-    step-none (start .pre .0) (start .args .values .now) (no-op (start .args .k) (search needs) (start .pre .2) (start .pre .3) (start .pre .4) (c .match .rest))))
+    (λ c. c .compute-step26 .ensures)
+    (λ c. c .compute-step27 .ensures)
+    (λ c. c .compute-step28 .ensures)
+    (λ c. c .wide-op .ensures))
