@@ -5,8 +5,8 @@ use native.Mathlib.Omega.{arith}
 use lib.ListN.{length, length-set}
 use borrow.Author.Needs.{needs}
 use Rattle.runs.proofs.Lending.{CopiedIn, in-start, in-next, in-end}
-use Rattle.run.proofs.lending.copy_in.Statement.{statement}
-use Rattle.run.proofs.lending.copy_in.Tie as tie
+use Rattle.lending.proofs.copy_in.Statement.{statement}
+use Rattle.lending.proofs.copy_in.Tie as tie
 
 abbrev Inv-loop : tie.InvT-loop
 Inv-loop globals values₀ i₀ values i = (i ≤ length globals) × (length values ≡ 256) × (length values ≡ length values₀) × CopiedIn globals values i

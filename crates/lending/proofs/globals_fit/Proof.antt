@@ -5,8 +5,8 @@ use lib.ListN.{length}
 use borrow.Author.Tests.{not-true, not-false}
 use borrow.Author.Needs.{needs}
 use Rattle.runs.proofs.Lending.{FitFrom, fit-start, fit-next, fit-stops, fit-end}
-use Rattle.run.proofs.lending.globals_fit.Statement.{statement}
-use Rattle.run.proofs.lending.globals_fit.Tie as tie
+use Rattle.lending.proofs.globals_fit.Statement.{statement}
+use Rattle.lending.proofs.globals_fit.Tie as tie
 
 abbrev Inv-loop : tie.InvT-loop
 Inv-loop base globals i₀ i = (i ≤ length globals) × FitFrom base globals i

@@ -5,8 +5,8 @@ use native.Mathlib.Omega.{arith}
 use lib.ListN.{length, length-set}
 use borrow.Author.Needs.{needs}
 use Rattle.runs.proofs.Lending.{CopiedOut, out-start, out-next, out-end}
-use Rattle.run.proofs.lending.copy_out.Statement.{statement}
-use Rattle.run.proofs.lending.copy_out.Tie as tie
+use Rattle.lending.proofs.copy_out.Statement.{statement}
+use Rattle.lending.proofs.copy_out.Tie as tie
 
 abbrev Inv-loop : tie.InvT-loop
 Inv-loop values globals₀ i₀ globals i = (i ≤ length globals) × (length globals ≡ length globals₀) × CopiedOut values globals i

@@ -2,8 +2,8 @@
 use borrow.Author.Tests.{not-true, not-false}
 use borrow.Author.Needs.{needs}
 use Rattle.runs.proofs.Lending.{lent-count, lent-wide, lent-last}
-use Rattle.run.proofs.lending.lent_ok.Statement.{statement}
-use Rattle.run.proofs.lending.lent_ok.Tie as tie
+use Rattle.lending.proofs.lent_ok.Statement.{statement}
+use Rattle.lending.proofs.lent_ok.Tie as tie
 
 returns : tie.Need-returns
 returns c =
