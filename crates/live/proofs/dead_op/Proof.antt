@@ -6,8 +6,8 @@ use Rattle.passes.specs.Live.{liveOf}
 use Rattle.passes.proofs.Before.{operands-inside, never-dead, dead-if}
 use Rattle.passes.proofs.Counts.{pure-out}
 use Rattle.passes.proofs.Events.{none-one}
-use Rattle.prune.proofs.dead_op.Statement.{statement}
-use Rattle.prune.proofs.dead_op.Tie as tie
+use Rattle.live.proofs.dead_op.Statement.{statement}
+use Rattle.live.proofs.dead_op.Tie as tie
 
 role-requires : tie.Need-role-requires
 role-requires c κs = search needs

@@ -1,8 +1,8 @@
 -- What is live before an op but for its inputs, by the number of its role. Assumes nothing.
 use borrow.Author.Needs.{needs}
 use Rattle.passes.proofs.Events.{turn-ends, turn-pure, turn-access}
-use Rattle.prune.proofs.live_but_inputs.Statement.{statement}
-use Rattle.prune.proofs.live_but_inputs.Tie as tie
+use Rattle.live.proofs.live_but_inputs.Statement.{statement}
+use Rattle.live.proofs.live_but_inputs.Tie as tie
 
 role-requires : tie.Need-role-requires
 role-requires c κs = search needs

@@ -7,8 +7,8 @@ use Rattle.ops.specs.Rows.{outsIn}
 use Rattle.ops.specs.Ops.{bytesAt}
 use Rattle.passes.proofs.Before.{operands-inside}
 use Rattle.passes.proofs.Events.{timed-one, timed-none, timed-as, one-byte, no-byte}
-use Rattle.prune.proofs.end_outputs.Statement.{statement}
-use Rattle.prune.proofs.end_outputs.Tie as tie
+use Rattle.live.proofs.end_outputs.Statement.{statement}
+use Rattle.live.proofs.end_outputs.Tie as tie
 
 outs-requires : tie.Need-outs-requires
 outs-requires c κs = search needs

@@ -1,8 +1,8 @@
 -- By what the op does at its label. Assumes nothing.
 use borrow.Author.Needs.{needs}
 use Rattle.passes.proofs.Events.{time-by}
-use Rattle.prune.proofs.local_time.Statement.{statement}
-use Rattle.prune.proofs.local_time.Tie as tie
+use Rattle.live.proofs.local_time.Statement.{statement}
+use Rattle.live.proofs.local_time.Tie as tie
 
 is-setting-requires : tie.Need-is-setting-requires
 is-setting-requires c κs = search needs

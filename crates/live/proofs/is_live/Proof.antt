@@ -2,8 +2,8 @@
 use native.Mathlib.Omega.{arith}
 use borrow.Author.Needs.{needs}
 use Rattle.passes.proofs.Events.{live-all, live-own}
-use Rattle.prune.proofs.is_live.Statement.{statement}
-use Rattle.prune.proofs.is_live.Tie as tie
+use Rattle.live.proofs.is_live.Statement.{statement}
+use Rattle.live.proofs.is_live.Tie as tie
 
 mul-own : tie.Need-mul-own
 mul-own c = search needs

@@ -5,8 +5,8 @@ use Rattle.block.proofs.Views.{inside}
 use Rattle.passes.proofs.Before.{operands-inside}
 use Rattle.passes.proofs.Counts.{few-ins}
 use Rattle.passes.proofs.Events.{timed-one, turn-constant, turn-inputs}
-use Rattle.prune.proofs.live_before.Statement.{statement}
-use Rattle.prune.proofs.live_before.Tie as tie
+use Rattle.live.proofs.live_before.Statement.{statement}
+use Rattle.live.proofs.live_before.Tie as tie
 
 add-put-number : tie.Need-add-put-number
 add-put-number c = search needs

@@ -2,8 +2,8 @@
 use borrow.Author.Needs.{needs}
 use Rattle.ops.specs.Ops.{bytesAt}
 use Rattle.passes.proofs.Events.{timed-one, timed-none, timed-more, timed-as, two-bytes, four-bytes, counted}
-use Rattle.prune.proofs.wake.Statement.{statement}
-use Rattle.prune.proofs.wake.Tie as tie
+use Rattle.live.proofs.wake.Statement.{statement}
+use Rattle.live.proofs.wake.Tie as tie
 
 returns : tie.Need-returns
 returns c = rw (c .if1 .taken) (timed-none _ _)
