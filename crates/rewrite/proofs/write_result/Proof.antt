@@ -3,8 +3,8 @@ use native.Mathlib.Omega.{arith}
 use borrow.Author.Needs.{needs}
 use Rattle.passes.proofs.Passing.{declared-fit, few-here, size-small, pass-short, ops-fit, pass-stores}
 use Rattle.passes.proofs.Pruning.{kept-marked}
-use Rattle.pass.proofs.write_result.Statement.{statement}
-use Rattle.pass.proofs.write_result.Tie as tie
+use Rattle.rewrite.proofs.write_result.Statement.{statement}
+use Rattle.rewrite.proofs.write_result.Tie as tie
 
 fold-requires : tie.Need-fold-requires
 fold-requires c κs =
