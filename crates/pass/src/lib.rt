@@ -1,15 +1,15 @@
-// The pass: fold, prune and the result in the lent buffer.
+// The pass of a block: the check, the classes of its variables, and room for what the passes leave.
 ghost use mathlib.Core.Path.{_≡_};
 ghost use mathlib.Core.Bool.{cond};
 ghost use Prim.Native.Nat.{ℕ, _≤_};
 ghost use lib.Dec.{ltb};
-ghost use lib.ListN.{length, getD};
+ghost use lib.ListN.{getD};
 ghost use Rattle.ops.specs.Kinds.{kindTable};
 ghost use Rattle.passes.specs.Passes.{passOf};
 ghost use Rattle.passes.specs.Ready.{classBy, classIn, Ready};
-use emit::copy;
 use kinds::table;
 use passes::Written;
+use rewrite::write_result;
 use scan::scan;
 
 // The class of the i-th variable, which has this byte, where so many are globals.
@@ -37,35 +37,7 @@ fn classes_of(base: &[u8; 256], globals: usize, n: usize) -> [u8; 256]
     of
 }
 
-// The pass of an accepted block, with room for the marks and the constants of its ops.
-fn write_result(
-    kinds: &[u32; 256],
-    block: &[u8],
-    start: usize,
-    ops: usize,
-    places: &[u16; 256],
-    classes: &[u8; 256],
-    marks: &mut [u8],
-    constants: &mut [u64],
-    out: &mut [u8],
-) -> Written
-    requires { ⌜ Ready (now block) (now places) (now classes) start ops × (ops ≤ length (now marks)) × (ops ≤ length (now constants)) × (now kinds ≡ kindTable) ⌝ }
-    ensures { λ r. ⌜ (r ≡ (passOf (now (block .entry)) (now (out .entry))) .answer) × (now (out .exit) ≡ (passOf (now (block .entry)) (now (out .entry))) .out) ⌝ }
-{
-    fold::fold(kinds, block, ops, places, marks, constants);
-    let size = start + prune::prune(kinds, block, ops, places, classes, marks);
-    if out.len() < size {
-        return Written::Refused {
-            number: 12,
-            place: 0,
-        };
-    }
-    copy(block, 0, start, out, 0);
-    emit::emit(kinds, block, start, ops, places, marks, constants, out);
-    Written::Length(size)
-}
-
-// With room for 64 ops.
+// The pass of an accepted block, with room for the marks and the constants of 64 ops.
 fn write_short(
     kinds: &[u32; 256],
     block: &[u8],
@@ -93,7 +65,7 @@ fn write_short(
     )
 }
 
-// With room for as many as a block may have.
+// The same, with room for those of as many ops as a block may have.
 fn write_long(
     kinds: &[u32; 256],
     block: &[u8],

@@ -14,8 +14,6 @@ use lending::lent_ok;
 use runs::Ending;
 use scan::scan;
 
-mod lending;
-
 // Runs the ops of a block that the scan has accepted.
 fn run_ops(
     kinds: &[u32; 256],

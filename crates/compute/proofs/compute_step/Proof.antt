@@ -1,0 +1,73 @@
+-- A pure op that reads something: its value, or no stated result. Assumes nothing.
+use native.Mathlib.Omega.{arith}
+use borrow.Author.Needs.{needs}
+use Rattle.block.proofs.Views.{inside}
+use Rattle.runs.proofs.Dispatch.{entry-is}
+use Rattle.runs.proofs.Performed.{compute-falls, compute-unstated}
+use Rattle.compute.proofs.compute_step.Statement.{statement}
+use Rattle.compute.proofs.compute_step.Tie as tie
+
+entry-requires : tie.Need-entry-requires
+entry-requires c κs = search needs
+
+evaluate-requires : tie.Need-evaluate-requires
+evaluate-requires c κs =
+    let start = c .before .before .before in
+    (start .pre .0, entry-is (start .args .kind) (start .pre .1) (c .before .entry .ensures))
+
+enum-known-stated : tie.Need-enum-known-stated
+enum-known-stated c = search needs
+
+add-put : tie.Need-add-put
+add-put c = search needs
+
+shared-slice-read-put : tie.Need-shared-slice-read-put
+shared-slice-read-put c =
+    let pre = c .before .before .before .before .before .before .before .before .before .pre in
+    inside (pre .0 .stands) (pre .0 .role-is) 1 (omega arith)
+
+put-requires : tie.Need-put-requires
+put-requires c κs = tt
+
+add-t13 : tie.Need-add-t13
+add-t13 c = search needs
+
+body-length-requires : tie.Need-body-length-requires
+body-length-requires c κs = search needs
+
+add-t17 : tie.Need-add-t17
+add-t17 c = search needs
+
+enum-told : tie.Need-enum-told
+enum-told c = search needs
+
+returns : tie.Need-returns
+returns c =
+    let start = c .before .before .before .before .before .before .before .before .before .before .before in
+    let entry = entry-is (start .args .kind) (start .pre .1) (c .before .before .before .before .before .before .before .before .before .entry .ensures) in
+    let evaluated = c .before .before .before .before .before .before .before .evaluate in
+    let stated = c .before .before .before .before .before .stated .given .1 in
+    compute-falls (start .pre .0) (start .args .values .now) (evaluated .result) (evaluated .ensures) stated (c .before .put .ensures) entry (c .body-length .ensures)
+
+returns-2 : tie.Need-returns-2
+returns-2 c =
+    let start = c .before .before .before .before .before .before in
+    let evaluated = c .before .before .evaluate in
+    compute-unstated (start .pre .0) (start .args .values .now) (evaluated .result) (evaluated .ensures) (c .enum-told .given .1)
+
+pub compute-step-spec : {M : Type 1} → statement M
+compute-step-spec =
+    tie.close
+    (tie.spec
+    entry-requires
+    evaluate-requires
+    enum-known-stated
+    add-put
+    shared-slice-read-put
+    put-requires
+    add-t13
+    body-length-requires
+    add-t17
+    enum-told
+    returns
+    returns-2)

@@ -1,0 +1,45 @@
+-- Only a pure op is dead, where its output is not live. Assumes nothing.
+use Prim.Native.Nat.{_+_}
+use native.Mathlib.Omega.{arith}
+use borrow.Author.Needs.{needs}
+use Rattle.passes.specs.Live.{liveOf}
+use Rattle.passes.proofs.Before.{operands-inside, never-dead, dead-if}
+use Rattle.passes.proofs.Counts.{pure-out}
+use Rattle.passes.proofs.Events.{none-one}
+use Rattle.live.proofs.dead_op.Statement.{statement}
+use Rattle.live.proofs.dead_op.Tie as tie
+
+role-requires : tie.Need-role-requires
+role-requires c κs = search needs
+
+returns : tie.Need-returns
+returns c =
+    let a = c .before .before .before .args in
+    never-dead (c .before .before .before .pre .0) (c .before .before .before .pre .1) (liveOf (a .events .now) (a .floors .now) (a .classes .now)) (c .before .role .ensures) (c .if1 .taken)
+
+add-is-live : tie.Need-add-is-live
+add-is-live c = search needs
+
+shared-slice-read-is-live : tie.Need-shared-slice-read-is-live
+shared-slice-read-is-live c = omega (arith, operands-inside (c .before .before .before .before .pre .0) (c .before .before .before .before .pre .1), pure-out _ (c .before .before .before .before .pre .1) (omega (arith, c .before .before .role .ensures, c .before .if1 .left)))
+
+is-live-requires : tie.Need-is-live-requires
+is-live-requires c κs = search needs
+
+returns-2 : tie.Need-returns-2
+returns-2 c =
+    let start = c .before .before .before .before .before in
+    let a = start .args in
+    let l = liveOf (a .events .now) (a .floors .now) (a .classes .now) in
+    dead-if (start .pre .0) (start .pre .1) l (c .before .before .before .role .ensures) (c .before .before .if1 .left) (none-one l (a .block .now) (a .at + 1) (pure-out _ (start .pre .1) (omega (arith, c .before .before .before .role .ensures, c .before .before .if1 .left))) (c .is-live .ensures))
+
+pub dead-op-spec : {M : Type 1} → statement M
+dead-op-spec =
+    tie.close
+    (tie.spec
+    role-requires
+    returns
+    add-is-live
+    shared-slice-read-is-live
+    is-live-requires
+    returns-2)

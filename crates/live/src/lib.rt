@@ -1,0 +1,137 @@
+// Liveness across an op, read backward. What is live is held as times (`liveOf`), so that an op changes the times of
+// its operands alone, and those of whole classes where a basic block ends or memory is accessed.
+ghost use mathlib.Core.Path.{_≡_};
+ghost use mathlib.Core.Bool.{cond, _||_};
+ghost use Prim.Native.Nat.{_+_, _%_, _≤_, _<_};
+ghost use lib.ListN.{length, getD};
+ghost use Rattle.theory.specs.Prune.{dead};
+ghost use Rattle.ops.specs.Rows.{outsIn, roleIn, roleNo, roleOf, computing, isSetting, isJumping};
+ghost use Rattle.ops.specs.Kinds.{kindTable, rowOf, document01};
+ghost use Rattle.ops.specs.Ops.{bytesAt, viewOf};
+ghost use Rattle.block.specs.Scan.{recordAt, Stands};
+ghost use Rattle.passes.specs.Live.{beforeAt, liveAs, liveOf, Turns, Timed};
+use kinds::ins;
+use kinds::is_jumping;
+use kinds::is_setting;
+use kinds::outs;
+use kinds::role;
+use marks::put_number;
+use ops::CONSTANT;
+use ops::LOADS;
+use ops::STORES;
+
+// Whether a variable is live: the later of its own event and its class's is odd.
+fn is_live(events: &[u16; 256], floors: &[u16; 4], classes: &[u8; 256], v: u8) -> bool
+    ensures { λ r. ⌜ r ≡ liveOf (now (events .entry)) (now (floors .entry)) (now (classes .entry)) v ⌝ }
+{
+    let own = events[v as usize];
+    let of: &[u8] = classes;
+    let class = of[v as usize];
+    let all = floors[(class % 4) as usize];
+    if own < all {
+        return all % 2 == 1;
+    }
+    own % 2 == 1
+}
+
+// The outputs of an op are not live.
+fn end_outputs(e: u32, block: &[u8], at: usize, time: u16, events: &mut [u16; 256])
+    requires { ⌜ Stands rowOf (now block) at (getD (now block) at 0) × (e ≡ getD kindTable (getD (now block) at 0) 0) ⌝ }
+    ensures { λ _. ⌜ Timed (now (events .entry)) (bytesAt (now (block .entry)) (at + 1) (outsIn e)) time (now (events .exit)) ⌝ }
+{
+    if outs(e) == 1 {
+        put_number(events, block[at + 1], time);
+    }
+}
+
+// The variables that up to four bytes name are live: the first and the last, then two more.
+fn wake(block: &[u8], from: usize, count: usize, time: u16, events: &mut [u16; 256])
+    requires { ⌜ (from + count ≤ length (now block)) × (count ≤ 4) ⌝ }
+    ensures { λ _. ⌜ Timed (now (events .entry)) (bytesAt (now (block .entry)) from count) time (now (events .exit)) ⌝ }
+{
+    if count == 0 {
+        return;
+    }
+    put_number(events, block[from], time);
+    put_number(events, block[from + count - 1], time);
+    if count <= 2 {
+        return;
+    }
+    put_number(events, block[from + 1], time);
+    put_number(events, block[from + 2], time);
+}
+
+// When local temporaries change where a basic block ends: they are live but where the block is left.
+fn local_time(e: u32, time: u16) -> u16
+    requires { ⌜ time < 65535 ⌝ }
+    ensures { λ r. ⌜ r ≡ cond (isSetting (roleNo (roleIn e)) || isJumping (roleNo (roleIn e))) (time + 1) time ⌝ }
+{
+    if is_setting(e) | is_jumping(e) {
+        return time + 1;
+    }
+    time
+}
+
+// What is live before an op that is kept, but for its inputs, from what is live after it. Loads and stores show all
+// globals; where a basic block ends, the variables that outlive it are live, and where the block is left, the globals.
+fn live_but_inputs(
+    e: u32,
+    block: &[u8],
+    at: usize,
+    time: u16,
+    events: &mut [u16; 256],
+    floors: &mut [u16; 4],
+)
+    requires { ⌜ Stands rowOf (now block) at (getD (now block) at 0) × (e ≡ getD kindTable (getD (now block) at 0) 0) × (time % 2 ≡ 0) × (time < 65535) ⌝ }
+    ensures { λ _. ⌜ Turns (now (events .entry)) (now (floors .entry)) time (beforeAt e (now (block .entry)) at) (now (events .exit)) (now (floors .exit)) ⌝ }
+{
+    let r = role(e);
+    if r < LOADS {
+        *floors = [time + 1, local_time(e, time), time, 0];
+        return;
+    }
+    end_outputs(e, block, at, time, events);
+    if STORES < r {
+        return;
+    }
+    *floors = [time + 1, floors[1], floors[2], 0];
+}
+
+// The same with its inputs; of an op that a constant replaces, less its output.
+pub fn live_before(
+    e: u32,
+    mark: u8,
+    block: &[u8],
+    at: usize,
+    time: u16,
+    events: &mut [u16; 256],
+    floors: &mut [u16; 4],
+)
+    requires { ⌜ Stands rowOf (now block) at (getD (now block) at 0) × (e ≡ getD kindTable (getD (now block) at 0) 0) × (time % 2 ≡ 0) × (time < 65535) × (mark ≡ 1 → roleOf rowOf (getD (now block) at 0) ≡ computing) ⌝ }
+    ensures { λ _. ⌜ Turns (now (events .entry)) (now (floors .entry)) time (liveAs mark (now (block .entry)) at) (now (events .exit)) (now (floors .exit)) ⌝ }
+{
+    if mark == 1 {
+        put_number(events, block[at + 1], time);
+        return;
+    }
+    live_but_inputs(e, block, at, time, events, floors);
+    wake(block, at + 1 + outs(e), ins(e), time + 1, events);
+}
+
+// Whether an op is pure and its output is not live after it.
+pub fn dead_op(
+    e: u32,
+    block: &[u8],
+    at: usize,
+    events: &[u16; 256],
+    floors: &[u16; 4],
+    classes: &[u8; 256],
+) -> bool
+    requires { ⌜ Stands rowOf (now block) at (getD (now block) at 0) × (e ≡ getD kindTable (getD (now block) at 0) 0) ⌝ }
+    ensures { λ r. ⌜ r ≡ dead (viewOf document01 (recordAt rowOf (now (block .entry)) at)) (liveOf (now (events .entry)) (now (floors .entry)) (now (classes .entry))) ⌝ }
+{
+    if role(e) < CONSTANT {
+        return false;
+    }
+    !is_live(events, floors, classes, block[at + 1])
+}

@@ -1,0 +1,37 @@
+// Fold, prune and the result in the lent buffer, one after the other.
+ghost use mathlib.Core.Path.{_≡_};
+ghost use Prim.Native.Nat.{_≤_};
+ghost use lib.ListN.{length};
+ghost use Rattle.ops.specs.Kinds.{kindTable};
+ghost use Rattle.passes.specs.Passes.{passOf};
+ghost use Rattle.passes.specs.Ready.{Ready};
+use emit::copy;
+use passes::Written;
+
+// The pass of an accepted block, with room for the marks and the constants of its ops.
+pub fn write_result(
+    kinds: &[u32; 256],
+    block: &[u8],
+    start: usize,
+    ops: usize,
+    places: &[u16; 256],
+    classes: &[u8; 256],
+    marks: &mut [u8],
+    constants: &mut [u64],
+    out: &mut [u8],
+) -> Written
+    requires { ⌜ Ready (now block) (now places) (now classes) start ops × (ops ≤ length (now marks)) × (ops ≤ length (now constants)) × (now kinds ≡ kindTable) ⌝ }
+    ensures { λ r. ⌜ (r ≡ (passOf (now (block .entry)) (now (out .entry))) .answer) × (now (out .exit) ≡ (passOf (now (block .entry)) (now (out .entry))) .out) ⌝ }
+{
+    fold::fold(kinds, block, ops, places, marks, constants);
+    let size = start + prune::prune(kinds, block, ops, places, classes, marks);
+    if out.len() < size {
+        return Written::Refused {
+            number: 12,
+            place: 0,
+        };
+    }
+    copy(block, 0, start, out, 0);
+    emit::emit(kinds, block, start, ops, places, marks, constants, out);
+    Written::Length(size)
+}
