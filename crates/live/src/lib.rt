@@ -97,7 +97,7 @@ fn live_but_inputs(
     *floors = [time + 1, floors[1], floors[2], 0];
 }
 
-// The same with its inputs; of an op that a constant replaces, less its output.
+// The same with its inputs; of an op that a constant replaces, less its output. Pure ops come first: they are most, and have one output.
 pub fn live_before(
     e: u32,
     mark: u8,
@@ -110,8 +110,12 @@ pub fn live_before(
     requires { ⌜ Stands rowOf (now block) at (getD (now block) at 0) × (e ≡ getD kindTable (getD (now block) at 0) 0) × (time % 2 ≡ 0) × (time < 65535) × (mark ≡ 1 → roleOf rowOf (getD (now block) at 0) ≡ computing) ⌝ }
     ensures { λ _. ⌜ Turns (now (events .entry)) (now (floors .entry)) time (liveAs mark (now (block .entry)) at) (now (events .exit)) (now (floors .exit)) ⌝ }
 {
-    if mark == 1 {
+    if CONSTANT <= role(e) {
         put_number(events, block[at + 1], time);
+        if mark == 1 {
+            return;
+        }
+        wake(block, at + 2, ins(e), time + 1, events);
         return;
     }
     live_but_inputs(e, block, at, time, events, floors);

@@ -1,5 +1,5 @@
 -- What is live, as times of events. Assumes nothing.
-use mathlib.Core.Path.{_≡_, refl, sym, ap, ap₂, _∙_, fun-ext}
+use mathlib.Core.Path.{_≡_, refl, sym, ap, ap₂, _∙_, subst, fun-ext}
 use mathlib.Core.Bool.{Bool, true, false, cond, not, _&&_, _||_}
 use mathlib.Core.List.{List, [], _∷_}
 use mathlib.Core.Logic.{_⊎_, inl, inr}
@@ -11,7 +11,7 @@ use lib.ListN.{length, getD, replicate}
 use borrow.Author.Tests.{ltb-false, lt-ltb, le-ltb, eq-eqb, ne-eqb}
 use Rattle.theory.specs.Sets.{Vars, has, plus, without, both, noneIn}
 use Rattle.theory.proofs.Sets.{tell}
-use Rattle.ops.specs.Rows.{Role, outsIn, insIn, roleIn, roleNo, numberOf, isSetting, isJumping}
+use Rattle.ops.specs.Rows.{Role, Row, computing, roleOf, outsIn, insIn, roleIn, roleNo, numberOf, isSetting, isJumping}
 use Rattle.ops.specs.Kinds.{kindTable, rowOf}
 use Rattle.ops.specs.Ops.{bytesAt}
 use Rattle.block.specs.Rules.{globalsIn, keptIn}
@@ -19,7 +19,8 @@ use Rattle.block.specs.Scan.{SetAt, Stands}
 use Rattle.block.proofs.MarkSets.{at-place, zeros}
 use Rattle.passes.specs.Live.{beforeAt, liveAs, lastOf, liveOf, Young, Classed, Turns, Timed}
 use Rattle.passes.proofs.Before.{ends-before, pure-before, access-before, live-before-is}
-use Rattle.passes.proofs.Counts.{few-outs, none-else}
+use Rattle.ops.proofs.Entry.{digits}
+use Rattle.passes.proofs.Counts.{few-outs, none-else, pure-out}
 
 -- the last of two events
 last-own : (n c : ℕ) → c ≤ n → lastOf n c ≡ n
@@ -292,6 +293,21 @@ module _ {b : List ℕ} {p e : ℕ} (m now : ℕ) (events floors : List ℕ) (s 
             (woken now even events₁ floors₁ (bytesAt b (p + 1 + outsIn e) (insIn e)) events₂ t ((f .young-so y) .floors-young) classes));
         young-so = λ y. record { events-young = timed-young t (now + 1) (omega arith) ((f .young-so y) .events-young); floors-young = (f .young-so y) .floors-young };
       }
+
+  -- of a pure op that stays
+  pub turn-computed : {n : ℕ} (events₁ events₂ : List ℕ) → n ≡ numberOf (roleNo (roleIn e)) → 7 < n → (m ≡ 1 → ⊥) → Timed events (getD b (p + 1) 0 ∷ []) now events₁
+      → Timed events₁ (bytesAt b (p + 2) (insIn e)) (now + 1) events₂ → Turns events floors now (liveAs m b p) events₂ floors
+  turn-computed events₁ events₂ r h z t u =
+      let one : outsIn e ≡ 1 = pure-out (getD b p 0) q (omega (arith, r, h)) in
+      let o : Timed events (bytesAt b (p + 1) (outsIn e)) now events₁ = rw one t in
+      let i : p + 2 ≡ p + 1 + outsIn e = omega (arith, one) in
+      turn-inputs events₁ floors events₂ z (turn-pure e now b p events floors r even events₁ o h) (subst (λ (i : ℕ). Timed events₁ (bytesAt b i (insIn e)) (now + 1) events₂) i u)
+
+  -- no constant replaces an op that is not pure
+  pub not-replaced : {n : ℕ} → n ≡ numberOf (roleNo (roleIn e)) → n < 8 → (m ≡ 1 → roleOf rowOf (getD b p 0) ≡ computing) → m ≡ 1 → ⊥
+  not-replaced r h w y =
+      let nine : numberOf (roleNo (roleIn e)) ≡ 9 = ap numberOf (sym (ap (λ (row : Row). row .role) ((digits kindTable q) .row)) ∙ w y) in
+      omega (arith, r, h, nine)
 
 -- the next time
 pub later : {events floors : List ℕ} {now now′ : ℕ} → Young events floors now → now ≤ now′ → Young events floors now′

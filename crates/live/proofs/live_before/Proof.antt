@@ -1,66 +1,53 @@
--- Then the inputs. Assumes nothing.
+-- A pure op's output dies, and its inputs wake; of any other op the inputs come last. Assumes nothing.
+use Prim.Native.Nat.{_+_, _≤_}
 use native.Mathlib.Omega.{arith}
+use lib.ListN.{length}
 use borrow.Author.Needs.{needs}
-use Rattle.block.proofs.Views.{inside}
+use Rattle.ops.specs.Rows.{insIn}
 use Rattle.passes.proofs.Before.{operands-inside}
-use Rattle.passes.proofs.Counts.{few-ins}
-use Rattle.passes.proofs.Events.{timed-one, turn-constant, turn-inputs}
+use Rattle.passes.proofs.Counts.{few-ins, pure-out}
+use Rattle.passes.proofs.Events.{timed-one, turn-constant, turn-inputs, turn-computed, not-replaced}
 use Rattle.live.proofs.live_before.Statement.{statement}
 use Rattle.live.proofs.live_before.Tie as tie
 
-add-put-number : tie.Need-add-put-number
-add-put-number c = search needs
-
-shared-slice-read-put-number : tie.Need-shared-slice-read-put-number
-shared-slice-read-put-number c = inside (c .before .before .before .before .pre .0) (c .before .before .before .before .pre .4 (c .before .before .if1 .taken)) 1 (omega arith)
-
-put-number-requires : tie.Need-put-number-requires
-put-number-requires c κs = search needs
+-- past the first test: the output and the inputs are inside
+pure-inside : (k : tie.Then1) → let a = k .before .before .before .args in a .at + 2 + insIn (a .e) ≤ length (a .block .now)
+pure-inside k =
+    let s = k .before .before .before in
+    omega (arith, operands-inside (s .pre .0) (s .pre .1), pure-out _ (s .pre .1) (omega (arith, k .before .role .ensures, k .if1 .taken)))
 
 returns : tie.Need-returns
 returns c =
-    let a = c .before .before .before .before .before .args in
-    turn-constant (a .mark) (a .time) (a .events .now) (a .floors .now) (c .before .before .before .before .before .pre .0) (c .before .before .before .before .before .pre .1) (c .before .before .before .before .before .pre .2) _ (c .before .before .before .if1 .taken) (timed-one (c .put-number .ensures))
-
-live-but-inputs-requires : tie.Need-live-but-inputs-requires
-live-but-inputs-requires c κs = search needs
-
-add-wake : tie.Need-add-wake
-add-wake c = search needs
-
-outs-requires : tie.Need-outs-requires
-outs-requires c κs = search needs
-
-add-wake-2 : tie.Need-add-wake-2
-add-wake-2 c = search needs
-
-ins-requires : tie.Need-ins-requires
-ins-requires c κs = search needs
-
-add-wake-3 : tie.Need-add-wake-3
-add-wake-3 c = search needs
+    let s = c .before .before .before .before .before .before .before in
+    turn-constant (s .args .mark) (s .args .time) (s .args .events .now) (s .args .floors .now) (s .pre .0) (s .pre .1) (s .pre .2) _ (c .if2 .taken) (timed-one (c .before .put-number .ensures))
 
 wake-requires : tie.Need-wake-requires
-wake-requires c κs = (omega (arith, operands-inside (c .before .before .before .before .before .before .before .before .pre .0) (c .before .before .before .before .before .before .before .before .pre .1), c .before .ins .ensures, c .before .before .outs .ensures), omega (arith, few-ins _ (c .before .before .before .before .before .before .before .before .pre .1), c .before .ins .ensures))
+wake-requires c κs =
+    let k = c .before .before .before .before .before .before in
+    (omega (arith, pure-inside k, c .before .ins .ensures), omega (arith, few-ins _ (k .before .before .before .pre .1), c .before .ins .ensures))
 
 returns-2 : tie.Need-returns-2
 returns-2 c =
-    let a = c .before .before .before .before .before .before .before .before .before .args in
-    turn-inputs (a .mark) (a .time) (a .events .now) (a .floors .now) (c .before .before .before .before .before .before .before .before .before .pre .0) (c .before .before .before .before .before .before .before .before .before .pre .1) (c .before .before .before .before .before .before .before .before .before .pre .2) _ _ _ (c .before .before .before .before .before .before .before .if1 .left) (c .before .before .before .before .live-but-inputs .ensures) (rw (c .before .before .before .outs .ensures, c .before .before .ins .ensures) at (c .wake .ensures))
+    let k = c .before .before .before .before .before .before .before in
+    let s = k .before .before .before in
+    turn-computed (s .args .mark) (s .args .time) (s .args .events .now) (s .args .floors .now) (s .pre .0) (s .pre .1) (s .pre .2) _ _ (k .before .role .ensures) (k .if1 .taken) (c .before .before .before .if2 .left)
+    (timed-one (c .before .before .before .before .put-number .ensures)) (rw (c .before .before .ins .ensures) at (c .wake .ensures))
+
+wake-requires-2 : tie.Need-wake-requires-2
+wake-requires-2 c κs =
+    let s = c .before .before .before .before .before .before .before .before .before in
+    (omega (arith, operands-inside (s .pre .0) (s .pre .1), c .before .ins2 .ensures, c .before .before .outs .ensures), omega (arith, few-ins _ (s .pre .1), c .before .ins2 .ensures))
+
+returns-3 : tie.Need-returns-3
+returns-3 c =
+    let k = c .before .before .before .before .before .before .before in
+    let s = k .before .before .before in
+    turn-inputs (s .args .mark) (s .args .time) (s .args .events .now) (s .args .floors .now) (s .pre .0) (s .pre .1) (s .pre .2) _ _ _
+    (not-replaced (s .args .mark) (s .args .time) (s .args .events .now) (s .args .floors .now) (s .pre .0) (s .pre .1) (s .pre .2) (k .before .role .ensures) (k .if1 .left) (s .pre .4))
+    (c .before .before .before .before .live-but-inputs .ensures) (rw (c .before .before .before .outs .ensures, c .before .before .ins2 .ensures) at (c .wake2 .ensures))
 
 pub live-before-spec : {M : Type 1} → statement M
 live-before-spec =
     tie.close
-    (tie.spec
-    add-put-number
-    shared-slice-read-put-number
-    put-number-requires
-    returns
-    live-but-inputs-requires
-    add-wake
-    outs-requires
-    add-wake-2
-    ins-requires
-    add-wake-3
-    wake-requires
-    returns-2)
+    (tie.spec (λ c κs. search needs) (λ c. search needs) (λ c. omega (arith, pure-inside (c .before .before))) (λ c κs. search needs) returns (λ c. search needs) (λ c κs. search needs)
+    (λ c. search needs) wake-requires returns-2 (λ c κs. search needs) (λ c. search needs) (λ c κs. search needs) (λ c. search needs) (λ c κs. search needs) (λ c. search needs) wake-requires-2 returns-3)
