@@ -3,7 +3,7 @@ use mathlib.Core.Path.{_≡_, refl, sym, ap, ap₂, _∙_, subst, fun-ext}
 use mathlib.Core.Logic.{_⊎_, inl, inr}
 use mathlib.Core.Bool.{Bool, true, false, cond, not, _||_}
 use mathlib.Core.List.{List, [], _∷_}
-use Prim.Native.Nat.{ℕ, zero, suc, _+_, _-_, _%_, _^_, _≤_, _<_}
+use Prim.Native.Nat.{ℕ, zero, suc, _+_, _-_, _^_, _≤_, _<_}
 use native.Mathlib.Omega.{arith}
 use lib.Dec.{eqb, ltb}
 use native.Mathlib.Nat.{mod-eq-of-lt}
@@ -13,7 +13,7 @@ use Rattle.theory.proofs.Sets.{tell, clash}
 use Rattle.ops.specs.Rows.{outsIn, insIn, restIn, roleIn, roleNo, numberOf, isClosing, isSetting, isJumping}
 use Rattle.ops.specs.Kinds.{kindTable, rowOf}
 use Rattle.ops.specs.Ops.{bytesAt}
-use Rattle.ops.specs.Plans.{typeIn, noOp, moreBy, flag, planOf, lengthIn, outAskIn, moreIn, straightIn, closesIn, setsIn}
+use Rattle.ops.specs.Plans.{noOp, moreBy, flag, planOf, lengthIn, outAskIn, moreIn, straightIn, closesIn, setsIn}
 use Rattle.ops.proofs.Entry.{Digits, digits}
 use Rattle.ops.proofs.Plans.{Plan, plan, Sort, plainly, four-inputs, constant-sort, labelled, Sorted, sorted}
 use Rattle.block.specs.Rules.{markedBy}

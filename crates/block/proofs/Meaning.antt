@@ -99,7 +99,7 @@ records-met T s (r ∷ rs) h t =
     ((met-whole T r (m .met2) (m .met1), q .0), and-i (allMet (rulesOf T s r)) (accepts T (next T s r) rs) (meets-all T s r m) (q .1))
 
 -- records that leave nothing over are the bytes
-cut-together : (T : Table) (n : ℕ) (bytes : List ℕ) → length bytes ≤ n → (cutBy T n bytes) .tail ≡ 0 → concat ((cutBy T n bytes) .records) ≡ bytes
+pub cut-together : (T : Table) (n : ℕ) (bytes : List ℕ) → length bytes ≤ n → (cutBy T n bytes) .tail ≡ 0 → concat ((cutBy T n bytes) .records) ≡ bytes
 unfolding cutBy
 cut-together T zero [] l z = refl
 cut-together T zero (k ∷ bytes) l z = absurd (omega arith)

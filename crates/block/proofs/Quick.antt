@@ -18,7 +18,7 @@ use Rattle.ops.specs.Limits.{maxOps, labelCount}
 use Rattle.ops.specs.Rows.{outsIn, insIn, restIn, testIn, roleIn, typesIn, typesOf, rowIn, roleNo, isKnown, isSetting, isJumping, at, condOk, labelOk, testOk, asksFor}
 use Rattle.ops.specs.Kinds.{kindTable}
 use Rattle.ops.specs.Plans.{typeIn, noOp, outAskBy, secondBy, inAskBy, inAtBy, byteTestBy, byteAtBy, moreBy, planOf, lengthIn, outAskIn, firstAskIn, secondAskIn, firstAtIn, secondAtIn, byteAtIn, byteTestIn, moreIn, straightIn, closesIn}
-use Rattle.ops.proofs.Plans.{Plan, plan, Sort, plainly, four-inputs, constant-sort, labelled, Sorted, sorted, no-op-so, no-plan, or-not, not-so, first-read}
+use Rattle.ops.proofs.Plans.{Plan, plan, Sort, plainly, four-inputs, constant-sort, labelled, Sorted, sorted, no-op-so, no-plan, or-not, first-read}
 use Rattle.ops.proofs.Ranges.{everyFrom, ranged, beq-same}
 use Rattle.ops.proofs.Table.{asks-few}
 use Rattle.block.specs.Rules.{labelFree}

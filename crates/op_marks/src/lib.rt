@@ -62,6 +62,7 @@ fn restart(base: &[u8; 256], vars: &mut [u8; 256])
 }
 
 // What the op at a place leaves in the arrays; base: the variables' bytes at the start of a basic block.
+// Straight ops come first, so that their one branch is that of the fast test.
 pub fn mark_op(
     h: u32,
     block: &[u8],

@@ -1,27 +1,27 @@
 -- The pass of a block: its declarations' bytes, and the result in the buffer. Assumes nothing.
-use mathlib.Core.Path.{_≡_, refl, sym, ap, ap₂, _∙_}
-use mathlib.Core.Bool.{Bool, true, false, cond}
-use mathlib.Core.List.{List, [], _∷_, _++_}
-use Prim.Native.Nat.{ℕ, zero, suc, _+_, _*_, _≤_, _<_}
+use mathlib.Core.Path.{_≡_, sym, ap, ap₂, _∙_}
+use mathlib.Core.Bool.{Bool, cond}
+use mathlib.Core.List.{List, _++_}
+use Prim.Native.Nat.{ℕ, _+_, _*_, _≤_, _<_}
 use native.Mathlib.Omega.{arith}
 use lib.Dec.{ltb}
-use lib.ListN.{length, getD, take, drop, length-append, length-drop, take-append-drop}
+use lib.ListN.{length, getD, take, drop, length-append}
 use lib.Seq.{take-at, sets, length-sets, sets-eq}
 use borrow.Author.Tests.{lt-leb}
 use native.Mathlib.Nat.{zero-add}
 use Rattle.theory.specs.Prune.{prune}
 use Rattle.theory.specs.Sets.{Vars}
-use Rattle.ops.specs.Rows.{known, bodyLength}
 use Rattle.ops.specs.Ops.{tcg}
 use Rattle.ops.specs.Kinds.{rowOf, document01}
 use Rattle.block.specs.Checks.{checkOf, checkBy}
-use Rattle.block.specs.Records.{Cut, stray, cons, cutBy, cutOf, recordsOf, concat, declarations, opsFrom, classesOf}
+use Rattle.block.specs.Records.{cutOf, recordsOf, concat, declarations, opsFrom, classesOf}
 use Rattle.block.specs.Rules.{start as unread, globalsIn, keptIn}
 use Rattle.block.specs.Scan.{Approved, Scanned, rejected, approved}
 use Rattle.block.proofs.Accepts.{check-accepts}
 use Rattle.block.proofs.Checker.{declaredIn, few-ops}
 use Rattle.block.proofs.Cut.{split-records}
 use Rattle.block.proofs.Declaring.{classes-length}
+use Rattle.block.proofs.Meaning.{cut-together}
 use Rattle.block.proofs.Parts.{Parts, parts}
 use Rattle.passes.specs.Knows.{foldedOps}
 use Rattle.passes.specs.Laid.{opsAt, keptFrom}
@@ -36,31 +36,13 @@ use Rattle.block.specs.declared.Verdict.the-variants.{Accepted, Refused as Chec
 use Rattle.passes.specs.declared.Written.the-variants.{Refused, Length}
 use Rattle.ops.proofs.Document01.{lawful}
 
--- records that leave nothing over are the bytes
-cut-together : (n : ℕ) (bytes : List ℕ) → length bytes ≤ n → (cutBy rowOf n bytes) .tail ≡ 0 → concat ((cutBy rowOf n bytes) .records) ≡ bytes
-unfolding cutBy
-cut-together zero [] l z = refl
-cut-together zero (k ∷ bytes) l z = absurd (omega arith)
-cut-together (suc n) [] l z = refl
-cut-together (suc n) (k ∷ bytes) l z =
-    go (cutBy rowOf n (drop (bodyLength rowOf k) bytes)) (known rowOf k) (ltb (length bytes) (bodyLength rowOf k))
-    (cut-together n (drop (bodyLength rowOf k) bytes) (omega (arith, length-drop (bodyLength rowOf k) bytes))) z
-  where
-    go : (more : Cut) (t u : Bool) → (more .tail ≡ 0 → concat (more .records) ≡ drop (bodyLength rowOf k) bytes)
-        → (cond t (cond u (stray 1) (cons (k ∷ take (bodyLength rowOf k) bytes) more)) (stray 2)) .tail ≡ 0
-        → concat ((cond t (cond u (stray 1) (cons (k ∷ take (bodyLength rowOf k) bytes) more)) (stray 2)) .records) ≡ k ∷ bytes
-    go more false u ih q = absurd (omega arith)
-    go more true true ih q = absurd (omega arith)
-    go more true false ih q =
-        ap (λ (l : List ℕ). k ∷ l) (ap (λ (l : List ℕ). take (bodyLength rowOf k) bytes ++ l) (ih q) ∙ take-append-drop (bodyLength rowOf k) bytes)
-
 -- an accepted block is its declarations and its ops
 accepted-bytes : (block : List ℕ) → checkOf block ≡ Accepted → concat (declarations (recordsOf rowOf block)) ++ concat (opsFrom (recordsOf rowOf block)) ≡ block
 unfolding checkBy cutOf
 accepted-bytes block h =
     let rs = recordsOf rowOf block in
     sym (concat-append (declarations rs) (opsFrom rs)) ∙ ap concat (split-records rs)
-    ∙ cut-together (length block) block (omega arith) ((check-accepts rowOf unread 0 ((cutOf rowOf block) .records) ((cutOf rowOf block) .tail) h) .0)
+    ∙ cut-together rowOf (length block) block (omega arith) ((check-accepts rowOf unread 0 ((cutOf rowOf block) .records) ((cutOf rowOf block) .tail) h) .0)
 
 -- an accepted block
 module _ {block places classes : List ℕ} {start ops : ℕ} (r : Ready block places classes start ops) where

@@ -1,5 +1,5 @@
 -- Fold at an op, whether it computes or not. Assumes nothing.
-use mathlib.Core.Path.{_≡_, sym, _∙_}
+use mathlib.Core.Path.{sym, _∙_}
 use Rattle.block.specs.Scan.{marked}
 use Rattle.passes.specs.Knows.{StatesKnown}
 use Rattle.passes.proofs.Knowing.{others-state, folds-none}
