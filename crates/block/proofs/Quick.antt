@@ -9,20 +9,20 @@ use lib.Bits.{bitAnd}
 use lib.Dec.{eqb, ltb, leb}
 use lib.ListN.{length, getD, take, drop}
 use lib.Seq.{getD-take, getD-drop}
-use native.Mathlib.Nat.{add-zero}
+use native.Mathlib.Nat.{add-zero, mod-eq-of-lt}
 use borrow.Author.Tests.{eqb-true, ltb-true, ltb-false, lt-ltb, le-ltb, le-leb, lt-leb, leb-true, eq-eqb, ne-eqb}
 use Rattle.theory.proofs.Sets.{tell, and-l, and-r, clash}
 use Rattle.memory.specs.Access.{flagsOk}
 use Rattle.memory.specs.Bytes.{lowFirst}
 use Rattle.ops.specs.Limits.{maxOps, labelCount}
-use Rattle.ops.specs.Rows.{outsIn, insIn, restIn, testIn, roleIn, typesIn, typesOf, rowIn, roleNo, isKnown, isSetting, isJumping, at, condOk, labelOk, testOk, asksFor}
+use Rattle.ops.specs.Rows.{outsIn, insIn, restIn, testIn, roleIn, typesIn, typesOf, rowIn, roleNo, isKnown, isClosing, isSetting, isJumping, at, condOk, labelOk, testOk, asksFor}
 use Rattle.ops.specs.Kinds.{kindTable}
-use Rattle.ops.specs.Plans.{typeIn, noOp, outAskBy, secondBy, inAskBy, inAtBy, byteTestBy, byteAtBy, moreBy, planOf, lengthIn, outAskIn, firstAskIn, secondAskIn, firstAtIn, secondAtIn, byteAtIn, byteTestIn, moreIn, straightIn, closesIn}
+use Rattle.ops.specs.Plans.{typeIn, noOp, lengthBy, outAskBy, secondBy, inAskBy, inAtBy, byteTestBy, byteAtBy, moreBy, planOf, lengthIn, outAskIn, firstAskIn, secondAskIn, firstAtIn, secondAtIn, byteAtIn, byteTestIn, moreIn}
 use Rattle.ops.proofs.Plans.{Plan, plan, Sort, plainly, four-inputs, constant-sort, labelled, Sorted, sorted, no-op-so, no-plan, or-not, first-read}
 use Rattle.ops.proofs.Ranges.{everyFrom, ranged, beq-same}
 use Rattle.ops.proofs.Table.{asks-few}
 use Rattle.block.specs.Rules.{labelFree}
-use Rattle.block.specs.Scan.{codesIn, meets, fitsAs, operandsFit, numbered, operandsOk, opStands, opOk, opPasses, Placed, codeAt, threeFit, refusedBytes, byteOk, labelFits, moreOk}
+use Rattle.block.specs.Scan.{codesIn, meets, fitsAs, operandsFit, numbered, operandsOk, opStands, opOk, opPasses, Placed, codeAt, threeFit, byteOk, refusalsOf, refusalsFrom, refusalTable, labelFits, moreOk}
 use Rattle.block.proofs.Rests.{branch-test, label-test, constant-test}
 
 -- nothing is asked
@@ -134,62 +134,44 @@ module _ (e : ℕ) (b : List ℕ) (p : ℕ) (vars : List ℕ) where
       (and-five A B C (fit false (suc (suc (suc (p + 1)))) (t / 4 % 4)) (fit false (suc (suc (suc (suc (p + 1))))) (t / 4 % 4))
       ∙ ap₂ (λ (i j : ℕ). A && (B && (C && (fit false (suc (suc (suc (p + 1)))) i && (fit false (suc (suc (suc (suc (p + 1))))) j && true))))) (sym u′) (sym v′))
 
--- the test of one byte: computed for those below 32, and no other passes
+-- the test of one byte
 byteTest : ℕ → Bool
 byteTest t = not (eqb t 1) && not (eqb t 3)
 
-bytesOk : ℕ → ℕ → Bool
-bytesOk t x = not (byteTest t) || Bool·beq (byteOk t x) (testOk t (x ∷ []))
-
-bytes-ok : everyFrom (λ t. everyFrom (bytesOk t) 0 32) 0 8 ≡ true
-unfolding byteTest bytesOk byteOk testOk flagsOk
-bytes-ok = refl
-
--- no byte passes test 1
 one-no : (x : ℕ) → byteOk 1 x ≡ false
 unfolding byteOk
-one-no x =
-    let t : 0xffffffff / 2 ^ (x % 32) % 2 ≡ 1 = eqb-true _ 1 (ranged (λ y. eqb (0xffffffff / 2 ^ y % 2) 1) 32 0 refl (x % 32) (omega arith) (omega arith)) in
-    rw t (ne-eqb (1 + x / 32 * 1) 0 (λ z. omega arith))
+one-no x = refl
 
 zero-ok : (x : ℕ) → byteOk 0 x ≡ true
-unfolding byteOk
-zero-ok x =
-    let t : 0 / 2 ^ (x % 32) % 2 ≡ 0 = eqb-true _ 0 (ranged (λ y. eqb (0 / 2 ^ y % 2) 0) 32 0 refl (x % 32) (omega arith) (omega arith)) in
-    rw t (eq-eqb (0 + x / 32 * 0) 0 (omega arith))
+unfolding byteOk testOk
+zero-ok x = refl
+
+byte-so : (t x : ℕ) → byteTest t ≡ true → byteOk t x ≡ testOk t (x ∷ [])
+unfolding byteOk byteTest
+byte-so t x s = rw (and-l (not (eqb t 1)) (not (eqb t 3)) s)
 
 unlike : false ≡ true → ⊥
 unlike q = omega (arith, ap (λ (b : Bool). cond {A = ℕ} b 0 1) q)
 
--- a byte from 32 on passes no other test
-high-no : (a x t : ℕ) → 32 ≤ x → eqb (a + x / 32 * suc t) 0 ≡ false
-high-no a x t h = ne-eqb (a + x / 32 * suc t) 0 (λ z. go (x / 32) t (omega arith) (omega arith))
-  where
-    go : (q t : ℕ) → 0 < q → q * suc t ≡ 0 → ⊥
-    go zero t l e = omega arith
-    go (suc q) t l e = omega arith
+-- a table of the tests that refuse a byte has a bit for each
+refusalOk : ℕ → ℕ → Bool
+refusalOk t x = Bool·beq (eqb (refusalsOf x / 2 ^ t % 2) 0) (byteOk t x)
 
-high-so : (x : ℕ) → 32 ≤ x → (t : ℕ) → t < 8 → byteTest t ≡ true → byteOk t x ≡ testOk t (x ∷ [])
-unfolding byteOk testOk flagsOk byteTest
-high-so x h zero l s = zero-ok x
-high-so x h (suc zero) l s = absurd (unlike s)
-high-so x h (suc (suc zero)) l s = rw (high-no (refusedBytes 2 / 2 ^ (x % 32) % 2) x 1 h, lt-leb x 9 (omega arith))
-high-so x h (suc (suc (suc zero))) l s = absurd (unlike s)
-high-so x h (suc (suc (suc (suc zero)))) l s = rw (high-no (refusedBytes 4 / 2 ^ (x % 32) % 2) x 3 h, le-ltb x 16 (omega arith))
-high-so x h (suc (suc (suc (suc (suc zero))))) l s = rw (high-no (refusedBytes 5 / 2 ^ (x % 32) % 2) x 4 h, le-ltb x 16 (omega arith))
-high-so x h (suc (suc (suc (suc (suc (suc zero)))))) l s = rw (high-no (refusedBytes 6 / 2 ^ (x % 32) % 2) x 5 h, le-ltb x 16 (omega arith))
-high-so x h (suc (suc (suc (suc (suc (suc (suc zero))))))) l s = rw (high-no (refusedBytes 7 / 2 ^ (x % 32) % 2) x 6 h, le-ltb x 16 (omega arith))
-high-so x h (suc (suc (suc (suc (suc (suc (suc (suc t)))))))) l s = absurd (omega arith)
+refusals-right : everyFrom (λ t. everyFrom (refusalOk t) 0 256) 0 8 ≡ true
+unfolding refusalOk refusalsOf byteOk testOk flagsOk
+refusals-right = refl
 
-byte-so : (t x : ℕ) → t < 8 → byteTest t ≡ true → byteOk t x ≡ testOk t (x ∷ [])
-unfolding bytesOk
-byte-so t x l s = go (tell (ltb x 32))
-  where
-    go : (ltb x 32 ≡ true) ⊎ (ltb x 32 ≡ false) → byteOk t x ≡ testOk t (x ∷ [])
-    go (inl y) =
-        let m = ranged (bytesOk t) 32 0 (ranged (λ t. everyFrom (bytesOk t) 0 32) 8 0 bytes-ok t (omega arith) (omega arith)) x (omega arith) (omega (arith, ltb-true x 32 y)) in
-        beq-same (byteOk t x) (testOk t (x ∷ [])) (rw s at m)
-    go (inr y) = high-so x (ltb-false x 32 y) t l s
+refusals-at : (n x k : ℕ) → k < n → getD (refusalsFrom x n) k 0 ≡ refusalsOf (x + k)
+refusals-at zero x k l = absurd (omega arith)
+refusals-at (suc n) x zero l = ap refusalsOf (sym (add-zero x))
+refusals-at (suc n) x (suc k) l = refusals-at n (suc x) k (omega arith) ∙ ap refusalsOf (omega arith)
+
+pub byte-refused : {table : List ℕ} {t x : ℕ} {r : Bool} → table ≡ refusalTable → t < 8 → x < 256 → r ≡ eqb (getD table x 0 / 2 ^ (t % 8) % 2) 0 → r ≡ byteOk t x
+unfolding refusalOk
+byte-refused {table} {t} {x} {r} z l m e =
+    let y : getD table x 0 ≡ refusalsOf x = ap (λ (ts : List ℕ). getD ts x 0) z ∙ refusals-at 256 0 x m ∙ ap refusalsOf (omega arith) in
+    let o = ranged (refusalOk t) 256 0 (ranged (λ t. everyFrom (refusalOk t) 0 256) 8 0 refusals-right t (omega arith) (omega arith)) x (omega arith) (omega arith) in
+    e ∙ ap₂ (λ (a i : ℕ). eqb (a / 2 ^ i % 2) 0) y (mod-eq-of-lt l) ∙ beq-same _ _ o
 
 first-only : (t : ℕ) (bytes : List ℕ) → t < 8 → byteTest t ≡ true → testOk t bytes ≡ testOk t (at bytes 0 ∷ [])
 unfolding testOk byteTest
@@ -304,7 +286,7 @@ module _ (b : List ℕ) (p : ℕ) (vars labels : List ℕ) {e h : ℕ} (g : Plan
           let one : asksFor (testIn e) ≡ 1 = asks-one (testIn e) (s .0) (s .1) (λ u. omega arith) in
           first-only (testIn e) (take (restIn e) (drop (p + 1 + count) b)) (s .0) (s .1)
           ∙ ap (λ (x : ℕ). testOk (testIn e) (x ∷ [])) (byte-first (omega arith))
-          ∙ sym (byte-so (testIn e) (at b (p + 1 + count)) (s .0) (s .1)) ∙ ap (λ (t : ℕ). byteOk t (at b (p + 1 + count))) x ∙ sym (byte-there (y ∙ x))
+          ∙ sym (byte-so (testIn e) (at b (p + 1 + count)) (s .1)) ∙ ap (λ (t : ℕ). byteOk t (at b (p + 1 + count))) x ∙ sym (byte-there (y ∙ x))
 
   -- what else is asked
   more-none : moreBy e ≡ 0 → more ≡ true
@@ -354,7 +336,7 @@ module _ (b : List ℕ) (p : ℕ) (vars labels : List ℕ) {e h : ℕ} (g : Plan
       let z : byteTestBy e ≡ 2 = rw (some-op, t) in
       let L = getD b (p + (count + restIn e)) 0 in
       let X = at b (p + 1 + count) in
-      rw (three-so, three-fit e b p vars o i, byte-there z ∙ byte-so 2 X (omega arith) two-bytes ∙ two-test X, more-label m, l, branch-test b (p + 1 + count) e few t, c, free-label s)
+      rw (three-so, three-fit e b p vars o i, byte-there z ∙ byte-so 2 X two-bytes ∙ two-test X, more-label m, l, branch-test b (p + 1 + count) e few t, c, free-label s)
       (and-after (operandsOk e b p vars) (condOk X) (labelOk L) (not (numbered labels L)) ∙ ap (λ (x : Bool). x && not (numbered labels L)) (and-assoc (operandsOk e b p vars) (condOk X) (labelOk L)))
 
 -- the op at a place: the entry and plan of its kind
@@ -372,6 +354,9 @@ module _ (b : List ℕ) (p ops : ℕ) (vars labels : List ℕ) (k : ℕ) {e h : 
       go : (isKnown (roleNo (roleIn e)) ≡ false) ⊎ (k ≡ 1) → opStands e b p ≡ false
       go (inl y) = rw y
       go (inr y) = rw (eq-eqb (getD b p 0) 1 (sym its ∙ y)) (and-none (isKnown (roleNo (roleIn e)) && not (leb (length b - p) (outsIn e + insIn e + restIn e))))
+
+  pub length-is : {n : ℕ} → n ≡ lengthBy e → n ≡ lengthIn h
+  length-is w = w ∙ sym (its-plan .length-so)
 
   length-so : noOp e ≡ false → lengthIn h ≡ 1 + (outsIn e + insIn e + restIn e)
   length-so n = its-plan .length-so ∙ rw n
@@ -501,14 +486,12 @@ module _ (b : List ℕ) (p ops : ℕ) (vars labels : List ℕ) (k : ℕ) {e h : 
         go (inr n) = m ∙ sym (ap (λ (x : Bool). x && moreOk h b p vars labels) fit) ∙ alike l here n (ltb-true ops maxOps (and-r (threeFit h b p vars && tested-byte) (ltb ops maxOps) t))
 
     -- nothing else is asked
-    pub passes-straight : tests ≡ true → straightIn h ≡ true → true ≡ passes
+    pub passes-straight : tests ≡ true → moreBy e ≡ 0 → true ≡ passes
     unfolding moreOk
-    passes-straight t y =
-        let m : moreIn h ≡ 0 = omega (arith, ltb-true h (2 ^ 28) y) in
-        passes-so t (rw m)
+    passes-straight t y = passes-so t (rw (its-plan .more-so ∙ y))
 
     -- an op that passes reads its first operand, if that is not its output: its byte does not speak against it
-    pub first-met : (n : noOp e ≡ false) → ops < 256 → passes ≡ true → closesIn h ≡ 0 → outAskIn h ≡ 0 → codeAt b vars (p + 1) % 32 < 16
+    pub first-met : (n : noOp e ≡ false) → ops < 256 → passes ≡ true → isClosing (roleNo (roleIn e)) ≡ false → outsIn e ≡ 0 → codeAt b vars (p + 1) % 32 < 16
     first-met n few y c o =
         let (at-first, asked) = first-read k q z n c o in
         let fit = and-l (threeFit h b p vars) tested-byte (and-l (threeFit h b p vars && tested-byte) (moreOk h b p vars labels) (alike l here n few ∙ y)) in

@@ -15,7 +15,7 @@ use Rattle.theory.proofs.Sets.{tell, and-l, and-r}
 use Rattle.ops.specs.Rows.{known, bodyLength, Table}
 use Rattle.ops.specs.Rows.{outsIn, insIn, restIn, roleIn, rowIn, Row, roleNo, numberOf, isKnown, isClosing, isSetting, isJumping}
 use Rattle.ops.specs.Ops.{kindOf, rowAt, bytesAt, outsBy, insBy, labelBy}
-use Rattle.ops.specs.Plans.{exitPlan}
+use Rattle.ops.specs.Plans.{exitRank}
 use Rattle.ops.proofs.Entry.{Digits}
 use Rattle.block.proofs.Codes.{coded-next, codes-closed, codes-open}
 use Rattle.block.proofs.Declaring.{classes-length}
@@ -225,9 +225,9 @@ module _ {T : Table} {b : List ℕ} {start : ℕ} {places₀ base vars labels ta
   unfolding rule4
   outs-below = below-left (length (s .seen .classes)) (outsBy (rowAt T (recordAt T b p)) (recordAt T b p)) (insBy (rowAt T (recordAt T b p)) (recordAt T b p)) (its-op .declared)
 
-  pub again-at : {m h : ℕ} → m ≡ bodyLength T (getD b p 0) → eqb h exitPlan ≡ eqb (getD b p 0) 0x04 → (vars′ labels′ targets′ : List ℕ)
+  pub again-at : {m n : ℕ} → m ≡ bodyLength T (getD b p 0) → eqb n exitRank ≡ eqb (getD b p 0) 0x04 → (vars′ labels′ targets′ : List ℕ)
       → Marks T (recordAt T b p) ops base vars vars′ labels labels′ targets targets′
-      → Reading T b start places₀ base vars′ labels′ targets′ (set places ops (p % 65536)) (p + (1 + m)) (ops + 1) h
+      → Reading T b start places₀ base vars′ labels′ targets′ (set places ops (p % 65536)) (p + (1 + m)) (ops + 1) n
   unfolding placesFrom labelsFrom
   again-at {m} z exits vars′ labels′ targets′ w =
       let q : p + (1 + m) ≡ p + suc (bodyLength T (getD b p 0)) = omega (arith, z) in
@@ -267,11 +267,11 @@ module _ {T : Table} {b : List ℕ} {start : ℕ} {places₀ base vars labels ta
   end-answer : answer (firstBroken (endRules (s .seen))) p Accepted ≡ checkBy T b
   end-answer = sym (at-end T (s .seen) b p h) ∙ s .goes-on
 
-  pub scanning-10 : eqb last exitPlan ≡ false → ScannedBy T b start places₀ places labels 10 p ops
+  pub scanning-10 : eqb last exitRank ≡ false → ScannedBy T b start places₀ places labels 10 p ops
   unfolding firstBroken rule10
   scanning-10 q = refuses-op {rule = 10} (λ e. omega arith) (rw (sym (s .last-so) ∙ q) at end-answer)
 
-  module _ {r : Bool} (q : eqb last exitPlan ≡ true) (e : r ≡ allSet (marked targets) (numbered labels) 32) where
+  module _ {r : Bool} (q : eqb last exitRank ≡ true) (e : r ≡ allSet (marked targets) (numbered labels) 32) where
     pub scanning-7 : r ≡ false → ScannedBy T b start places₀ places labels 7 p ops
     unfolding firstBroken rule10 rule7end
     scanning-7 t = refuses-op {rule = 7} (λ z. omega arith) (rw (sym (s .last-so) ∙ q, s .targets-so, s .labels-so, sym e ∙ t) at end-answer)

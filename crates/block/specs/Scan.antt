@@ -2,7 +2,7 @@
 use mathlib.Core.Path.{_≡_}
 use mathlib.Core.Bool.{Bool, true, false, cond, not, _&&_, _||_}
 use mathlib.Core.List.{List, [], _∷_, _++_}
-use Prim.Native.Nat.{ℕ, suc, _+_, _-_, _*_, _/_, _%_, _^_, _≤_, _<_}
+use Prim.Native.Nat.{ℕ, zero, suc, _+_, _-_, _*_, _/_, _%_, _^_, _≤_, _<_}
 use lib.Bits.{bitAnd}
 use lib.Dec.{eqb, ltb, leb}
 use lib.ListN.{length, getD, take, drop, set, replicate}
@@ -10,7 +10,7 @@ use Rattle.theory.specs.Machine.{All}
 use Rattle.theory.specs.Sets.{Vars, empty, has}
 use Rattle.ops.specs.Rows.{known, bodyLength, Table}
 use Rattle.ops.specs.Limits.{maxVariables, maxOps, labelCount}
-use Rattle.ops.specs.Plans.{ask, lengthIn, outAskIn, firstAskIn, secondAskIn, firstAtIn, secondAtIn, byteAtIn, moreIn, closesIn, setsIn, exitPlan}
+use Rattle.ops.specs.Plans.{ask, lengthIn, outAskIn, firstAskIn, secondAskIn, firstAtIn, secondAtIn, byteAtIn, moreIn, exitRank, settingRank}
 use Rattle.memory.specs.Bytes.{lowFirst}
 use Rattle.ops.specs.Rows.{Row, outsIn, insIn, restIn, testIn, roleIn, typesIn, rowIn, roleNo, isKnown, isClosing, isSetting, isJumping, testOk}
 use Rattle.ops.specs.Ops.{rowAt, bytesAt, outsBy, labelBy}
@@ -94,16 +94,16 @@ pub record LabelledAs (row : Row) (l op : ℕ) (labels labels′ : List ℕ) : T
   pub labels-so : numbered labels′ ≡ markedBy (isSetting (row .role)) (numbered labels) l
   pub numbers-so : labels′ ≡ labelledBy row l op labels
 
--- by the plan of its kind: the first operand of an op that has no output and closes no basic block may be read; whether the op sets its label, or
--- may jump to it; what that leaves
+-- by the entry of its kind: the first operand of an op that has no output and closes no basic block may be read. By its rank: whether the op sets
+-- its label, or may jump to it; what that leaves
 abbrev pub FirstReady : ℕ → List ℕ → ℕ → List ℕ → Type 0
-FirstReady h block place vars = closesIn h ≡ 0 → outAskIn h ≡ 0 → codesIn vars (getD block (place + 1) 0) < 16
+FirstReady e block place vars = isClosing (roleNo (roleIn e)) ≡ false → outsIn e ≡ 0 → codesIn vars (getD block (place + 1) 0) < 16
 
 abbrev pub setsLabel : ℕ → Bool
-setsLabel h = eqb (moreIn h) 2 && eqb (setsIn h) 1
+setsLabel n = eqb n settingRank
 
 abbrev pub jumpsTo : ℕ → Bool
-jumpsTo h = eqb (moreIn h) 2 && not (eqb (setsIn h) 1)
+jumpsTo n = ltb exitRank n && not (eqb n settingRank)
 
 pub record LabelMarks (sets jumps : Bool) (l op : ℕ) (labels labels′ targets targets′ : List ℕ) : Type 0 where
   pub labels-so : numbered labels′ ≡ markedBy sets (numbered labels) l
@@ -198,8 +198,8 @@ opOk e block place ops vars labels =
 abbrev pub opPasses : ℕ → List ℕ → ℕ → ℕ → List ℕ → List ℕ → Bool
 opPasses e block place ops vars labels = opStands e block place && opOk e block place ops vars labels
 
--- the same by the plan of its kind: the byte of the variable that stands so far into the record; the operands; the byte after them, of which those
--- below 32 have a bit each in a number, 1 if they are refused, and the others pass test 0 alone; what else is asked
+-- the same by the plan of its kind: the byte of the variable that stands so far into the record; the operands; the byte after them, where no byte
+-- passes test 1; what else is asked
 abbrev pub codeAt : List ℕ → List ℕ → ℕ → ℕ
 codeAt block vars i = codesIn vars (getD block i 0)
 
@@ -208,11 +208,22 @@ threeFit h block place vars =
     meets (outAskIn h) (codeAt block vars (place + 1)) && meets (firstAskIn h) (codeAt block vars (place + firstAtIn h))
     && meets (secondAskIn h) (codeAt block vars (place + secondAtIn h))
 
-abbrev pub refusedBytes : ℕ → ℕ
-refusedBytes t = cond (eqb t 1) 0xffffffff (cond (eqb t 2) 0xfffffc00 (cond (eqb t 4) 0xffff8888 (cond (eqb t 5) 0xffff0000 (cond (eqb t 6) 0xfffff8f8 (cond (eqb t 7) 0xfffff0f0 0)))))
-
 unfoldable pub byteOk : ℕ → ℕ → Bool
-byteOk t x = eqb (refusedBytes t / 2 ^ (x % 32) % 2 + x / 32 * (t % 8)) 0
+byteOk t x = not (eqb t 1) && testOk t (x ∷ [])
+
+-- the tests that refuse a byte, a bit for the number of each; and those of all bytes from x on
+abbrev pub refusedBy : ℕ → ℕ → ℕ
+refusedBy t x = cond (byteOk t x) 0 (2 ^ t)
+
+unfoldable pub refusalsOf : ℕ → ℕ
+refusalsOf x = refusedBy 1 x + refusedBy 2 x + refusedBy 3 x + refusedBy 4 x + refusedBy 5 x + refusedBy 6 x + refusedBy 7 x
+
+abbrev pub refusalsFrom : ℕ → ℕ → List ℕ
+refusalsFrom x zero = []
+refusalsFrom x (suc n) = refusalsOf x ∷ refusalsFrom (suc x) n
+
+abbrev pub refusalTable : List ℕ
+refusalTable = refusalsFrom 0 256
 
 abbrev pub labelFits : List ℕ → ℕ → Bool
 labelFits labels l = ltb l labelCount && not (numbered labels l)
@@ -277,7 +288,7 @@ pub record Begins (T : Table) (block base : List ℕ) (place : ℕ) : Type 0 whe
   pub after : Declaring T block base place n globals
   pub no-more : place < length block → getD block place 0 ≡ 1 → ⊥
 
--- ops have been read up to a place, and the check goes on from there: what has been seen, and that the arrays hold it; last: the plan of the last op's kind
+-- ops have been read up to a place, and the check goes on from there: what has been seen, and that the arrays hold it; last: the rank of the last op's kind
 pub record Reading (T : Table) (b : List ℕ) (start : ℕ) (places₀ base vars labels targets places : List ℕ) (p ops last : ℕ) : Type 0 where
   pub seen : Seen
   pub goes-on : checkAt T seen b p ≡ checkBy T b
@@ -287,7 +298,7 @@ pub record Reading (T : Table) (b : List ℕ) (start : ℕ) (places₀ base vars
   pub labels-so : seen .labels ≡ numbered labels
   pub targets-so : seen .targets ≡ marked targets
   pub ops-so : seen .ops ≡ ops
-  pub last-so : eqb last exitPlan ≡ eqb (seen .last) 0x04
+  pub last-so : eqb last exitRank ≡ eqb (seen .last) 0x04
   pub count : length (recordsAt T b start) ≡ ops + length (recordsAt T b p)
   pub places-are : placesFrom start 0 places₀ (recordsAt T b start) ≡ placesFrom p ops places (recordsAt T b p)
   pub labels-are : labelsFrom T 0 (replicate 256 0) (recordsAt T b start) ≡ labelsFrom T ops labels (recordsAt T b p)

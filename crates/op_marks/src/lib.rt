@@ -1,18 +1,19 @@
-// What an op leaves: the variables that may be read in the basic block, the labels set and jumped to. h is the plan of its kind; its label is its last byte.
+// What an op leaves: the variables that may be read in the basic block, the labels set and jumped to. rank is that of its kind; its label is its last byte.
 ghost use mathlib.Core.Path.{_≡_};
 ghost use mathlib.Core.Bool.{false};
 ghost use mathlib.Core.List.{[], _∷_};
 ghost use Prim.Native.Nat.{_+_, _-_, _≤_, _<_};
 ghost use lib.ListN.{length, getD};
 ghost use Rattle.ops.specs.Kinds.{rowOf, kindTable};
-ghost use Rattle.ops.specs.Plans.{noOp, planOf, lengthIn};
+ghost use Rattle.ops.specs.Plans.{noOp, lengthIn, rankOf, planAt};
 ghost use Rattle.block.specs.Scan.{SameBeyond, recordAt, Stands, codesIn, openAll, FirstReady, LabelMarks, setsLabel, jumpsTo, Marks};
 use marks::put;
 use marks::put_number;
 use ops::MAX_VARIABLES;
 use plans::closes;
+use plans::labelled;
 use plans::length;
-use plans::more;
+use plans::plan;
 use plans::sets;
 use plans::straight;
 use rules::code;
@@ -28,21 +29,21 @@ fn open_first(block: &[u8], at: usize, vars: &mut [u8; 256])
 
 // Its label is set, or jumped to: a label's number is one more than its op's.
 fn mark_label(
-    h: u32,
+    rank: u8,
     block: &[u8],
     at: usize,
     op: usize,
     labels: &mut [u16; 256],
     targets: &mut [u8; 256],
 )
-    requires { ⌜ (at + lengthIn h ≤ length (now block)) × (1 < lengthIn h) × (op < 1024) ⌝ }
-    ensures { λ _. ⌜ LabelMarks (setsLabel h) (jumpsTo h) (getD (now (block .entry)) (at + lengthIn h - 1) 0) op (now (labels .entry)) (now (labels .exit)) (now (targets .entry)) (now (targets .exit)) ⌝ }
+    requires { ⌜ (at + lengthIn (planAt rank) ≤ length (now block)) × (1 < lengthIn (planAt rank)) × (op < 1024) ⌝ }
+    ensures { λ _. ⌜ LabelMarks (setsLabel rank) (jumpsTo rank) (getD (now (block .entry)) (at + lengthIn (planAt rank) - 1) 0) op (now (labels .entry)) (now (labels .exit)) (now (targets .entry)) (now (targets .exit)) ⌝ }
 {
-    if more(h) != 2 {
+    if !labelled(rank) {
         return;
     }
-    let l = block[at + length(h) - 1];
-    if sets(h) {
+    let l = block[at + length(plan(rank)) - 1];
+    if sets(rank) {
         put_number(labels, l, (op + 1) as u16);
         return;
     }
@@ -64,7 +65,7 @@ fn restart(base: &[u8; 256], vars: &mut [u8; 256])
 // What the op at a place leaves in the arrays; base: the variables' bytes at the start of a basic block.
 // Straight ops come first, so that their one branch is that of the fast test.
 pub fn mark_op(
-    h: u32,
+    rank: u8,
     block: &[u8],
     at: usize,
     op: usize,
@@ -73,17 +74,17 @@ pub fn mark_op(
     labels: &mut [u16; 256],
     targets: &mut [u8; 256],
 )
-    requires { ⌜ SameBeyond (now base) (now vars) × Stands rowOf (now block) at (getD (now block) at 0) × (op < 1024) × (h ≡ planOf (getD kindTable (getD (now block) at 0) 0)) × (noOp (getD kindTable (getD (now block) at 0) 0) ≡ false) × FirstReady h (now block) at (now vars) ⌝ }
+    requires { ⌜ SameBeyond (now base) (now vars) × Stands rowOf (now block) at (getD (now block) at 0) × (op < 1024) × (rank ≡ rankOf (getD kindTable (getD (now block) at 0) 0)) × (noOp (getD kindTable (getD (now block) at 0) 0) ≡ false) × FirstReady (getD kindTable (getD (now block) at 0) 0) (now block) at (now vars) ⌝ }
     ensures { λ r. ⌜ Marks rowOf (recordAt rowOf (now (block .entry)) at) op (now (base .entry)) (now (vars .entry)) (now (vars .exit)) (now (labels .entry)) (now (labels .exit)) (now (targets .entry)) (now (targets .exit)) ⌝ }
 {
-    if straight(h) {
+    if straight(rank) {
         open_first(block, at, vars);
         return;
     }
-    if !closes(h) {
+    if !closes(rank) {
         open_first(block, at, vars);
         return;
     }
     restart(base, vars);
-    mark_label(h, block, at, op, labels, targets);
+    mark_label(rank, block, at, op, labels, targets);
 }

@@ -5,9 +5,9 @@ ghost use Prim.Native.Nat.{_+_, _-_, _≤_, _<_};
 ghost use lib.ListN.{length, getD};
 ghost use Rattle.ops.specs.Rows.{outsIn, insIn, restIn, testIn, asksFor};
 ghost use Rattle.ops.specs.Kinds.{kindTable};
-ghost use Rattle.ops.specs.Plans.{planOf, lengthIn, firstAskIn};
+ghost use Rattle.ops.specs.Plans.{lengthBy, lengthIn, firstAskIn, rankOf};
 ghost use Rattle.block.specs.Checks.{firstBroken};
-ghost use Rattle.block.specs.Scan.{opTests, entryRule, Placed, codeAt, meets, threeFit, labelFits, moreOk, opPasses};
+ghost use Rattle.block.specs.Scan.{opTests, entryRule, Placed, codeAt, meets, threeFit, refusalTable, labelFits, moreOk, opPasses};
 use kinds::body_length;
 use kinds::is_known;
 use kinds::operand_count;
@@ -21,6 +21,7 @@ use plans::first_at;
 use plans::length;
 use plans::more;
 use plans::out_ask;
+use plans::plan;
 use plans::second_ask;
 use plans::second_at;
 use plans::straight;
@@ -82,26 +83,29 @@ fn more_ok(h: u32, block: &[u8], at: usize, vars: &[u8; 256], labels: &[u16; 256
     label_ok(h, block, at, labels)
 }
 
-// Whether an op, the op-th, stands at a place, whole, and meets every rule: the fast test. h is the plan of its kind.
+// Whether an op, the op-th, stands at a place, whole, and meets every rule: the fast test. rank is that of its kind, n the length of its record.
 pub fn op_ok(
-    h: u32,
+    rank: u8,
+    n: usize,
+    refusals: &[u8; 256],
     block: &[u8],
     at: usize,
     op: usize,
     vars: &[u8; 256],
     labels: &[u16; 256],
 ) -> bool
-    requires { ⌜ (at < length (now block)) × (h ≡ planOf (getD kindTable (getD (now block) at 0) 0)) ⌝ }
+    requires { ⌜ (at < length (now block)) × (rank ≡ rankOf (getD kindTable (getD (now block) at 0) 0)) × (n ≡ lengthBy (getD kindTable (getD (now block) at 0) 0)) × (now refusals ≡ refusalTable) ⌝ }
     ensures { λ r. ⌜ r ≡ opPasses (getD kindTable (getD (now (block .entry)) at 0) 0) (now (block .entry)) at op (now (vars .entry)) (now (labels .entry)) ⌝ }
 {
-    if block.len() - at < length(h) {
+    let h = plan(rank);
+    if block.len() - at < n {
         return false;
     }
     let x = block[at + byte_at(h)];
-    if !(three_fit(h, block, at, vars) & byte_ok(byte_test(h), x) & (op < MAX_OPS)) {
+    if !(three_fit(h, block, at, vars) & byte_ok(refusals, byte_test(h), x) & (op < MAX_OPS)) {
         return false;
     }
-    if straight(h) {
+    if straight(rank) {
         return true;
     }
     more_ok(h, block, at, vars, labels)

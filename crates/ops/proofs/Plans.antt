@@ -1,19 +1,20 @@
--- The digits of a plan are those that its entry gives, and the shapes that ops have: one computed test over the table. Assumes nothing.
-use mathlib.Core.Path.{_≡_, refl, sym, ap}
+-- The digits of a plan are those that its entry gives, what its rank tells, and the shapes that ops have: one computed test each over the table. Assumes nothing.
+use mathlib.Core.Path.{_≡_, refl, sym, ap, _∙_}
 use mathlib.Core.Bool.{Bool, true, false, cond, not, _&&_, _||_, Bool·beq}
+use mathlib.Core.List.{List, [], _∷_}
 use mathlib.Core.Logic.{_⊎_, inl, inr}
-use Prim.Native.Nat.{ℕ, _+_, _-_, _*_, _/_, _≤_, _<_}
+use Prim.Native.Nat.{ℕ, zero, suc, _+_, _-_, _*_, _/_, _≤_, _<_}
 use native.Mathlib.Omega.{arith}
 use lib.Dec.{eqb, ltb, leb}
-use lib.ListN.{getD}
+use lib.ListN.{length, getD}
 use borrow.Author.Tests.{eqb-true, ltb-true, ltb-false, leb-true}
 use Rattle.theory.proofs.Sets.{and-l, and-r, tell, clash}
 use Rattle.ops.specs.Rows.{outsIn, insIn, restIn, testIn, roleIn, typesOf, roleNo, isKnown, isClosing, isSetting, isJumping}
 use Rattle.ops.specs.Kinds.{kindTable}
-use Rattle.ops.specs.Plans.{typeIn, noOp, lengthBy, outAskBy, secondBy, inAskBy, inAtBy, byteTestBy, byteAtBy, moreBy, flag, planOf}
-use Rattle.ops.specs.Plans.{lengthIn, outAskIn, firstAskIn, secondAskIn, firstAtIn, secondAtIn, byteAtIn, byteTestIn, moreIn, closesIn, setsIn, exitPlan}
+use Rattle.ops.specs.Plans.{typeIn, noOp, lengthBy, outAskBy, secondBy, inAskBy, inAtBy, byteTestBy, byteAtBy, moreBy, planOf, each, standsFor, rankOf, planAt, straightEnd, exitRank, settingRank, rankTable, lengthTable}
+use Rattle.ops.specs.Plans.{lengthIn, outAskIn, firstAskIn, secondAskIn, firstAtIn, secondAtIn, byteAtIn, byteTestIn, moreIn}
 use Rattle.ops.proofs.Ranges.{every, listed, beq-same}
-use Rattle.ops.proofs.Table.{table-long, beyond}
+use Rattle.ops.proofs.Table.{table-long, past, beyond}
 
 -- the plan of an entry
 pub record Plan (e h : ℕ) : Type 0 where
@@ -26,8 +27,6 @@ pub record Plan (e h : ℕ) : Type 0 where
   pub byte-at : byteAtIn h ≡ byteAtBy e
   pub byte-test : byteTestIn h ≡ byteTestBy e
   pub more-so : moreIn h ≡ moreBy e
-  pub closes-so : closesIn h ≡ flag (ltb (roleIn e) 6)
-  pub sets-so : setsIn h ≡ flag (eqb (roleIn e) 2)
   pub no-op-so : eqb (lengthIn h) 15 ≡ noOp e
 
 -- both parts of a test that passes
@@ -48,7 +47,7 @@ digitsOk k e =
     && (eqb (secondAtIn h) (inAtBy e (secondBy e))
     && (eqb (byteAtIn h) (byteAtBy e)
     && (eqb (byteTestIn h) (byteTestBy e)
-    && (eqb (moreIn h) (moreBy e) && (eqb (closesIn h) (flag (ltb (roleIn e) 6)) && (eqb (setsIn h) (flag (eqb (roleIn e) 2)) && Bool·beq (eqb (lengthIn h) 15) (noOp e)))))))))))
+    && (eqb (moreIn h) (moreBy e) && Bool·beq (eqb (lengthIn h) 15) (noOp e)))))))))
 
 digits-right : every digitsOk 0 kindTable ≡ true
 unfolding planOf kindTable typesOf
@@ -64,9 +63,7 @@ by-digits k e t =
     let (a6, t6) = both _ _ t5 in
     let (a7, t7) = both _ _ t6 in
     let (a8, t8) = both _ _ t7 in
-    let (a9, t9) = both _ _ t8 in
-    let (a10, t10) = both _ _ t9 in
-    let (a11, a12) = both _ _ t10 in
+    let (a9, a10) = both _ _ t8 in
     record {
       length-so = eqb-true _ _ a1;
       out-ask = eqb-true _ _ a2;
@@ -77,9 +74,7 @@ by-digits k e t =
       byte-at = eqb-true _ _ a7;
       byte-test = eqb-true _ _ a8;
       more-so = eqb-true _ _ a9;
-      closes-so = eqb-true _ _ a10;
-      sets-so = eqb-true _ _ a11;
-      no-op-so = beq-same _ _ a12;
+      no-op-so = beq-same _ _ a10;
     }
 
 -- a test that every entry of the table passes, and 0, holds for every kind
@@ -249,30 +244,86 @@ no-op-so k {e} q n = go (tell (isKnown (roleNo (roleIn e)))) (or-not (not (noOp 
 abbrev readsOk : ℕ → ℕ → Bool
 readsOk k e =
     let h = planOf e in
-    noOp e || (not (eqb (closesIn h) 0) || (not (eqb (outAskIn h) 0) || (eqb (firstAtIn h) 1 && eqb (firstAskIn h / 16) 1)))
+    noOp e || (isClosing (roleNo (roleIn e)) || (not (eqb (outsIn e) 0) || (eqb (firstAtIn h) 1 && eqb (firstAskIn h / 16) 1)))
 
 reads-right : every readsOk 0 kindTable ≡ true
-unfolding planOf kindTable typesOf
+unfolding planOf kindTable typesOf roleNo
 reads-right = refl
 
-pub first-read : (k : ℕ) {e h : ℕ} → e ≡ getD kindTable k 0 → h ≡ planOf e → noOp e ≡ false → closesIn h ≡ 0 → outAskIn h ≡ 0 → (firstAtIn h ≡ 1) × (firstAskIn h / 16 ≡ 1)
-unfolding planOf typesOf
+pub first-read : (k : ℕ) {e h : ℕ} → e ≡ getD kindTable k 0 → h ≡ planOf e → noOp e ≡ false → isClosing (roleNo (roleIn e)) ≡ false → outsIn e ≡ 0
+    → (firstAtIn h ≡ 1) × (firstAskIn h / 16 ≡ 1)
+unfolding planOf typesOf roleNo
 first-read k {e} {h} q z n c o =
     let t : readsOk k e ≡ true = rw q (for-each readsOk reads-right (λ k. refl) k) in
-    let t′ : (not (eqb (closesIn h) 0) || (not (eqb (outAskIn h) 0) || (eqb (firstAtIn h) 1 && eqb (firstAskIn h / 16) 1))) ≡ true = rw z (or-not (noOp e) _ n t) in
-    let (a, b) = both _ _ (or-not (not (eqb (outAskIn h) 0)) _ (rw o) (or-not (not (eqb (closesIn h) 0)) _ (rw c) t′)) in
+    let t′ : (isClosing (roleNo (roleIn e)) || (not (eqb (outsIn e) 0) || (eqb (firstAtIn h) 1 && eqb (firstAskIn h / 16) 1))) ≡ true = rw z (or-not (noOp e) _ n t) in
+    let (a, b) = both _ _ (or-not (not (eqb (outsIn e) 0)) _ (rw o) (or-not (isClosing (roleNo (roleIn e))) _ c t′)) in
     (eqb-true _ _ a, eqb-true _ _ b)
 
--- no other op has the plan of exit_tb
-abbrev exitOk : ℕ → ℕ → Bool
-exitOk k e = noOp e || Bool·beq (eqb (planOf e) exitPlan) (eqb k 0x04)
+-- what the rank of an entry tells: its plan; of the straight ones, that nothing else is asked
+abbrev rankOk : ℕ → ℕ → Bool
+rankOk k e = let n = rankOf e in eqb (planAt n) (planOf e) && (not (ltb n straightEnd) || (eqb (moreBy e) 0 && not (ltb (roleIn e) 6)))
 
-exits-right : every exitOk 0 kindTable ≡ true
-unfolding planOf kindTable typesOf
-exits-right = refl
+ranks-right : every rankOk 0 kindTable ≡ true
+unfolding rankOf planAt planOf kindTable typesOf
+ranks-right = refl
 
-pub exits-so : (k : ℕ) {e h : ℕ} → e ≡ getD kindTable k 0 → h ≡ planOf e → noOp e ≡ false → eqb h exitPlan ≡ eqb k 0x04
-unfolding planOf typesOf
-exits-so k {e} {h} q z n =
-    let t : exitOk k e ≡ true = rw q (for-each exitOk exits-right (λ k. refl) k) in
-    rw z (beq-same _ _ (or-not (noOp e) _ n t))
+none-ranks : (k : ℕ) → rankOk k 0 ≡ true
+unfolding rankOf planAt planOf kindTable typesOf
+none-ranks k = refl
+
+ranked : (k : ℕ) {e : ℕ} → e ≡ getD kindTable k 0 → rankOk k e ≡ true
+ranked k q = rw q (for-each rankOk ranks-right none-ranks k)
+
+pub plan-at : (k : ℕ) {e n : ℕ} → e ≡ getD kindTable k 0 → n ≡ rankOf e → planAt n ≡ planOf e
+plan-at k {e} q r = rw r (eqb-true _ _ (both _ _ (ranked k q) .0))
+
+-- beyond the ranks of ops is the plan of none
+pub plan-none : (n : ℕ) → 21 ≤ n → 0x0254000f ≡ planAt n
+unfolding planAt planOf kindTable typesOf
+plan-none n l = let z : getD standsFor n 0 ≡ 0 = past standsFor n l in rw z
+
+pub straight-so : (k : ℕ) {e n : ℕ} → e ≡ getD kindTable k 0 → n ≡ rankOf e → ltb n straightEnd ≡ true → (moreBy e ≡ 0) × (ltb (roleIn e) 6 ≡ false)
+straight-so k {e} {n} q r y =
+    let t = or-not (not (ltb (rankOf e) straightEnd)) _ (ap not (rw r at y)) (both (eqb (planAt (rankOf e)) (planOf e)) _ (ranked k q) .1) in
+    let (a, b) = both _ _ t in
+    (eqb-true _ _ a, not-so _ b)
+
+-- and of an op, whether it ends a basic block, what it does to a label, and whether it is exit_tb
+pub record RankedOp (k e n : ℕ) : Type 0 where
+  pub closes : leb exitRank n ≡ isClosing (roleNo (roleIn e))
+  pub sets : eqb n settingRank ≡ isSetting (roleNo (roleIn e))
+  pub jumps : (ltb exitRank n && not (eqb n settingRank)) ≡ isJumping (roleNo (roleIn e))
+  pub exits : eqb n exitRank ≡ eqb k 0x04
+
+abbrev flowOk : ℕ → ℕ → Bool
+flowOk k e =
+    let n = rankOf e in
+    let r = roleNo (roleIn e) in
+    noOp e
+    || (Bool·beq (leb exitRank n) (isClosing r)
+    && (Bool·beq (eqb n settingRank) (isSetting r) && (Bool·beq (ltb exitRank n && not (eqb n settingRank)) (isJumping r) && Bool·beq (eqb n exitRank) (eqb k 0x04))))
+
+flows-right : every flowOk 0 kindTable ≡ true
+unfolding rankOf kindTable roleNo
+flows-right = refl
+
+pub ranked-op : (k : ℕ) {e n : ℕ} → e ≡ getD kindTable k 0 → n ≡ rankOf e → noOp e ≡ false → RankedOp k e n
+unfolding roleNo
+ranked-op k {e} {n} q r none =
+    let t : flowOk k e ≡ true = rw q (for-each flowOk flows-right (λ k. refl) k) in
+    let (a1, t1) = both _ _ (or-not (noOp e) _ none t) in
+    let (a2, t2) = both _ _ t1 in
+    let (a3, a4) = both _ _ t2 in
+    rw r (record { closes = beq-same _ _ a1; sets = beq-same _ _ a2; jumps = beq-same _ _ a3; exits = beq-same _ _ a4 })
+
+-- tables of what an entry gives
+each-at : (f : ℕ → ℕ) (es : List ℕ) (k : ℕ) → k < length es → getD (each f es) k 0 ≡ f (getD es k 0)
+each-at f [] k h = absurd (omega arith)
+each-at f (e ∷ es) zero h = refl
+each-at f (e ∷ es) (suc k) h = each-at f es k (omega arith)
+
+pub rank-in : {ranks : List ℕ} {n : ℕ} (k : ℕ) → k < 256 → n ≡ getD ranks k 0 → ranks ≡ rankTable → n ≡ rankOf (getD kindTable k 0)
+rank-in k l q z = q ∙ ap (λ (ts : List ℕ). getD ts k 0) z ∙ each-at rankOf kindTable k (rw table-long l)
+
+pub length-in : {lengths : List ℕ} {n : ℕ} (k : ℕ) → k < 256 → n ≡ getD lengths k 0 → lengths ≡ lengthTable → n ≡ lengthBy (getD kindTable k 0)
+length-in k l q z = q ∙ ap (λ (ts : List ℕ). getD ts k 0) z ∙ each-at lengthBy kindTable k (rw table-long l)

@@ -72,7 +72,7 @@ at-kind : (k : ℕ) → k < 256 → right k (getD kindTable k 0) ≡ true
 at-kind k h = listed right kindTable all-right k (rw table-long h)
 
 -- past the table
-past : (xs : List ℕ) (k : ℕ) → length xs ≤ k → getD xs k 0 ≡ 0
+pub past : (xs : List ℕ) (k : ℕ) → length xs ≤ k → getD xs k 0 ≡ 0
 past [] k h = refl
 past (x ∷ xs) zero h = absurd (omega arith)
 past (x ∷ xs) (suc k) h = past xs k (omega arith)

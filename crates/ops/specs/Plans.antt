@@ -48,21 +48,11 @@ byteAtBy e = cond (eqb (byteTestBy e) 0) 0 (1 + (outsIn e + insIn e))
 abbrev pub moreBy : ℕ → ℕ
 moreBy e = cond (eqb (insIn e) 4) 3 (cond (eqb (testIn e) 8) 1 (cond (eqb (testIn e) 1 || eqb (testIn e) 3) 2 0))
 
-abbrev pub flag : Bool → ℕ
-flag b = cond b 1 0
-
 -- the plan, in digits from the lowest
 unfoldable pub planOf : ℕ → ℕ
 planOf e =
     lengthBy e + 2 ^ 4 * outAskBy e + 2 ^ 8 * inAskBy e (outsIn e) + 2 ^ 13 * inAskBy e (secondBy e) + 2 ^ 18 * inAtBy e (outsIn e) + 2 ^ 20 * inAtBy e (secondBy e)
-    + 2 ^ 22 * byteAtBy e + 2 ^ 25 * byteTestBy e + 2 ^ 28 * moreBy e + 2 ^ 30 * flag (ltb (roleIn e) 6) + 2 ^ 31 * flag (eqb (roleIn e) 2)
-
-abbrev pub planned : List ℕ → List ℕ
-planned [] = []
-planned (e ∷ es) = planOf e ∷ planned es
-
-abbrev pub planTable : List ℕ
-planTable = planned kindTable
+    + 2 ^ 22 * byteAtBy e + 2 ^ 25 * byteTestBy e + 2 ^ 28 * moreBy e
 
 -- its digits
 abbrev pub lengthIn : ℕ → ℕ
@@ -92,16 +82,40 @@ byteTestIn h = h / 33554432 % 8
 abbrev pub moreIn : ℕ → ℕ
 moreIn h = h / 268435456 % 4
 
--- nothing else is asked, and the basic block goes on
-abbrev pub straightIn : ℕ → Bool
-straightIn h = ltb h (2 ^ 28)
+-- kinds that stand for all that have the same entry: first those of which nothing else is asked and after which the basic block goes on, last
+-- those that end one, exit_tb before those that have a label, set_label after these
+abbrev pub standsFor : List ℕ
+standsFor =
+    0x2b ∷ 0xab ∷ 0x2c ∷ 0xac ∷ 0x90 ∷ 0x05 ∷ 0x07 ∷ 0x11 ∷ 0x91 ∷ 0x14 ∷ 0x94 ∷ 0x28 ∷ 0xa8
+    ∷ 0x29 ∷ 0xa9 ∷ 0x10 ∷ 0x04 ∷ 0x03 ∷ 0x2a ∷ 0xaa ∷ 0x02 ∷ []
 
-abbrev pub closesIn : ℕ → ℕ
-closesIn h = h / 1073741824 % 2
+-- the rank of an entry is its place among theirs, 21 if it is none of an op
+abbrev pub rankAmong : ℕ → List ℕ → ℕ
+rankAmong e [] = 0
+rankAmong e (k ∷ ks) = cond (eqb e (getD kindTable k 0)) 0 (suc (rankAmong e ks))
 
-abbrev pub setsIn : ℕ → ℕ
-setsIn h = h / 2147483648
+unfoldable pub rankOf : ℕ → ℕ
+rankOf e = rankAmong e standsFor
 
--- the plan of exit_tb
-abbrev pub exitPlan : ℕ
-exitPlan = 0x40165202
+unfoldable pub planAt : ℕ → ℕ
+planAt n = planOf (getD kindTable (getD standsFor n 0) 0)
+
+-- what a rank tells
+abbrev pub straightEnd : ℕ
+straightEnd = 13
+
+abbrev pub exitRank : ℕ
+exitRank = 16
+
+abbrev pub settingRank : ℕ
+settingRank = 20
+
+abbrev pub each : (ℕ → ℕ) → List ℕ → List ℕ
+each f [] = []
+each f (e ∷ es) = f e ∷ each f es
+
+abbrev pub rankTable : List ℕ
+rankTable = each rankOf kindTable
+
+abbrev pub lengthTable : List ℕ
+lengthTable = each lengthBy kindTable

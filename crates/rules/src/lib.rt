@@ -1,7 +1,7 @@
 // The rules of one op, each by itself. e is the entry of its kind.
 ghost use mathlib.Core.Path.{_≡_};
 ghost use mathlib.Core.Bool.{true, not, _&&_, _||_};
-ghost use Prim.Native.Nat.{_+_, _%_, _≤_, _<_, _^_};
+ghost use Prim.Native.Nat.{_+_, _/_, _%_, _^_, _≤_, _<_};
 ghost use lib.Dec.{eqb, ltb};
 ghost use lib.ListN.{length, getD, take, drop};
 ghost use Rattle.memory.specs.Bytes.{lowFirst};
@@ -9,7 +9,7 @@ ghost use Rattle.ops.specs.Rows.{outsIn, insIn, restIn, testIn, rowIn, condOk, 
 ghost use Rattle.ops.specs.Ops.{bytesAt};
 ghost use Rattle.block.specs.Rules.{labelFree, allSet};
 ghost use Rattle.ops.specs.Plans.{ask};
-ghost use Rattle.block.specs.Scan.{codesIn, declaredAll, meets, operandsFit, refusedBytes, byteOk, marked, numbered};
+ghost use Rattle.block.specs.Scan.{codesIn, declaredAll, meets, operandsFit, marked, numbered};
 use kinds::body_length;
 use kinds::is_jumping;
 use kinds::is_setting;
@@ -17,6 +17,8 @@ use kinds::test;
 use memory::flags_ok;
 use memory::low_first;
 use ops::LABELS;
+
+pub mod refusals;
 
 // A variable's byte.
 pub fn code(vars: &[u8; 256], v: u8) -> u8
@@ -105,29 +107,18 @@ pub fn rest_ok(e: u32, block: &[u8], p: usize) -> bool
     }
 }
 
-// The test of one byte after the operands by its number: the bytes below 32 that it refuses, a bit each. With an arm for each number below 8 it is
-// one load.
-fn refused_bytes(t: u32) -> u32
-    ensures { λ r. ⌜ r ≡ refusedBytes t ⌝ }
+// The tests that refuse a byte, in a table of those of each.
+fn refused_by(refusals: &[u8; 256], x: u8) -> u8
+    ensures { λ r. ⌜ r ≡ getD (now (refusals .entry)) x 0 ⌝ }
 {
-    match t {
-        0 => 0,
-        1 => 0xffff_ffff,
-        2 => 0xffff_fc00,
-        3 => 0,
-        4 => 0xffff_8888,
-        5 => 0xffff_0000,
-        6 => 0xffff_f8f8,
-        7 => 0xffff_f0f0,
-        _ => 0,
-    }
+    refusals[x as usize]
 }
 
-// A byte from 32 on passes no test but 0, which asks nothing: one sum is both, without a branch.
-pub fn byte_ok(t: u32, x: u8) -> bool
-    ensures { λ r. ⌜ r ≡ byteOk t x ⌝ }
+// The test of one byte after the operands, by its number.
+pub fn byte_ok(refusals: &[u8; 256], t: u32, x: u8) -> bool
+    ensures { λ r. ⌜ r ≡ eqb (getD (now (refusals .entry)) x 0 / 2 ^ (t % 8) % 2) 0 ⌝ }
 {
-    (refused_bytes(t) >> (x % 32)) % 2 + (x / 32) as u32 * (t % 8) == 0
+    (refused_by(refusals, x) as u32 >> (t % 8)) % 2 == 0
 }
 
 // Whether a label is set.

@@ -5,7 +5,7 @@ ghost use Prim.Native.Nat.{_<_};
 ghost use lib.Dec.{eqb};
 ghost use lib.ListN.{length, getD, replicate};
 ghost use Rattle.ops.specs.Kinds.{rowOf, kindTable};
-ghost use Rattle.ops.specs.Plans.{exitPlan};
+ghost use Rattle.ops.specs.Plans.{exitRank};
 ghost use Rattle.block.specs.Scan.{entryRule, endRule, Begins, ScannedBy, Scanned};
 use declarations::scan_declarations;
 use kinds::entry;
@@ -14,9 +14,10 @@ use op_tests::op_ok;
 use op_tests::record_rule;
 use ops::LABELS;
 use plans::EXIT;
-use plans::length;
-use plans::plan;
+use plans::rank;
+use plans::record_length;
 use rules::all_set;
+use rules::refusals;
 
 // What the scan of the ops finds: the rule that is broken and its place, or 0 and how many ops there are.
 pub struct Ops {
@@ -39,9 +40,9 @@ fn stopped(block: &[u8], at: usize, ops: usize, vars: &[u8; 256], labels: &[u16;
     }
 }
 
-// The rule that is broken at the end, after an op with the plan last; 0 if none.
-fn end_rule(last: u32, targets: &[u8; 256], labels: &[u16; 256]) -> u8
-    ensures { λ r. ⌜ r ≡ endRule (eqb last exitPlan) (now (targets .entry)) (now (labels .entry)) ⌝ }
+// The rule that is broken at the end, after an op with the rank last; 0 if none.
+fn end_rule(last: u8, targets: &[u8; 256], labels: &[u16; 256]) -> u8
+    ensures { λ r. ⌜ r ≡ endRule (eqb last exitRank) (now (targets .entry)) (now (labels .entry)) ⌝ }
 {
     if last != EXIT {
         return 10;
@@ -63,23 +64,26 @@ fn scan_ops(
     requires { ⌜ Begins rowOf (now block) (now base) start × (now labels ≡ replicate 256 0) ⌝ }
     ensures { λ r. ⌜ ScannedBy rowOf (now (block .entry)) start (now (places .entry)) (now (places .exit)) (now (labels .exit)) (r .rule) (r .place) (r .ops) ⌝ }
 {
-    let plans = plans::table();
+    let ranks = plans::ranks();
+    let lengths = plans::lengths();
+    let refusals = refusals::table();
     let mut vars = *base;
     let mut targets = [0u8; 256];
     let mut at = start;
     let mut ops: usize = 0;
-    let mut last: u32 = 0;
+    let mut last: u8 = 0;
     while at < block.len() {
         let kind = block[at];
-        let h = plan(&plans, kind);
-        if !op_ok(h, block, at, ops, &vars, labels) {
+        let r = rank(&ranks, kind);
+        let n = record_length(&lengths, kind);
+        if !op_ok(r, n, &refusals, block, at, ops, &vars, labels) {
             return stopped(block, at, ops, &vars, labels);
         }
-        mark_op(h, block, at, ops, base, &mut vars, labels, &mut targets);
+        mark_op(r, block, at, ops, base, &mut vars, labels, &mut targets);
         places[ops] = (at % 65536) as u16;
         ops += 1;
-        last = h;
-        at += length(h);
+        last = r;
+        at += n;
     }
     Ops {
         rule: end_rule(last, &targets, labels),

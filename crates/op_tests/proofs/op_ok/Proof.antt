@@ -1,35 +1,56 @@
 -- `op_ok` is the fast test of an op. Assumes nothing.
-use mathlib.Core.Path.{_≡_, refl, sym, ap₂, _∙_}
+use mathlib.Core.Path.{_≡_, refl, sym, ap, _∙_}
 use mathlib.Core.Bool.{_&&_}
-use Prim.Native.Nat.{ℕ, _+_, _≤_, _-_}
+use Prim.Native.Nat.{ℕ, _+_, _≤_, _<_, _-_}
 use native.Mathlib.Omega.{arith}
 use lib.Dec.{ltb}
 use lib.ListN.{length, getD}
 use borrow.Author.Needs.{needs}
 use borrow.Author.Tests.{not-true, not-false}
+use Rattle.ops.specs.Kinds.{kindTable}
 use Rattle.ops.specs.Limits.{maxOps}
-use Rattle.ops.specs.Plans.{lengthIn, byteAtIn, byteTestIn}
+use Rattle.ops.specs.Plans.{planOf, lengthIn, byteAtIn, byteTestIn}
+use Rattle.ops.proofs.Plans.{plan-at, straight-so}
 use Rattle.block.specs.Scan.{Placed, threeFit, byteOk}
-use Rattle.block.proofs.Quick.{fails-short, placed, fails-fit, passes-so, passes-straight, both-so}
+use Rattle.block.proofs.Quick.{length-is, fails-short, placed, fails-fit, passes-so, passes-straight, byte-refused, both-so}
 use Rattle.op_tests.proofs.op_ok.Statement.{statement}
 use Rattle.op_tests.proofs.op_ok.Tie as tie
 
+-- the kind, and the plan of its rank
+abbrev kind : tie.After-plan → ℕ
+kind k = let a = k .before .before .args in getD (a .block .now) (a .at) 0
+
+its-plan : (k : tie.After-plan) → k .plan .result ≡ planOf (getD kindTable (kind k) 0)
+its-plan k = k .plan .ensures ∙ plan-at (kind k) refl (k .before .before .pre .1)
+
+long : (k : tie.After-plan) → k .before .before .args .n ≡ lengthIn (k .plan .result)
+long k =
+    let a = k .before .before .args in
+    length-is (a .block .now) (a .at) (a .op) (a .vars .now) (a .labels .now) (kind k) refl refl (its-plan k) (k .before .before .pre .2)
+
 returns : tie.Need-returns
 returns c =
-    let s = c .before .before .before in
-    fails-short (s .args .block .now) (s .args .at) (s .args .op) (s .args .vars .now) (s .args .labels .now) (getD (s .args .block .now) (s .args .at) 0) refl refl (s .pre .1) (omega (arith, c .if1 .taken, c .before .length .ensures))
+    let k = c .before in
+    let s = k .before .before in
+    fails-short (s .args .block .now) (s .args .at) (s .args .op) (s .args .vars .now) (s .args .labels .now) (kind k) refl refl (its-plan k) (omega (arith, c .if1 .taken, long k))
 
 -- what the first test leaves
+abbrev planned : tie.Else1 → tie.After-plan
+planned k = k .before
+
 abbrev start : tie.Else1 → tie.Start
-start k = k .before .before .before
+start k = planned k .before .before
 
-whole : (k : tie.Else1) → lengthIn (start k .args .h) ≤ length (start k .args .block .now) - start k .args .at
-whole k = omega (arith, k .if1 .left, k .before .length .ensures)
+abbrev h : tie.Else1 → ℕ
+h k = planned k .plan .result
 
-inside : (k : tie.Else1) → Placed (start k .args .h) (start k .args .block .now) (start k .args .at)
+whole : (k : tie.Else1) → lengthIn (h k) ≤ length (start k .args .block .now) - start k .args .at
+whole k = omega (arith, k .if1 .left, long (planned k))
+
+inside : (k : tie.Else1) → Placed (h k) (start k .args .block .now) (start k .args .at)
 inside k =
     let s = start k in
-    placed (s .args .block .now) (s .args .at) (s .args .op) (s .args .vars .now) (s .args .labels .now) (getD (s .args .block .now) (s .args .at) 0) refl refl (s .pre .1) (whole k) (s .pre .0)
+    placed (s .args .block .now) (s .args .at) (s .args .op) (s .args .vars .now) (s .args .labels .now) (kind (planned k)) refl refl (its-plan (planned k)) (whole k) (s .pre .0)
 
 shared-slice-read-x : tie.Need-shared-slice-read-x
 shared-slice-read-x c = let p = inside (c .before .before) in omega (arith, p .whole, p .byte, c .before .byte-at .ensures)
@@ -38,37 +59,44 @@ shared-slice-read-x c = let p = inside (c .before .before) in omega (arith, p .w
 abbrev entered : tie.After-byte-ok → tie.Else1
 entered k = k .before .before .before .before .before
 
+tested : (k : tie.After-byte-ok) → let a = start (entered k) .args in k .byte-ok .result ≡ byteOk (byteTestIn (h (entered k))) (getD (a .block .now) (a .at + byteAtIn (h (entered k))) 0)
+tested k =
+    let e = entered k in
+    let a = start e .args in
+    let t = k .before .byte-test .ensures in
+    let i = k .before .before .before .before .byte-at .ensures in
+    let small = k .before .before .before .shared-slice-known2 .given (a .at + k .before .before .before .before .byte-at .result) in
+    byte-refused (start e .pre .3) (omega (arith, t)) (omega (arith, small)) (k .byte-ok .ensures)
+    ∙ ap (λ (t : ℕ). byteOk t (getD (a .block .now) (a .at + k .before .before .before .before .byte-at .result) 0)) t
+    ∙ ap (λ (i : ℕ). byteOk (byteTestIn (h e)) (getD (a .block .now) (a .at + i) 0)) i
+
 tests : (k : tie.After-byte-ok) → let a = start (entered k) .args in
-    (k .before .before .three-fit .result && k .byte-ok .result && ltb (a .op) maxOps) ≡ (threeFit (a .h) (a .block .now) (a .at) (a .vars .now) && byteOk (byteTestIn (a .h)) (getD (a .block .now) (a .at + byteAtIn (a .h)) 0) && ltb (a .op) maxOps)
-tests k =
-    let a = start (entered k) .args in
-    both-so
-    (both-so (k .before .before .three-fit .ensures)
-    (k .byte-ok .ensures ∙ ap₂ (λ (t i : ℕ). byteOk t (getD (a .block .now) (a .at + i) 0)) (k .before .byte-test .ensures) (k .before .before .before .before .byte-at .ensures)))
-    refl
+    (k .before .before .three-fit .result && k .byte-ok .result && ltb (a .op) maxOps)
+    ≡ (threeFit (h (entered k)) (a .block .now) (a .at) (a .vars .now) && byteOk (byteTestIn (h (entered k))) (getD (a .block .now) (a .at + byteAtIn (h (entered k))) 0) && ltb (a .op) maxOps)
+tests k = both-so (both-so (k .before .before .three-fit .ensures) (tested k)) refl
 
 returns-2 : tie.Need-returns-2
 returns-2 c =
     let k = entered (c .before) in
     let s = start k in
-    fails-fit (s .args .block .now) (s .args .at) (s .args .op) (s .args .vars .now) (s .args .labels .now) (getD (s .args .block .now) (s .args .at) 0) refl refl (s .pre .1) (whole k) (s .pre .0) (sym (tests (c .before)) ∙ not-true _ (c .if2 .taken))
+    fails-fit (s .args .block .now) (s .args .at) (s .args .op) (s .args .vars .now) (s .args .labels .now) (kind (planned k)) refl refl (its-plan (planned k)) (whole k) (s .pre .0) (sym (tests (c .before)) ∙ not-true _ (c .if2 .taken))
 
 returns-3 : tie.Need-returns-3
 returns-3 c =
     let b = c .before .before .before in
     let k = entered b in
     let s = start k in
-    passes-straight (s .args .block .now) (s .args .at) (s .args .op) (s .args .vars .now) (s .args .labels .now) (getD (s .args .block .now) (s .args .at) 0) refl refl (s .pre .1) (whole k) (s .pre .0) (sym (tests b) ∙ not-false _ (c .before .before .if2 .left)) (sym (c .before .straight .ensures) ∙ c .if3 .taken)
+    passes-straight (s .args .block .now) (s .args .at) (s .args .op) (s .args .vars .now) (s .args .labels .now) (kind (planned k)) refl refl (its-plan (planned k)) (whole k) (s .pre .0) (sym (tests b) ∙ not-false _ (c .before .before .if2 .left)) (straight-so (kind (planned k)) refl (s .pre .1) (sym (c .before .straight .ensures) ∙ c .if3 .taken) .0)
 
 returns-4 : tie.Need-returns-4
 returns-4 c =
     let b = c .before .before .before .before in
     let k = entered b in
     let s = start k in
-    passes-so (s .args .block .now) (s .args .at) (s .args .op) (s .args .vars .now) (s .args .labels .now) (getD (s .args .block .now) (s .args .at) 0) refl refl (s .pre .1) (whole k) (s .pre .0) (sym (tests b) ∙ not-false _ (c .before .before .before .if2 .left)) (c .more-ok .ensures)
+    passes-so (s .args .block .now) (s .args .at) (s .args .op) (s .args .vars .now) (s .args .labels .now) (kind (planned k)) refl refl (its-plan (planned k)) (whole k) (s .pre .0) (sym (tests b) ∙ not-false _ (c .before .before .before .if2 .left)) (c .more-ok .ensures)
 
 pub op-ok-spec : {M : Type 1} → statement M
 op-ok-spec =
     tie.close
-    (tie.spec (λ c. search needs) (λ c κs. search needs) returns (λ c κs. search needs) (λ c. search needs) shared-slice-read-x (λ c κs. inside (c .before .before)) (λ c κs. search needs)
+    (tie.spec (λ c κs. search needs) (λ c. search needs) returns (λ c κs. search needs) (λ c. search needs) shared-slice-read-x (λ c κs. inside (c .before .before)) (λ c κs. search needs)
     (λ c κs. search needs) returns-2 (λ c κs. search needs) returns-3 (λ c κs. inside (entered (c .before .before .before))) returns-4)
