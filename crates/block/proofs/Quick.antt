@@ -9,7 +9,7 @@ use lib.Bits.{bitAnd}
 use lib.Dec.{eqb, ltb, leb}
 use lib.ListN.{length, getD, take, drop}
 use lib.Seq.{getD-take, getD-drop}
-use native.Mathlib.Nat.{add-zero, mod-eq-of-lt}
+use native.Mathlib.Nat.{add-zero}
 use borrow.Author.Tests.{eqb-true, ltb-true, ltb-false, lt-ltb, le-ltb, le-leb, lt-leb, leb-true, eq-eqb, ne-eqb}
 use Rattle.theory.proofs.Sets.{tell, and-l, and-r, clash}
 use Rattle.memory.specs.Access.{flagsOk}
@@ -17,7 +17,7 @@ use Rattle.memory.specs.Bytes.{lowFirst}
 use Rattle.ops.specs.Limits.{maxOps, labelCount}
 use Rattle.ops.specs.Rows.{outsIn, insIn, restIn, testIn, roleIn, typesIn, typesOf, rowIn, roleNo, isKnown, isClosing, isSetting, isJumping, at, condOk, labelOk, testOk, asksFor}
 use Rattle.ops.specs.Kinds.{kindTable}
-use Rattle.ops.specs.Plans.{typeIn, noOp, lengthBy, outAskBy, secondBy, inAskBy, inAtBy, byteTestBy, byteAtBy, moreBy, planOf, lengthIn, outAskIn, firstAskIn, secondAskIn, firstAtIn, secondAtIn, byteAtIn, byteTestIn, moreIn}
+use Rattle.ops.specs.Plans.{typeIn, noOp, lengthBy, outAskBy, secondBy, inAskBy, inAtBy, byteTestBy, askOf, byteAtBy, moreBy, planOf, lengthIn, outAskIn, firstAskIn, secondAskIn, firstAtIn, secondAtIn, byteAtIn, byteAskIn, moreIn}
 use Rattle.ops.proofs.Plans.{Plan, plan, Sort, plainly, four-inputs, constant-sort, labelled, Sorted, sorted, no-op-so, no-plan, or-not, first-read}
 use Rattle.ops.proofs.Ranges.{everyFrom, ranged, beq-same}
 use Rattle.ops.proofs.Table.{asks-few}
@@ -155,7 +155,7 @@ unlike q = omega (arith, ap (λ (b : Bool). cond {A = ℕ} b 0 1) q)
 
 -- a table of the tests that refuse a byte has a bit for each
 refusalOk : ℕ → ℕ → Bool
-refusalOk t x = Bool·beq (eqb (refusalsOf x / 2 ^ t % 2) 0) (byteOk t x)
+refusalOk t x = Bool·beq (eqb (bitAnd (refusalsOf x) (askOf t)) 0) (byteOk t x)
 
 refusals-right : everyFrom (λ t. everyFrom (refusalOk t) 0 256) 0 8 ≡ true
 unfolding refusalOk refusalsOf byteOk testOk flagsOk
@@ -166,12 +166,12 @@ refusals-at zero x k l = absurd (omega arith)
 refusals-at (suc n) x zero l = ap refusalsOf (sym (add-zero x))
 refusals-at (suc n) x (suc k) l = refusals-at n (suc x) k (omega arith) ∙ ap refusalsOf (omega arith)
 
-pub byte-refused : {table : List ℕ} {t x : ℕ} {r : Bool} → table ≡ refusalTable → t < 8 → x < 256 → r ≡ eqb (getD table x 0 / 2 ^ (t % 8) % 2) 0 → r ≡ byteOk t x
+byte-refused : {table : List ℕ} {t x a : ℕ} {r : Bool} → table ≡ refusalTable → t < 8 → a ≡ askOf t → x < 256 → r ≡ eqb (bitAnd (getD table x 0) a) 0 → r ≡ byteOk t x
 unfolding refusalOk
-byte-refused {table} {t} {x} {r} z l m e =
+byte-refused {table} {t} {x} {r = r} z l w m e =
     let y : getD table x 0 ≡ refusalsOf x = ap (λ (ts : List ℕ). getD ts x 0) z ∙ refusals-at 256 0 x m ∙ ap refusalsOf (omega arith) in
     let o = ranged (refusalOk t) 256 0 (ranged (λ t. everyFrom (refusalOk t) 0 256) 8 0 refusals-right t (omega arith) (omega arith)) x (omega arith) (omega arith) in
-    e ∙ ap₂ (λ (a i : ℕ). eqb (a / 2 ^ i % 2) 0) y (mod-eq-of-lt l) ∙ beq-same _ _ o
+    e ∙ ap₂ (λ (a i : ℕ). eqb (bitAnd a i) 0) y w ∙ beq-same _ _ o
 
 first-only : (t : ℕ) (bytes : List ℕ) → t < 8 → byteTest t ≡ true → testOk t bytes ≡ testOk t (at bytes 0 ∷ [])
 unfolding testOk byteTest
@@ -256,7 +256,7 @@ module _ (b : List ℕ) (p : ℕ) (vars labels : List ℕ) {e h : ℕ} (g : Plan
   rest = testOk (testIn e) (take (restIn e) (drop (p + 1 + count) b))
 
   abbrev byte : Bool
-  byte = byteOk (byteTestIn h) (getD b (p + byteAtIn h) 0)
+  byte = byteOk (byteTestBy e) (getD b (p + byteAtIn h) 0)
 
   abbrev more : Bool
   more = moreOk h b p vars labels
@@ -269,13 +269,13 @@ module _ (b : List ℕ) (p : ℕ) (vars labels : List ℕ) {e h : ℕ} (g : Plan
 
   -- the byte after the operands is all that is tested, or more
   byte-none : byteTestBy e ≡ 0 → byte ≡ true
-  byte-none y = ap (λ (t : ℕ). byteOk t (getD b (p + byteAtIn h) 0)) (g .byte-test ∙ y) ∙ zero-ok (getD b (p + byteAtIn h) 0)
+  byte-none y = ap (λ (t : ℕ). byteOk t (getD b (p + byteAtIn h) 0)) y ∙ zero-ok (getD b (p + byteAtIn h) 0)
 
   byte-there : {t : ℕ} → byteTestBy e ≡ suc t → byte ≡ byteOk (suc t) (at b (p + 1 + count))
   byte-there {t} y =
       let m : byteAtBy e ≡ 1 + count = rw (y, ne-eqb (suc t) 0 (λ u. omega arith)) in
       let n : p + byteAtIn h ≡ p + 1 + count = omega (arith, g .byte-at, m) in
-      ap₂ (λ (t i : ℕ). byteOk t (at b i)) (g .byte-test ∙ y) n
+      ap₂ (λ (t i : ℕ). byteOk t (at b i)) y n
 
   rest-byte : byteTestBy e ≡ testIn e → rest ≡ byte
   rest-byte y = go (testIn e) refl (single (testIn e) (rw some-op at y))
@@ -358,6 +358,12 @@ module _ (b : List ℕ) (p ops : ℕ) (vars labels : List ℕ) (k : ℕ) {e h : 
   pub length-is : {n : ℕ} → n ≡ lengthBy e → n ≡ lengthIn h
   length-is w = w ∙ sym (its-plan .length-so)
 
+  -- the byte that is tested, by a table
+  pub byte-is : {table : List ℕ} {a i : ℕ} {r : Bool} → table ≡ refusalTable → a ≡ byteAskIn h → i ≡ byteAtIn h → getD b (p + i) 0 < 256 → r ≡ eqb (bitAnd (getD table (getD b (p + i) 0) 0) a) 0
+      → r ≡ byteOk (byteTestBy e) (getD b (p + byteAtIn h) 0)
+  byte-is {i = i} z w u m r =
+      byte-refused z (its-plan .byte-few) (w ∙ its-plan .byte-ask) m r ∙ ap (λ (i : ℕ). byteOk (byteTestBy e) (getD b (p + i) 0)) u
+
   length-so : noOp e ≡ false → lengthIn h ≡ 1 + (outsIn e + insIn e + restIn e)
   length-so n = its-plan .length-so ∙ rw n
 
@@ -426,7 +432,7 @@ module _ (b : List ℕ) (p ops : ℕ) (vars labels : List ℕ) (k : ℕ) {e h : 
           inputs = λ m. more-in 3 m (op .sort) .0 refl;
         }
 
-    alike : ops < 256 → (threeFit h b p vars && byteOk (byteTestIn h) (getD b (p + byteAtIn h) 0) && moreOk h b p vars labels) ≡ passes
+    alike : ops < 256 → (threeFit h b p vars && byteOk (byteTestBy e) (getD b (p + byteAtIn h) 0) && moreOk h b p vars labels) ≡ passes
     alike few = quick-so b p vars labels its-plan (asks-few k q) is-op (op .few-outs) (length-so is-op) (op .sort) ∙ sym (rw (stands-here, lt-ltb ops maxOps few))
 
   -- no op: no byte passes its test
@@ -447,8 +453,8 @@ module _ (b : List ℕ) (p ops : ℕ) (vars labels : List ℕ) (k : ℕ) {e h : 
           inputs = λ m. absurd (omega (arith, its-plan .more-so, o .more, m));
         }
 
-    none-byte : byteOk (byteTestIn h) (getD b (p + byteAtIn h) 0) ≡ false
-    none-byte = let t : byteTestIn h ≡ 1 = its-plan .byte-test ∙ rw n in ap (λ (t : ℕ). byteOk t (getD b (p + byteAtIn h) 0)) t ∙ one-no (getD b (p + byteAtIn h) 0)
+    none-byte : byteOk (byteTestBy e) (getD b (p + byteAtIn h) 0) ≡ false
+    none-byte = let t : byteTestBy e ≡ 1 = rw n in ap (λ (t : ℕ). byteOk t (getD b (p + byteAtIn h) 0)) t ∙ one-no (getD b (p + byteAtIn h) 0)
 
   module _ (l : lengthIn h ≤ length b - p) (here : p < length b) where
     pub placed : Placed h b p
@@ -460,7 +466,7 @@ module _ (b : List ℕ) (p ops : ℕ) (vars labels : List ℕ) (k : ℕ) {e h : 
 
     -- the tests of the operands and of the byte, and that it is not one op too many
     abbrev tested-byte : Bool
-    tested-byte = byteOk (byteTestIn h) (getD b (p + byteAtIn h) 0)
+    tested-byte = byteOk (byteTestBy e) (getD b (p + byteAtIn h) 0)
 
     abbrev tests : Bool
     tests = threeFit h b p vars && tested-byte && ltb ops maxOps

@@ -14,8 +14,8 @@ use kinds::operand_count;
 use kinds::types;
 use ops::LABELS;
 use ops::MAX_OPS;
+use plans::byte_ask;
 use plans::byte_at;
-use plans::byte_test;
 use plans::first_ask;
 use plans::first_at;
 use plans::length;
@@ -36,7 +36,7 @@ use rules::meets;
 use rules::rest_ok;
 
 // The output and the first two inputs of an op with this plan may be used so.
-fn three_fit(h: u32, block: &[u8], at: usize, vars: &[u8; 256]) -> bool
+fn three_fit(h: u64, block: &[u8], at: usize, vars: &[u8; 256]) -> bool
     requires { ⌜ Placed h (now block) at ⌝ }
     ensures { λ r. ⌜ r ≡ threeFit h (now (block .entry)) at (now (vars .entry)) ⌝ }
 {
@@ -47,7 +47,7 @@ fn three_fit(h: u32, block: &[u8], at: usize, vars: &[u8; 256]) -> bool
 }
 
 // And two inputs more.
-fn inputs_fit(h: u32, block: &[u8], at: usize, vars: &[u8; 256]) -> bool
+fn inputs_fit(h: u64, block: &[u8], at: usize, vars: &[u8; 256]) -> bool
     requires { ⌜ at + 5 < length (now block) ⌝ }
     ensures { λ r. ⌜ r ≡ (meets (firstAskIn h) (codeAt (now (block .entry)) (now (vars .entry)) (at + 4)) && meets (firstAskIn h) (codeAt (now (block .entry)) (now (vars .entry)) (at + 5))) ⌝ }
 {
@@ -57,7 +57,7 @@ fn inputs_fit(h: u32, block: &[u8], at: usize, vars: &[u8; 256]) -> bool
 }
 
 // Its label, the last byte, is below the limit and not set yet.
-fn label_ok(h: u32, block: &[u8], at: usize, labels: &[u16; 256]) -> bool
+fn label_ok(h: u64, block: &[u8], at: usize, labels: &[u16; 256]) -> bool
     requires { ⌜ (at + lengthIn h ≤ length (now block)) × (1 < lengthIn h) ⌝ }
     ensures { λ r. ⌜ r ≡ labelFits (now (labels .entry)) (getD (now (block .entry)) (at + lengthIn h - 1) 0) ⌝ }
 {
@@ -66,7 +66,7 @@ fn label_ok(h: u32, block: &[u8], at: usize, labels: &[u16; 256]) -> bool
 }
 
 // What else its plan asks.
-fn more_ok(h: u32, block: &[u8], at: usize, vars: &[u8; 256], labels: &[u16; 256]) -> bool
+fn more_ok(h: u64, block: &[u8], at: usize, vars: &[u8; 256], labels: &[u16; 256]) -> bool
     requires { ⌜ Placed h (now block) at ⌝ }
     ensures { λ r. ⌜ r ≡ moreOk h (now (block .entry)) at (now (vars .entry)) (now (labels .entry)) ⌝ }
 {
@@ -102,7 +102,7 @@ pub fn op_ok(
         return false;
     }
     let x = block[at + byte_at(h)];
-    if !(three_fit(h, block, at, vars) & byte_ok(refusals, byte_test(h), x) & (op < MAX_OPS)) {
+    if !(three_fit(h, block, at, vars) & byte_ok(refusals, byte_ask(h), x) & (op < MAX_OPS)) {
         return false;
     }
     if straight(rank) {

@@ -11,8 +11,8 @@ use borrow.Author.Tests.{eqb-true, ltb-true, ltb-false, leb-true}
 use Rattle.theory.proofs.Sets.{and-l, and-r, tell, clash}
 use Rattle.ops.specs.Rows.{outsIn, insIn, restIn, testIn, roleIn, typesOf, roleNo, isKnown, isClosing, isSetting, isJumping}
 use Rattle.ops.specs.Kinds.{kindTable}
-use Rattle.ops.specs.Plans.{typeIn, noOp, lengthBy, outAskBy, secondBy, inAskBy, inAtBy, byteTestBy, byteAtBy, moreBy, planOf, each, standsFor, rankOf, planAt, straightEnd, exitRank, settingRank, rankTable, lengthTable}
-use Rattle.ops.specs.Plans.{lengthIn, outAskIn, firstAskIn, secondAskIn, firstAtIn, secondAtIn, byteAtIn, byteTestIn, moreIn}
+use Rattle.ops.specs.Plans.{typeIn, noOp, lengthBy, outAskBy, secondBy, inAskBy, inAtBy, byteTestBy, askOf, byteAtBy, moreBy, planOf, each, standsFor, rankOf, planAt, straightEnd, exitRank, settingRank, rankTable, lengthTable}
+use Rattle.ops.specs.Plans.{lengthIn, outAskIn, firstAskIn, secondAskIn, firstAtIn, secondAtIn, byteAtIn, byteAskIn, moreIn}
 use Rattle.ops.proofs.Ranges.{every, listed, beq-same}
 use Rattle.ops.proofs.Table.{table-long, past, beyond}
 
@@ -25,7 +25,8 @@ pub record Plan (e h : ℕ) : Type 0 where
   pub first-at : firstAtIn h ≡ inAtBy e (outsIn e)
   pub second-at : secondAtIn h ≡ inAtBy e (secondBy e)
   pub byte-at : byteAtIn h ≡ byteAtBy e
-  pub byte-test : byteTestIn h ≡ byteTestBy e
+  pub byte-ask : byteAskIn h ≡ askOf (byteTestBy e)
+  pub byte-few : byteTestBy e < 8
   pub more-so : moreIn h ≡ moreBy e
   pub no-op-so : eqb (lengthIn h) 15 ≡ noOp e
 
@@ -46,8 +47,8 @@ digitsOk k e =
     && (eqb (firstAtIn h) (inAtBy e (outsIn e))
     && (eqb (secondAtIn h) (inAtBy e (secondBy e))
     && (eqb (byteAtIn h) (byteAtBy e)
-    && (eqb (byteTestIn h) (byteTestBy e)
-    && (eqb (moreIn h) (moreBy e) && Bool·beq (eqb (lengthIn h) 15) (noOp e)))))))))
+    && (eqb (byteAskIn h) (askOf (byteTestBy e))
+    && (ltb (byteTestBy e) 8 && (eqb (moreIn h) (moreBy e) && Bool·beq (eqb (lengthIn h) 15) (noOp e))))))))))
 
 digits-right : every digitsOk 0 kindTable ≡ true
 unfolding planOf kindTable typesOf
@@ -63,7 +64,8 @@ by-digits k e t =
     let (a6, t6) = both _ _ t5 in
     let (a7, t7) = both _ _ t6 in
     let (a8, t8) = both _ _ t7 in
-    let (a9, a10) = both _ _ t8 in
+    let (a9, t9) = both _ _ t8 in
+    let (a10, a11) = both _ _ t9 in
     record {
       length-so = eqb-true _ _ a1;
       out-ask = eqb-true _ _ a2;
@@ -72,9 +74,10 @@ by-digits k e t =
       first-at = eqb-true _ _ a5;
       second-at = eqb-true _ _ a6;
       byte-at = eqb-true _ _ a7;
-      byte-test = eqb-true _ _ a8;
-      more-so = eqb-true _ _ a9;
-      no-op-so = beq-same _ _ a10;
+      byte-ask = eqb-true _ _ a8;
+      byte-few = ltb-true _ _ a9;
+      more-so = eqb-true _ _ a10;
+      no-op-so = beq-same _ _ a11;
     }
 
 -- a test that every entry of the table passes, and 0, holds for every kind
@@ -278,7 +281,7 @@ pub plan-at : (k : ℕ) {e n : ℕ} → e ≡ getD kindTable k 0 → n ≡ rankO
 plan-at k {e} q r = rw r (eqb-true _ _ (both _ _ (ranked k q) .0))
 
 -- beyond the ranks of ops is the plan of none
-pub plan-none : (n : ℕ) → 21 ≤ n → 0x0254000f ≡ planAt n
+pub plan-none : (n : ℕ) → 21 ≤ n → 0x0454000f ≡ planAt n
 unfolding planAt planOf kindTable typesOf
 plan-none n l = let z : getD standsFor n 0 ≡ 0 = past standsFor n l in rw z
 

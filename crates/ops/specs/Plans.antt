@@ -37,9 +37,13 @@ inAskBy e i = cond (ltb 0 (insIn e)) (ask false (typeIn e i)) 0
 abbrev pub inAtBy : ℕ → ℕ → ℕ
 inAtBy e i = cond (ltb 0 (insIn e)) (1 + i) 1
 
--- the test of one byte after the operands, that of a branch being its condition's; 1, which no byte passes, if it is no op; and where the byte stands
+-- the test of one byte after the operands, that of a branch being its condition's; 1, which no byte passes, if it is no op; what a test asks of a
+-- byte, a bit for its number, none for test 0; and where the byte stands
 abbrev pub byteTestBy : ℕ → ℕ
 byteTestBy e = let t = testIn e in cond (noOp e) 1 (cond (eqb t 3) 2 (cond (ltb 1 t && ltb t 8) t 0))
+
+abbrev pub askOf : ℕ → ℕ
+askOf t = cond (eqb t 0) 0 (2 ^ t)
 
 abbrev pub byteAtBy : ℕ → ℕ
 byteAtBy e = cond (eqb (byteTestBy e) 0) 0 (1 + (outsIn e + insIn e))
@@ -52,7 +56,7 @@ moreBy e = cond (eqb (insIn e) 4) 3 (cond (eqb (testIn e) 8) 1 (cond (eqb (testI
 unfoldable pub planOf : ℕ → ℕ
 planOf e =
     lengthBy e + 2 ^ 4 * outAskBy e + 2 ^ 8 * inAskBy e (outsIn e) + 2 ^ 13 * inAskBy e (secondBy e) + 2 ^ 18 * inAtBy e (outsIn e) + 2 ^ 20 * inAtBy e (secondBy e)
-    + 2 ^ 22 * byteAtBy e + 2 ^ 25 * byteTestBy e + 2 ^ 28 * moreBy e
+    + 2 ^ 22 * byteAtBy e + 2 ^ 25 * askOf (byteTestBy e) + 2 ^ 33 * moreBy e
 
 -- its digits
 abbrev pub lengthIn : ℕ → ℕ
@@ -76,11 +80,11 @@ secondAtIn h = h / 1048576 % 4
 abbrev pub byteAtIn : ℕ → ℕ
 byteAtIn h = h / 4194304 % 8
 
-abbrev pub byteTestIn : ℕ → ℕ
-byteTestIn h = h / 33554432 % 8
+abbrev pub byteAskIn : ℕ → ℕ
+byteAskIn h = h / 33554432 % 256
 
 abbrev pub moreIn : ℕ → ℕ
-moreIn h = h / 268435456 % 4
+moreIn h = h / 8589934592 % 4
 
 -- kinds that stand for all that have the same entry: first those of which nothing else is asked and after which the basic block goes on, last
 -- those that end one, exit_tb before those that have a label, set_label after these

@@ -2,7 +2,7 @@
 ghost use mathlib.Core.Path.{_≡_};
 ghost use lib.Dec.{eqb, ltb, leb};
 ghost use lib.ListN.{getD};
-ghost use Rattle.ops.specs.Plans.{rankTable, lengthTable, planAt, lengthIn, outAskIn, firstAskIn, secondAskIn, firstAtIn, secondAtIn, byteAtIn, byteTestIn, moreIn, straightEnd, exitRank, settingRank};
+ghost use Rattle.ops.specs.Plans.{rankTable, lengthTable, planAt, lengthIn, outAskIn, firstAskIn, secondAskIn, firstAtIn, secondAtIn, byteAtIn, byteAskIn, moreIn, straightEnd, exitRank, settingRank};
 
 // The rank of each kind; kinds with the same entry have the same, and 21 is no op's. The table is made where the loop over the ops starts, and a byte for a kind is soon made.
 const RANKS: [u8; 256] = [
@@ -553,88 +553,88 @@ pub fn record_length(lengths: &[u8; 256], kind: u8) -> usize
 }
 
 // The plan of a rank, in bits from the lowest: 4 for the record's length, 15 if it is no op; 4, 5 and 5 for what the output, the first and the second input ask; 2 and 2 for where
-// these inputs stand; 3 for where the byte stands that is tested, and 3 for the number of its test; 2 for what else is asked. As a `match` it is one load from constant memory.
-pub fn plan(rank: u8) -> u32
+// these inputs stand; 3 for where the byte stands that is tested, and 8 for its test, a bit for the number; 2 for what else is asked. As a `match` it is one load from constant memory.
+pub fn plan(rank: u8) -> u64
     ensures { λ r. ⌜ r ≡ planAt rank ⌝ }
 {
     match rank {
-        0 => 0x08ea5214, // qemu_ld_i32
-        1 => 0x0aea5224, // qemu_ld_i64
-        2 => 0x0ce65104, // qemu_st_i32
-        3 => 0x0ee65204, // qemu_st_i64
-        4 => 0x0014002a, // movi_i64
-        5 => 0x002a3123, // ext_i32_i64, extu_i32_i64
-        6 => 0x002a5213, // trunc_i64_i32
-        7 => 0x002a3113, // mov_i32, neg_i32, not_i32
-        8 => 0x002a5223, // mov_i64, neg_i64, not_i64
-        9 => 0x003a3114, // add_i32 to rotr_i32
-        10 => 0x003a5224, // add_i64 to rotr_i64
-        11 => 0x053a3115, // setcond_i32
-        12 => 0x053a5225, // setcond_i64
-        13 => 0x35ba3117, // movcond_i32
-        14 => 0x35ba5227, // movcond_i64
-        15 => 0x1014001a, // movi_i32
-        16 => 0x00165202, // exit_tb
-        17 => 0x20140002, // br
-        18 => 0x24e63105, // brcond_i32
-        19 => 0x24e65205, // brcond_i64
-        20 => 0x20140002, // set_label
-        _ => 0x0254000f,
+        0 => 0x0_20ea5214, // qemu_ld_i32
+        1 => 0x0_40ea5224, // qemu_ld_i64
+        2 => 0x0_80e65104, // qemu_st_i32
+        3 => 0x1_00e65204, // qemu_st_i64
+        4 => 0x0_0014002a, // movi_i64
+        5 => 0x0_002a3123, // ext_i32_i64, extu_i32_i64
+        6 => 0x0_002a5213, // trunc_i64_i32
+        7 => 0x0_002a3113, // mov_i32, neg_i32, not_i32
+        8 => 0x0_002a5223, // mov_i64, neg_i64, not_i64
+        9 => 0x0_003a3114, // add_i32 to rotr_i32
+        10 => 0x0_003a5224, // add_i64 to rotr_i64
+        11 => 0x0_093a3115, // setcond_i32
+        12 => 0x0_093a5225, // setcond_i64
+        13 => 0x6_09ba3117, // movcond_i32
+        14 => 0x6_09ba5227, // movcond_i64
+        15 => 0x2_0014001a, // movi_i32
+        16 => 0x0_00165202, // exit_tb
+        17 => 0x4_00140002, // br
+        18 => 0x4_08e63105, // brcond_i32
+        19 => 0x4_08e65205, // brcond_i64
+        20 => 0x4_00140002, // set_label
+        _ => 0x0_0454000f,
     }
 }
 
-pub fn length(h: u32) -> usize
+pub fn length(h: u64) -> usize
     ensures { λ r. ⌜ r ≡ lengthIn h ⌝ }
 {
     (h % 16) as usize
 }
 
-pub fn out_ask(h: u32) -> u32
+pub fn out_ask(h: u64) -> u32
     ensures { λ r. ⌜ r ≡ outAskIn h ⌝ }
 {
-    h / 16 % 16
+    (h / 16 % 16) as u32
 }
 
-pub fn first_ask(h: u32) -> u32
+pub fn first_ask(h: u64) -> u32
     ensures { λ r. ⌜ r ≡ firstAskIn h ⌝ }
 {
-    h / 256 % 32
+    (h / 256 % 32) as u32
 }
 
-pub fn second_ask(h: u32) -> u32
+pub fn second_ask(h: u64) -> u32
     ensures { λ r. ⌜ r ≡ secondAskIn h ⌝ }
 {
-    h / 8192 % 32
+    (h / 8192 % 32) as u32
 }
 
-pub fn first_at(h: u32) -> usize
+pub fn first_at(h: u64) -> usize
     ensures { λ r. ⌜ r ≡ firstAtIn h ⌝ }
 {
     (h / 262144 % 4) as usize
 }
 
-pub fn second_at(h: u32) -> usize
+pub fn second_at(h: u64) -> usize
     ensures { λ r. ⌜ r ≡ secondAtIn h ⌝ }
 {
     (h / 1048576 % 4) as usize
 }
 
-pub fn byte_at(h: u32) -> usize
+pub fn byte_at(h: u64) -> usize
     ensures { λ r. ⌜ r ≡ byteAtIn h ⌝ }
 {
     (h / 4194304 % 8) as usize
 }
 
-pub fn byte_test(h: u32) -> u32
-    ensures { λ r. ⌜ r ≡ byteTestIn h ⌝ }
+pub fn byte_ask(h: u64) -> u32
+    ensures { λ r. ⌜ r ≡ byteAskIn h ⌝ }
 {
-    h / 33554432 % 8
+    (h / 33554432 % 256) as u32
 }
 
-pub fn more(h: u32) -> u32
+pub fn more(h: u64) -> u32
     ensures { λ r. ⌜ r ≡ moreIn h ⌝ }
 {
-    h / 268435456 % 4
+    (h / 8589934592 % 4) as u32
 }
 
 // Nothing else is asked of the op, and the basic block goes on after it.

@@ -1,7 +1,8 @@
 // The rules of one op, each by itself. e is the entry of its kind.
 ghost use mathlib.Core.Path.{_≡_};
 ghost use mathlib.Core.Bool.{true, not, _&&_, _||_};
-ghost use Prim.Native.Nat.{_+_, _/_, _%_, _^_, _≤_, _<_};
+ghost use Prim.Native.Nat.{_+_, _%_, _^_, _≤_, _<_};
+ghost use lib.Bits.{bitAnd};
 ghost use lib.Dec.{eqb, ltb};
 ghost use lib.ListN.{length, getD, take, drop};
 ghost use Rattle.memory.specs.Bytes.{lowFirst};
@@ -114,11 +115,11 @@ fn refused_by(refusals: &[u8; 256], x: u8) -> u8
     refusals[x as usize]
 }
 
-// The test of one byte after the operands, by its number.
-pub fn byte_ok(refusals: &[u8; 256], t: u32, x: u8) -> bool
-    ensures { λ r. ⌜ r ≡ eqb (getD (now (refusals .entry)) x 0 / 2 ^ (t % 8) % 2) 0 ⌝ }
+// Whether none of the tests that are asked for, a bit each, refuses the byte.
+pub fn byte_ok(refusals: &[u8; 256], asked: u32, x: u8) -> bool
+    ensures { λ r. ⌜ r ≡ eqb (bitAnd (getD (now (refusals .entry)) x 0) asked) 0 ⌝ }
 {
-    (refused_by(refusals, x) as u32 >> (t % 8)) % 2 == 0
+    (refused_by(refusals, x) as u32 & asked) == 0
 }
 
 // Whether a label is set.

@@ -1,5 +1,5 @@
 -- `op_ok` is the fast test of an op. Assumes nothing.
-use mathlib.Core.Path.{_≡_, refl, sym, ap, _∙_}
+use mathlib.Core.Path.{_≡_, refl, sym, _∙_}
 use mathlib.Core.Bool.{_&&_}
 use Prim.Native.Nat.{ℕ, _+_, _≤_, _<_, _-_}
 use native.Mathlib.Omega.{arith}
@@ -9,10 +9,10 @@ use borrow.Author.Needs.{needs}
 use borrow.Author.Tests.{not-true, not-false}
 use Rattle.ops.specs.Kinds.{kindTable}
 use Rattle.ops.specs.Limits.{maxOps}
-use Rattle.ops.specs.Plans.{planOf, lengthIn, byteAtIn, byteTestIn}
+use Rattle.ops.specs.Plans.{byteTestBy, planOf, lengthIn, byteAtIn}
 use Rattle.ops.proofs.Plans.{plan-at, straight-so}
 use Rattle.block.specs.Scan.{Placed, threeFit, byteOk}
-use Rattle.block.proofs.Quick.{length-is, fails-short, placed, fails-fit, passes-so, passes-straight, byte-refused, both-so}
+use Rattle.block.proofs.Quick.{length-is, fails-short, placed, fails-fit, passes-so, passes-straight, byte-is, both-so}
 use Rattle.op_tests.proofs.op_ok.Statement.{statement}
 use Rattle.op_tests.proofs.op_ok.Tie as tie
 
@@ -59,20 +59,20 @@ shared-slice-read-x c = let p = inside (c .before .before) in omega (arith, p .w
 abbrev entered : tie.After-byte-ok → tie.Else1
 entered k = k .before .before .before .before .before
 
-tested : (k : tie.After-byte-ok) → let a = start (entered k) .args in k .byte-ok .result ≡ byteOk (byteTestIn (h (entered k))) (getD (a .block .now) (a .at + byteAtIn (h (entered k))) 0)
+abbrev test : tie.Else1 → ℕ
+test k = byteTestBy (getD kindTable (kind (planned k)) 0)
+
+tested : (k : tie.After-byte-ok) → let a = start (entered k) .args in k .byte-ok .result ≡ byteOk (test (entered k)) (getD (a .block .now) (a .at + byteAtIn (h (entered k))) 0)
 tested k =
     let e = entered k in
     let a = start e .args in
-    let t = k .before .byte-test .ensures in
-    let i = k .before .before .before .before .byte-at .ensures in
-    let small = k .before .before .before .shared-slice-known2 .given (a .at + k .before .before .before .before .byte-at .result) in
-    byte-refused (start e .pre .3) (omega (arith, t)) (omega (arith, small)) (k .byte-ok .ensures)
-    ∙ ap (λ (t : ℕ). byteOk t (getD (a .block .now) (a .at + k .before .before .before .before .byte-at .result) 0)) t
-    ∙ ap (λ (i : ℕ). byteOk (byteTestIn (h e)) (getD (a .block .now) (a .at + i) 0)) i
+    let i = k .before .before .before .before .byte-at in
+    byte-is (a .block .now) (a .at) (a .op) (a .vars .now) (a .labels .now) (kind (planned e)) refl refl (its-plan (planned e)) (start e .pre .3) (k .before .byte-ask .ensures) (i .ensures)
+    (omega (arith, k .before .before .before .shared-slice-known2 .given (a .at + i .result))) (k .byte-ok .ensures)
 
 tests : (k : tie.After-byte-ok) → let a = start (entered k) .args in
     (k .before .before .three-fit .result && k .byte-ok .result && ltb (a .op) maxOps)
-    ≡ (threeFit (h (entered k)) (a .block .now) (a .at) (a .vars .now) && byteOk (byteTestIn (h (entered k))) (getD (a .block .now) (a .at + byteAtIn (h (entered k))) 0) && ltb (a .op) maxOps)
+    ≡ (threeFit (h (entered k)) (a .block .now) (a .at) (a .vars .now) && byteOk (test (entered k)) (getD (a .block .now) (a .at + byteAtIn (h (entered k))) 0) && ltb (a .op) maxOps)
 tests k = both-so (both-so (k .before .before .three-fit .ensures) (tested k)) refl
 
 returns-2 : tie.Need-returns-2
