@@ -505,6 +505,14 @@ module _ (b : List ℕ) (p ops : ℕ) (vars labels : List ℕ) (k : ℕ) {e h : 
         below-16 (firstAskIn h) (codeAt b vars (p + 1) % 32) (omega arith) (omega arith) asked
         (ap (λ (i : ℕ). meets (firstAskIn h) (codeAt b vars (p + i))) (sym at-first) ∙ met)
 
+    -- its label, if it has one, is below the limit
+    pub label-met : (n : noOp e ≡ false) → ops < 256 → passes ≡ true → moreBy e ≡ 2 → getD b (p + lengthIn h - 1) 0 < labelCount
+    unfolding moreOk
+    label-met n few y m =
+        let all = and-r (threeFit h b p vars && tested-byte) (moreOk h b p vars labels) (alike l here n few ∙ y) in
+        let fits : labelFits labels (getD b (p + lengthIn h - 1) 0) ≡ true = rw (its-plan .more-so ∙ m) at all in
+        ltb-true _ labelCount (and-l _ (not (numbered labels (getD b (p + lengthIn h - 1) 0))) fits)
+
 -- an op that passes is one
 pub some-op : (b : List ℕ) (p ops : ℕ) (vars labels : List ℕ) (k : ℕ) {e : ℕ} → k ≡ getD b p 0 → e ≡ getD kindTable k 0 → opPasses e b p ops vars labels ≡ true → noOp e ≡ false
 some-op b p ops vars labels k {e} its q y = go (tell (noOp e))

@@ -287,7 +287,7 @@ module _ {T : Table} {b : List ℕ} {start : ℕ} {places₀ base vars labels ta
 
 -- the start, after the declarations
 pub begins-start : {T : Table} {b base labels : List ℕ} {p : ℕ} (places₀ : List ℕ) → Begins T b base p → labels ≡ replicate 256 0
-    → Reading T b p places₀ base base labels (replicate 256 0) places₀ p 0 0
+    → Reading T b p places₀ base base labels (replicate 32 0) places₀ p 0 0
 begins-start {T = T} {b = b} {p = p} places₀ g z =
     record {
       seen = declaredSeen (classesOf (g .after .before)) (declaredTypes (g .after .before));
@@ -296,7 +296,7 @@ begins-start {T = T} {b = b} {p = p} places₀ g z =
       based = g .after .coded;
       declared = omega (arith, classes-length (g .after .before), g .after .count, g .after .few);
       labels-so = sym (numbered-none 256 z);
-      targets-so = sym (marked-none 256 refl);
+      targets-so = sym (marked-none 32 refl);
       ops-so = refl;
       last-so = refl;
       count = sym (zero-add (length (recordsAt T b p)));

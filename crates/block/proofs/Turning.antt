@@ -7,19 +7,19 @@ use Prim.Native.Nat.{ℕ, zero, suc, _+_, _-_, _%_, _≤_, _<_}
 use native.Mathlib.Omega.{arith}
 use lib.Dec.{eqb, ltb}
 use lib.ListN.{length, getD, set}
-use borrow.Author.Tests.{le-ltb}
+use borrow.Author.Tests.{eqb-true, le-ltb}
 use Rattle.theory.proofs.Sets.{tell, and-l, and-r, clash}
 use Rattle.theory.specs.Sets.{empty}
-use Rattle.ops.specs.Limits.{maxVariables}
+use Rattle.ops.specs.Limits.{maxVariables, labelCount}
 use Rattle.ops.specs.Rows.{bodyLength, outsIn, insIn, restIn}
 use Rattle.ops.specs.Kinds.{kindTable, rowOf}
-use Rattle.ops.specs.Plans.{noOp, lengthBy, lengthIn, planOf, rankOf, exitRank}
+use Rattle.ops.specs.Plans.{noOp, lengthBy, moreBy, lengthIn, planOf, rankOf, planAt, exitRank}
 use Rattle.ops.proofs.Entry.{digits}
-use Rattle.ops.proofs.Plans.{plan, ranked-op}
-use Rattle.block.specs.Scan.{recordAt, codeOf, SameBeyond, opStands, opOk, opPasses, entryRule, endRule, marked, numbered, ScannedBy, Marks, FirstReady, Reading}
+use Rattle.ops.proofs.Plans.{plan, plan-at, ranked-op}
+use Rattle.block.specs.Scan.{recordAt, codeOf, SameBeyond, opStands, opOk, opPasses, entryRule, endRule, marked, numbered, ScannedBy, Marks, FirstReady, LabelFits, Reading}
 use Rattle.block.specs.Rules.{allSet}
 use Rattle.block.proofs.Codes.{code-small}
-use Rattle.block.proofs.Quick.{some-op, first-met}
+use Rattle.block.proofs.Quick.{some-op, first-met, label-met}
 use Rattle.block.proofs.Marking.{length-here}
 use Rattle.block.proofs.Scanning.{Sound, stopped-at, unfit-at, sound-at, few-ops-here, stands-at, again-at, whole-op, scanning-10, scanning-7, scanning-0}
 
@@ -71,13 +71,25 @@ module _ {b : List ℕ} {start : ℕ} {places₀ base vars labels targets places
           subst (λ (i : ℕ). Reading rowOf b start places₀ base vars′ labels′ targets′ (set places ops (p % 65536)) i (ops + 1) r′) (ap (λ (i : ℕ). p + i) (sym long))
           (again-at sound refl (ranked-op (getD b p 0) refl z is-op .exits) vars′ labels′ targets′ m)
 
+    whole-length : lengthIn (planOf e) ≤ length b - p
+    whole-length =
+        let long = plan (getD b p 0) refl .length-so ∙ length-here (stands-at sound) is-op in
+        let body : bodyLength rowOf (getD b p 0) ≡ outsIn e + insIn e + restIn e = (digits kindTable refl) .body in
+        omega (arith, long, body, whole-op sound)
+
     -- the first operand, if it is no output, may be read
     pub ready : FirstReady e b p vars
     ready c o =
-        let long = plan (getD b p 0) refl .length-so ∙ length-here (stands-at sound) is-op in
-        let body : bodyLength rowOf (getD b p 0) ≡ outsIn e + insIn e + restIn e = (digits kindTable refl) .body in
-        let l : lengthIn (planOf e) ≤ length b - p = omega (arith, long, body, whole-op sound) in
-        omega (arith, first-met b p ops vars labels (getD b p 0) refl refl refl l here is-op (few-ops-here sound) (sym t ∙ y) c o, code-small (s .coded) (getD b (p + 1) 0))
+        omega (arith, first-met b p ops vars labels (getD b p 0) refl refl refl whole-length here is-op (few-ops-here sound) (sym t ∙ y) c o, code-small (s .coded) (getD b (p + 1) 0))
+
+    -- its label, if it has one, is below the limit
+    pub label-fits : {n : ℕ} → n ≡ rankOf e → LabelFits n b p
+    label-fits {n} z w =
+        let flow = ranked-op (getD b p 0) refl z is-op in
+        let same : planAt n ≡ planOf e = plan-at (getD b p 0) refl z in
+        let more : moreBy e ≡ 2 = eqb-true _ 2 (sym (flow .labels) ∙ w) in
+        subst (λ (h : ℕ). getD b (p + lengthIn h - 1) 0 < labelCount) (sym same)
+        (label-met b p ops vars labels (getD b p 0) refl refl refl whole-length here is-op (few-ops-here sound) (sym t ∙ y) more)
 
 -- the end
 pub ends-at : {b : List ℕ} {start : ℕ} {places₀ base vars labels targets places : List ℕ} {p ops last rule : ℕ} → Reading rowOf b start places₀ base vars labels targets places p ops last

@@ -10,7 +10,7 @@ use Rattle.theory.specs.Machine.{All}
 use Rattle.theory.specs.Sets.{Vars, empty, has}
 use Rattle.ops.specs.Rows.{known, bodyLength, Table}
 use Rattle.ops.specs.Limits.{maxVariables, maxOps, labelCount}
-use Rattle.ops.specs.Plans.{ask, lengthIn, outAskIn, firstAskIn, secondAskIn, firstAtIn, secondAtIn, byteAtIn, moreIn, exitRank, settingRank}
+use Rattle.ops.specs.Plans.{ask, lengthIn, outAskIn, firstAskIn, secondAskIn, firstAtIn, secondAtIn, byteAtIn, moreIn, exitRank, settingRank, planAt}
 use Rattle.memory.specs.Bytes.{lowFirst}
 use Rattle.ops.specs.Rows.{Row, outsIn, insIn, restIn, testIn, roleIn, typesIn, rowIn, roleNo, isKnown, isClosing, isSetting, isJumping, testOk}
 use Rattle.ops.specs.Ops.{rowAt, bytesAt, outsBy, labelBy}
@@ -94,10 +94,13 @@ pub record LabelledAs (row : Row) (l op : ℕ) (labels labels′ : List ℕ) : T
   pub labels-so : numbered labels′ ≡ markedBy (isSetting (row .role)) (numbered labels) l
   pub numbers-so : labels′ ≡ labelledBy row l op labels
 
--- by the entry of its kind: the first operand of an op that has no output and closes no basic block may be read. By its rank: whether the op sets
--- its label, or may jump to it; what that leaves
+-- by the entry of its kind: the first operand of an op that has no output and closes no basic block may be read. By its rank: that the
+-- label of an op that has one is below the limit; whether the op sets its label, or may jump to it; what that leaves
 abbrev pub FirstReady : ℕ → List ℕ → ℕ → List ℕ → Type 0
 FirstReady e block place vars = isClosing (roleNo (roleIn e)) ≡ false → outsIn e ≡ 0 → codesIn vars (getD block (place + 1) 0) < 16
+
+abbrev pub LabelFits : ℕ → List ℕ → ℕ → Type 0
+LabelFits n block place = ltb exitRank n ≡ true → getD block (place + lengthIn (planAt n) - 1) 0 < labelCount
 
 abbrev pub setsLabel : ℕ → Bool
 setsLabel n = eqb n settingRank

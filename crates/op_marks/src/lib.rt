@@ -3,10 +3,11 @@ ghost use mathlib.Core.Path.{_≡_};
 ghost use mathlib.Core.Bool.{false};
 ghost use mathlib.Core.List.{[], _∷_};
 ghost use Prim.Native.Nat.{_+_, _-_, _≤_, _<_};
-ghost use lib.ListN.{length, getD};
+ghost use lib.ListN.{length, getD, set};
 ghost use Rattle.ops.specs.Kinds.{rowOf, kindTable};
 ghost use Rattle.ops.specs.Plans.{noOp, lengthIn, rankOf, planAt};
-ghost use Rattle.block.specs.Scan.{SameBeyond, recordAt, Stands, codesIn, openAll, FirstReady, LabelMarks, setsLabel, jumpsTo, Marks};
+ghost use Rattle.block.specs.Scan.{SameBeyond, recordAt, Stands, codesIn, openAll, FirstReady, LabelFits, SetAt, LabelMarks, setsLabel, jumpsTo, Marks};
+use marks::index;
 use marks::put;
 use marks::put_number;
 use ops::MAX_VARIABLES;
@@ -27,6 +28,21 @@ fn open_first(block: &[u8], at: usize, vars: &mut [u8; 256])
     put(vars, v, code(vars, v) % 16);
 }
 
+fn store_one(targets: &mut [u8], i: usize)
+    requires { ⌜ i < length (now targets) ⌝ }
+    ensures { λ _. ⌜ now (targets .exit) ≡ set (now (targets .entry)) i 1 ⌝ }
+{
+    targets[i] = 1;
+}
+
+// A label is jumped to.
+fn mark_target(targets: &mut [u8; 32], l: u8)
+    requires { ⌜ l < 32 ⌝ }
+    ensures { λ _. ⌜ SetAt (now (targets .entry)) l 1 (now (targets .exit)) ⌝ }
+{
+    store_one(targets, index(l));
+}
+
 // Its label is set, or jumped to: a label's number is one more than its op's.
 fn mark_label(
     rank: u8,
@@ -34,9 +50,9 @@ fn mark_label(
     at: usize,
     op: usize,
     labels: &mut [u16; 256],
-    targets: &mut [u8; 256],
+    targets: &mut [u8; 32],
 )
-    requires { ⌜ (at + lengthIn (planAt rank) ≤ length (now block)) × (1 < lengthIn (planAt rank)) × (op < 1024) ⌝ }
+    requires { ⌜ (at + lengthIn (planAt rank) ≤ length (now block)) × (1 < lengthIn (planAt rank)) × LabelFits rank (now block) at × (op < 1024) ⌝ }
     ensures { λ _. ⌜ LabelMarks (setsLabel rank) (jumpsTo rank) (getD (now (block .entry)) (at + lengthIn (planAt rank) - 1) 0) op (now (labels .entry)) (now (labels .exit)) (now (targets .entry)) (now (targets .exit)) ⌝ }
 {
     if !labelled(rank) {
@@ -47,7 +63,7 @@ fn mark_label(
         put_number(labels, l, (op + 1) as u16);
         return;
     }
-    put(targets, l, 1);
+    mark_target(targets, l);
 }
 
 // The variables' bytes are those at the start of a basic block.
@@ -72,9 +88,9 @@ pub fn mark_op(
     base: &[u8; 256],
     vars: &mut [u8; 256],
     labels: &mut [u16; 256],
-    targets: &mut [u8; 256],
+    targets: &mut [u8; 32],
 )
-    requires { ⌜ SameBeyond (now base) (now vars) × Stands rowOf (now block) at (getD (now block) at 0) × (op < 1024) × (rank ≡ rankOf (getD kindTable (getD (now block) at 0) 0)) × (noOp (getD kindTable (getD (now block) at 0) 0) ≡ false) × FirstReady (getD kindTable (getD (now block) at 0) 0) (now block) at (now vars) ⌝ }
+    requires { ⌜ SameBeyond (now base) (now vars) × Stands rowOf (now block) at (getD (now block) at 0) × (op < 1024) × (rank ≡ rankOf (getD kindTable (getD (now block) at 0) 0)) × (noOp (getD kindTable (getD (now block) at 0) 0) ≡ false) × FirstReady (getD kindTable (getD (now block) at 0) 0) (now block) at (now vars) × LabelFits rank (now block) at ⌝ }
     ensures { λ r. ⌜ Marks rowOf (recordAt rowOf (now (block .entry)) at) op (now (base .entry)) (now (vars .entry)) (now (vars .exit)) (now (labels .entry)) (now (labels .exit)) (now (targets .entry)) (now (targets .exit)) ⌝ }
 {
     if straight(rank) {

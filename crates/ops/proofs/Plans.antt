@@ -297,6 +297,7 @@ pub record RankedOp (k e n : ℕ) : Type 0 where
   pub sets : eqb n settingRank ≡ isSetting (roleNo (roleIn e))
   pub jumps : (ltb exitRank n && not (eqb n settingRank)) ≡ isJumping (roleNo (roleIn e))
   pub exits : eqb n exitRank ≡ eqb k 0x04
+  pub labels : ltb exitRank n ≡ eqb (moreBy e) 2
 
 abbrev flowOk : ℕ → ℕ → Bool
 flowOk k e =
@@ -304,7 +305,7 @@ flowOk k e =
     let r = roleNo (roleIn e) in
     noOp e
     || (Bool·beq (leb exitRank n) (isClosing r)
-    && (Bool·beq (eqb n settingRank) (isSetting r) && (Bool·beq (ltb exitRank n && not (eqb n settingRank)) (isJumping r) && Bool·beq (eqb n exitRank) (eqb k 0x04))))
+    && (Bool·beq (eqb n settingRank) (isSetting r) && (Bool·beq (ltb exitRank n && not (eqb n settingRank)) (isJumping r) && (Bool·beq (eqb n exitRank) (eqb k 0x04) && Bool·beq (ltb exitRank n) (eqb (moreBy e) 2)))))
 
 flows-right : every flowOk 0 kindTable ≡ true
 unfolding rankOf kindTable roleNo
@@ -316,8 +317,9 @@ ranked-op k {e} {n} q r none =
     let t : flowOk k e ≡ true = rw q (for-each flowOk flows-right (λ k. refl) k) in
     let (a1, t1) = both _ _ (or-not (noOp e) _ none t) in
     let (a2, t2) = both _ _ t1 in
-    let (a3, a4) = both _ _ t2 in
-    rw r (record { closes = beq-same _ _ a1; sets = beq-same _ _ a2; jumps = beq-same _ _ a3; exits = beq-same _ _ a4 })
+    let (a3, t3) = both _ _ t2 in
+    let (a4, a5) = both _ _ t3 in
+    rw r (record { closes = beq-same _ _ a1; sets = beq-same _ _ a2; jumps = beq-same _ _ a3; exits = beq-same _ _ a4; labels = beq-same _ _ a5 })
 
 -- tables of what an entry gives
 each-at : (f : ℕ → ℕ) (es : List ℕ) (k : ℕ) → k < length es → getD (each f es) k 0 ≡ f (getD es k 0)

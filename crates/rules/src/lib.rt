@@ -148,8 +148,8 @@ fn settled(target: u8, number: u16) -> bool
 }
 
 // Rule 7 at the end: each label below n that is jumped to is set.
-pub fn all_set(targets: &[u8; 256], labels: &[u16; 256], n: usize) -> bool
-    requires { ⌜ n ≤ 256 ⌝ }
+pub fn all_set(targets: &[u8; 32], labels: &[u16; 256], n: usize) -> bool
+    requires { ⌜ n ≤ 32 ⌝ }
     ensures { λ r. ⌜ r ≡ allSet (marked (now (targets .entry))) (numbered (now (labels .entry))) n ⌝ }
 {
     let mut i = n;

@@ -41,7 +41,7 @@ fn stopped(block: &[u8], at: usize, ops: usize, vars: &[u8; 256], labels: &[u16;
 }
 
 // The rule that is broken at the end, after an op with the rank last; 0 if none.
-fn end_rule(last: u8, targets: &[u8; 256], labels: &[u16; 256]) -> u8
+fn end_rule(last: u8, targets: &[u8; 32], labels: &[u16; 256]) -> u8
     ensures { λ r. ⌜ r ≡ endRule (eqb last exitRank) (now (targets .entry)) (now (labels .entry)) ⌝ }
 {
     if last != EXIT {
@@ -68,7 +68,7 @@ fn scan_ops(
     let lengths = plans::lengths();
     let refusals = refusals::table();
     let mut vars = *base;
-    let mut targets = [0u8; 256];
+    let mut targets = [0u8; 32];
     let mut at = start;
     let mut ops: usize = 0;
     let mut last: u8 = 0;

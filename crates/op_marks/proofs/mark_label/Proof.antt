@@ -1,5 +1,5 @@
 -- The label of an op is set or jumped to, if it has one. Assumes nothing.
-use mathlib.Core.Path.{_≡_, ap, _∙_}
+use mathlib.Core.Path.{_≡_, sym, ap, _∙_, subst}
 use Prim.Native.Nat.{ℕ, _+_, _-_, _≤_, _<_}
 use native.Mathlib.Omega.{arith}
 use lib.ListN.{length, getD}
@@ -30,16 +30,23 @@ returns-2 c =
     label-set (a .rank) _ (a .op) (a .labels .now) (a .targets .now) (m .before .labelled .ensures) (not-false _ (m .if1 .left)) (c .before .before .before .sets .ensures) (c .before .before .if2 .taken)
     (ap (λ (n : ℕ). getD (a .block .now) (a .at + n - 1) 0) (long k)) (c .put-number .ensures)
 
+mark-target-requires : tie.Need-mark-target-requires
+mark-target-requires c κs =
+    let k = c .before .before .before .before in
+    let m = k .before .before in
+    let s = m .before .before .before in
+    subst (λ (n : ℕ). getD (s .args .block .now) (s .args .at + n - 1) 0 < 32) (sym (long k)) (s .pre .2 (sym (m .before .labelled .ensures) ∙ not-false _ (m .if1 .left)))
+
 returns-3 : tie.Need-returns-3
 returns-3 c =
     let k = c .before .before .before .before .before in
     let m = k .before .before in
     let a = m .before .before .before .args in
     label-jumped (a .rank) _ (a .op) (a .labels .now) (a .targets .now) (m .before .labelled .ensures) (not-false _ (m .if1 .left)) (c .before .before .before .sets .ensures) (c .before .before .if2 .left)
-    (ap (λ (n : ℕ). getD (a .block .now) (a .at + n - 1) 0) (long k)) (c .put .ensures)
+    (ap (λ (n : ℕ). getD (a .block .now) (a .at + n - 1) 0) (long k)) (c .mark-target .ensures)
 
 pub mark-label-spec : {M : Type 1} → statement M
 mark-label-spec =
     tie.close
     (tie.spec (λ c κs. search needs) returns (λ c κs. search needs) (λ c κs. search needs) (λ c. omega (arith, inside c)) (λ c. omega (arith, inside c)) (λ c. omega (arith, inside (c .before))) (λ c κs. search needs) (λ c. search needs) (λ c. search needs)
-    (λ c κs. search needs) returns-2 (λ c κs. search needs) returns-3)
+    (λ c κs. search needs) returns-2 mark-target-requires returns-3)

@@ -29,7 +29,7 @@ mark-label-requires : tie.Need-mark-label-requires
 mark-label-requires c κs =
     let p = c .before .before .before .before .before .before .before .before .before .pre in
     let w = whole-here (p .1) (p .4) (p .3) in
-    (w .0, w .1, p .2)
+    (w .0, w .1, p .6, p .2)
 
 returns-3 : tie.Need-returns-3
 returns-3 c =
