@@ -1,0 +1,44 @@
+-- What fold, prune and what writes their result ask of an op, taken from the entry of its kind and held in 16 bits: its shape. Assumes nothing.
+use Prim.Native.Nat.{ℕ, _+_, _*_, _/_, _%_}
+use mathlib.Core.Bool.{Bool, _||_}
+use mathlib.Core.List.{List, [], _∷_}
+use lib.Dec.{eqb, ltb}
+use Rattle.ops.specs.Rows.{outsIn, insIn, restIn, roleIn, typesIn}
+use Rattle.ops.specs.Kinds.{kindTable}
+
+-- the shape, in digits from the lowest: the outputs, the type of the first operand, the inputs, the bytes after the operands, the role's number
+unfoldable pub shapeOf : ℕ → ℕ
+shapeOf e = outsIn e + 4 * (typesIn e % 4) + 16 * insIn e + 256 * restIn e + 4096 * roleIn e
+
+abbrev pub shaped : List ℕ → List ℕ
+shaped [] = []
+shaped (e ∷ es) = shapeOf e ∷ shaped es
+
+abbrev pub shapeTable : List ℕ
+shapeTable = shaped kindTable
+
+-- its digits
+abbrev pub outsAs : ℕ → ℕ
+outsAs s = s % 4
+
+abbrev pub typeAs : ℕ → ℕ
+typeAs s = s / 4 % 4
+
+abbrev pub insAs : ℕ → ℕ
+insAs s = s / 16 % 16
+
+abbrev pub restAs : ℕ → ℕ
+restAs s = s / 256 % 16
+
+abbrev pub roleAs : ℕ → ℕ
+roleAs s = s / 4096
+
+-- the op computes; it sets a label; it may jump to one
+abbrev pub computesAs : ℕ → Bool
+computesAs s = ltb 8 (roleAs s)
+
+abbrev pub setsAs : ℕ → Bool
+setsAs s = eqb (roleAs s) 2
+
+abbrev pub jumpsAs : ℕ → Bool
+jumpsAs s = eqb (roleAs s) 3 || eqb (roleAs s) 5
