@@ -3,6 +3,7 @@ use Prim.Native.Nat.{ℕ, _+_, _*_, _/_, _%_}
 use mathlib.Core.Bool.{Bool, _||_}
 use mathlib.Core.List.{List, [], _∷_}
 use lib.Dec.{eqb, ltb}
+use lib.ListN.{getD}
 use Rattle.ops.specs.Rows.{outsIn, insIn, restIn, roleIn, typesIn}
 use Rattle.ops.specs.Kinds.{kindTable}
 
@@ -16,6 +17,13 @@ shaped (e ∷ es) = shapeOf e ∷ shaped es
 
 abbrev pub shapeTable : List ℕ
 shapeTable = shaped kindTable
+
+-- the entry of the kind at a place of a block, and its shape
+abbrev pub entryAt : List ℕ → ℕ → ℕ
+entryAt block place = getD kindTable (getD block place 0) 0
+
+abbrev pub shapeAt : List ℕ → ℕ → ℕ
+shapeAt block place = shapeOf (entryAt block place)
 
 -- its digits
 abbrev pub outsAs : ℕ → ℕ
