@@ -77,7 +77,7 @@ pub rest-as : (k : ℕ) {s r : ℕ} → s ≡ shapeOf (getD kindTable k 0) → r
 rest-as k q h = h ∙ (shape k q) .rest-so
 
 -- no role's number is out of range
-pub number-as : (k : ℕ) {s : ℕ} → s ≡ shapeOf (getD kindTable k 0) → roleAs s ≡ numberOf (roleNo (roleIn (getD kindTable k 0)))
+number-as : (k : ℕ) {s : ℕ} → s ≡ shapeOf (getD kindTable k 0) → roleAs s ≡ numberOf (roleNo (roleIn (getD kindTable k 0)))
 number-as k q =
     let p = shape k q in
     let n = roleIn (getD kindTable k 0) in
