@@ -1,4 +1,4 @@
--- The digits of a plan are those that its entry gives, and the shapes that ops have: one computed test over the table. Assumes nothing.
+-- The digits of a plan are those that its entry gives, and the sorts that ops are of: one computed test over the table. Assumes nothing.
 use mathlib.Core.Path.{_≡_, refl, sym, ap}
 use mathlib.Core.Bool.{Bool, true, false, cond, not, _&&_, _||_, Bool·beq}
 use mathlib.Core.Logic.{_⊎_, inl, inr}

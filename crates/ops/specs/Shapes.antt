@@ -1,4 +1,4 @@
--- What fold, prune and what writes their result ask of an op, taken from the entry of its kind and held in 16 bits: its shape. Assumes nothing.
+-- What the passes ask of an op, taken from the entry of its kind and held in 16 bits: its shape. Assumes nothing.
 use Prim.Native.Nat.{ℕ, _+_, _*_, _/_, _%_}
 use mathlib.Core.Bool.{Bool, _||_}
 use mathlib.Core.List.{List, [], _∷_}
