@@ -8,6 +8,8 @@ ghost use Rattle.runs.specs.Evaluates.{Computed};
 ghost use Rattle.runs.specs.Steps.{PerformsAlone, nextAt, plainKind};
 use kinds::body_length;
 use kinds::entry;
+use kinds::operand_count;
+use kinds::rest;
 use runs::Outcome;
 use runs::Stop;
 use values::evaluate;
@@ -26,7 +28,7 @@ fn compute_step(
     ensures { λ r. ⌜ PerformsAlone (viewOf document01 (recordAt rowOf (now (block .entry)) at)) (nextAt (now (block .entry)) at) (now (values .entry)) (now (values .exit)) r ⌝ }
 {
     let e = entry(kinds, kind);
-    let stated = evaluate(e, block, at, kind, values);
+    let stated = evaluate(operand_count(e), rest(e), block, at, kind, values);
     match stated {
         Stated::Value(v) => {
             put(values, block[at + 1], v);

@@ -2,22 +2,23 @@
 ghost use mathlib.Core.Path.{_≡_};
 ghost use mathlib.Core.Bool.{cond};
 ghost use mathlib.Core.List.{_∷_, _++_};
-ghost use Prim.Native.Nat.{_+_, _-_, _%_, _≤_};
+ghost use Prim.Native.Nat.{_+_, _-_, _≤_};
 ghost use lib.Dec.{eqb, ltb};
 ghost use lib.ListN.{length, getD, take, drop};
 ghost use lib.Seq.{sets};
 ghost use Rattle.memory.specs.Bytes.{bytesOf};
-ghost use Rattle.ops.specs.Rows.{computing, roleOf, typesIn};
+ghost use Rattle.ops.specs.Rows.{computing, roleOf};
 ghost use Rattle.ops.specs.Ops.{folding};
-ghost use Rattle.ops.specs.Kinds.{kindTable, rowOf, document01, moviKind};
+ghost use Rattle.ops.specs.Kinds.{rowOf, document01, moviKind};
+ghost use Rattle.ops.specs.Shapes.{shapeTable, typeAs, shapeAt};
 ghost use Rattle.block.specs.Records.{concat};
 ghost use Rattle.block.specs.Scan.{recordAt, Stands};
 ghost use Rattle.passes.specs.Knows.{foldedOps};
 ghost use Rattle.passes.specs.Laid.{opsAt, placeOf, Laid, editOf, keptFrom};
 ghost use Rattle.passes.specs.Live.{Marked};
-use kinds::entry;
-use kinds::types;
 use memory::put_low;
+use shapes::is_narrow;
+use shapes::shape;
 
 // The bytes of block from a place on, copied.
 pub fn copy(block: &[u8], from: usize, n: usize, out: &mut [u8], to: usize)
@@ -42,15 +43,15 @@ fn put_movi(out: &mut [u8], to: usize, kind: u8, d: u8, value: u64)
 }
 
 // The kind of the movi that takes an op's place: its output's type comes first.
-fn movi_kind(e: u32) -> u8
-    ensures { λ r. ⌜ r ≡ moviKind (typesIn e % 4) ⌝ }
+fn movi_kind(s: u16) -> u8
+    ensures { λ r. ⌜ r ≡ moviKind (typeAs s) ⌝ }
 {
-    if types(e) % 4 == 0 { 0x10 } else { 0x90 }
+    if is_narrow(s) { 0x10 } else { 0x90 }
 }
 
 // The records from a place up to an op, and the constant in the op's place; where the next goes.
 fn put_constant(
-    e: u32,
+    s: u16,
     block: &[u8],
     from: usize,
     at: usize,
@@ -58,12 +59,12 @@ fn put_constant(
     out: &mut [u8],
     to: usize,
 ) -> usize
-    requires { ⌜ Stands rowOf (now block) at (getD (now block) at 0) × (roleOf rowOf (getD (now block) at 0) ≡ computing) × (e ≡ getD kindTable (getD (now block) at 0) 0) × (from ≤ at) × (to + (at - from) + 10 ≤ length (now out)) ⌝ }
+    requires { ⌜ Stands rowOf (now block) at (getD (now block) at 0) × (roleOf rowOf (getD (now block) at 0) ≡ computing) × (s ≡ shapeAt (now block) at) × (from ≤ at) × (to + (at - from) + 10 ≤ length (now out)) ⌝ }
     ensures { λ r. ⌜ (r ≡ to + (at - from) + 10) × (now (out .exit) ≡ sets (now (out .entry)) to (take (at - from) (drop from (now (block .entry))) ++ folding document01 .const (recordAt rowOf (now (block .entry)) at) value)) ⌝ }
 {
     let n = at - from;
     copy(block, from, n, out, to);
-    put_movi(out, to + n, movi_kind(e), block[at + 1], value);
+    put_movi(out, to + n, movi_kind(s), block[at + 1], value);
     to + n + 10
 }
 
@@ -80,7 +81,7 @@ fn place_at(places: &[u16], i: usize, count: usize, end: usize) -> usize
 
 // The records from a place up to an op that does not stay, and the constant if one takes its place; where the next goes.
 fn put_edit(
-    e: u32,
+    s: u16,
     mark: u8,
     block: &[u8],
     from: usize,
@@ -89,11 +90,11 @@ fn put_edit(
     out: &mut [u8],
     to: usize,
 ) -> usize
-    requires { ⌜ Stands rowOf (now block) at (getD (now block) at 0) × (mark ≡ 1 → roleOf rowOf (getD (now block) at 0) ≡ computing) × (e ≡ getD kindTable (getD (now block) at 0) 0) × (from ≤ at) × (to + (at - from) + cond (eqb mark 1) 10 0 ≤ length (now out)) ⌝ }
+    requires { ⌜ Stands rowOf (now block) at (getD (now block) at 0) × (mark ≡ 1 → roleOf rowOf (getD (now block) at 0) ≡ computing) × (s ≡ shapeAt (now block) at) × (from ≤ at) × (to + (at - from) + cond (eqb mark 1) 10 0 ≤ length (now out)) ⌝ }
     ensures { λ r. ⌜ (r ≡ to + (at - from) + cond (eqb mark 1) 10 0) × (now (out .exit) ≡ sets (now (out .entry)) to (take (at - from) (drop from (now (block .entry))) ++ editOf (now (block .entry)) at mark value)) ⌝ }
 {
     if mark == 1 {
-        return put_constant(e, block, from, at, value, out, to);
+        return put_constant(s, block, from, at, value, out, to);
     }
     let n = at - from;
     copy(block, from, n, out, to);
@@ -102,7 +103,7 @@ fn put_edit(
 
 // The kept ops, from start on in out, where the first op of the block starts too.
 pub fn emit(
-    kinds: &[u32; 256],
+    shapes: &[u16; 256],
     block: &[u8],
     start: usize,
     ops: usize,
@@ -111,7 +112,7 @@ pub fn emit(
     constants: &[u64],
     out: &mut [u8],
 )
-    requires { ⌜ Laid (now block) (now places) ops × Marked (now block) (now places) (now marks) (now constants) ops × (placeOf (now block) (now places) ops 0 ≡ start) × (start ≤ length (now block)) × (ops ≤ length (now places)) × (ops ≤ length (now marks)) × (ops ≤ length (now constants)) × (now kinds ≡ kindTable) × (start + length (concat (keptFrom 0 (now marks) (foldedOps (opsAt (now block) (now places) 0 ops)))) ≤ length (now out)) ⌝ }
+    requires { ⌜ Laid (now block) (now places) ops × Marked (now block) (now places) (now marks) (now constants) ops × (placeOf (now block) (now places) ops 0 ≡ start) × (start ≤ length (now block)) × (ops ≤ length (now places)) × (ops ≤ length (now marks)) × (ops ≤ length (now constants)) × (now shapes ≡ shapeTable) × (start + length (concat (keptFrom 0 (now marks) (foldedOps (opsAt (now block) (now places) 0 ops)))) ≤ length (now out)) ⌝ }
     ensures { λ _. ⌜ now (out .exit) ≡ sets (now (out .entry)) start (concat (keptFrom 0 (now (marks .entry)) (foldedOps (opsAt (now (block .entry)) (now (places .entry)) 0 ops)))) ⌝ }
 {
     let end = block.len();
@@ -122,8 +123,8 @@ pub fn emit(
         let mark = marks[i];
         if mark != 0 {
             let at = places[i] as usize;
-            let e = entry(kinds, block[at]);
-            to = put_edit(e, mark, block, from, at, constants[i], out, to);
+            let s = shape(shapes, block[at]);
+            to = put_edit(s, mark, block, from, at, constants[i], out, to);
             from = place_at(places, i + 1, ops, end);
         }
         i += 1;

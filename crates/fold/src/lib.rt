@@ -6,20 +6,22 @@ ghost use Prim.Native.Nat.{_+_, _≤_, _<_};
 ghost use lib.ListN.{length, getD};
 ghost use Rattle.theory.specs.Machine.{upd};
 ghost use Rattle.ops.specs.Rows.{roleIn, roleNo, isComputing};
-ghost use Rattle.ops.specs.Kinds.{kindTable, rowOf};
+ghost use Rattle.ops.specs.Kinds.{rowOf};
 ghost use Rattle.ops.specs.Ops.{bytesAt};
+ghost use Rattle.ops.specs.Shapes.{shapeTable, entryAt, shapeAt};
 ghost use Rattle.block.specs.Scan.{Stands, marked};
 ghost use Rattle.passes.specs.Knows.{knownOf, everyIn, StatesKnown, Stays, Folds, Folded};
 ghost use Rattle.passes.specs.Laid.{Laid};
-use kinds::entry;
-use kinds::ins;
-use kinds::is_computing;
-use kinds::outs;
-use kinds::role;
 use marks::put;
 use memory::low_first;
 use ops::CONSTANT;
 use ops::LOADS;
+use shapes::ins;
+use shapes::is_computing;
+use shapes::outs;
+use shapes::rest;
+use shapes::role;
+use shapes::shape;
 use values::evaluate;
 use word::Stated;
 
@@ -68,22 +70,24 @@ fn all_known(block: &[u8], from: usize, count: usize, known: &[u8; 256]) -> bool
 }
 
 // What a computing op states, where all its inputs are known.
-fn stated_by(e: u32, block: &[u8], at: usize, known: &[u8; 256], values: &[u64; 256]) -> Stated
-    requires { ⌜ Stands rowOf (now block) at (getD (now block) at 0) × (e ≡ getD kindTable (getD (now block) at 0) 0) × (isComputing (roleNo (roleIn e)) ≡ true) ⌝ }
+fn stated_by(s: u16, block: &[u8], at: usize, known: &[u8; 256], values: &[u64; 256]) -> Stated
+    requires { ⌜ Stands rowOf (now block) at (getD (now block) at 0) × (s ≡ shapeAt (now block) at) × (isComputing (roleNo (roleIn (entryAt (now block) at))) ≡ true) ⌝ }
     ensures { λ r. ⌜ StatesKnown (now (block .entry)) at (marked (now (known .entry))) (now (values .entry)) r ⌝ }
 {
-    if all_known(block, at + 1 + outs(e), ins(e), known) {
-        return evaluate(e, block, at, block[at], values);
+    let outputs = outs(s);
+    let inputs = ins(s);
+    if all_known(block, at + 1 + outputs, inputs, known) {
+        return evaluate(outputs + inputs, rest(s), block, at, block[at], values);
     }
     Stated::NoResult
 }
 
 // What is known after an op that stays as it is.
-fn pass_over(e: u32, block: &[u8], at: usize, known: &mut [u8; 256], values: &mut [u64; 256])
-    requires { ⌜ Stands rowOf (now block) at (getD (now block) at 0) × (e ≡ getD kindTable (getD (now block) at 0) 0) × StatesKnown (now block) at (marked (now known)) (now values) Stated.NoResult ⌝ }
+fn pass_over(s: u16, block: &[u8], at: usize, known: &mut [u8; 256], values: &mut [u64; 256])
+    requires { ⌜ Stands rowOf (now block) at (getD (now block) at 0) × (s ≡ shapeAt (now block) at) × StatesKnown (now block) at (marked (now known)) (now values) Stated.NoResult ⌝ }
     ensures { λ _. ⌜ Stays (now (block .entry)) at (marked (now (known .entry))) (now (values .entry)) (marked (now (known .exit))) (now (values .exit)) ⌝ }
 {
-    let r = role(e);
+    let r = role(s);
     if r == CONSTANT {
         learn(known, values, block[at + 1], low_first(block, at + 2, 8));
         return;
@@ -92,23 +96,23 @@ fn pass_over(e: u32, block: &[u8], at: usize, known: &mut [u8; 256], values: &mu
         *known = [0u8; 256];
         return;
     }
-    if outs(e) == 1 {
+    if outs(s) == 1 {
         put(known, block[at + 1], 0);
     }
 }
 
 // Fold at a computing op: the constant's value if one takes its place.
 fn fold_computing(
-    e: u32,
+    s: u16,
     block: &[u8],
     at: usize,
     known: &mut [u8; 256],
     values: &mut [u64; 256],
 ) -> Stated
-    requires { ⌜ Stands rowOf (now block) at (getD (now block) at 0) × (e ≡ getD kindTable (getD (now block) at 0) 0) × (isComputing (roleNo (roleIn e)) ≡ true) ⌝ }
+    requires { ⌜ Stands rowOf (now block) at (getD (now block) at 0) × (s ≡ shapeAt (now block) at) × (isComputing (roleNo (roleIn (entryAt (now block) at))) ≡ true) ⌝ }
     ensures { λ r. ⌜ Folds (now (block .entry)) at (marked (now (known .entry))) (now (values .entry)) (marked (now (known .exit))) (now (values .exit)) r ⌝ }
 {
-    let stated = stated_by(e, block, at, known, values);
+    let stated = stated_by(s, block, at, known, values);
     let d = block[at + 1];
     match stated {
         Stated::Value(x) => {
@@ -124,32 +128,32 @@ fn fold_computing(
 
 // Fold at one op.
 fn fold_op(
-    e: u32,
+    s: u16,
     block: &[u8],
     at: usize,
     known: &mut [u8; 256],
     values: &mut [u64; 256],
 ) -> Stated
-    requires { ⌜ Stands rowOf (now block) at (getD (now block) at 0) × (e ≡ getD kindTable (getD (now block) at 0) 0) ⌝ }
+    requires { ⌜ Stands rowOf (now block) at (getD (now block) at 0) × (s ≡ shapeAt (now block) at) ⌝ }
     ensures { λ r. ⌜ Folds (now (block .entry)) at (marked (now (known .entry))) (now (values .entry)) (marked (now (known .exit))) (now (values .exit)) r ⌝ }
 {
-    if is_computing(e) {
-        return fold_computing(e, block, at, known, values);
+    if is_computing(s) {
+        return fold_computing(s, block, at, known, values);
     }
-    pass_over(e, block, at, known, values);
+    pass_over(s, block, at, known, values);
     Stated::NoResult
 }
 
 // Fold of so many ops: the mark of each, 1 where a constant takes its place, and the constants' values.
 pub fn fold(
-    kinds: &[u32; 256],
+    shapes: &[u16; 256],
     block: &[u8],
     ops: usize,
     places: &[u16],
     marks: &mut [u8],
     constants: &mut [u64],
 )
-    requires { ⌜ Laid (now block) (now places) ops × (ops ≤ length (now places)) × (ops ≤ length (now marks)) × (ops ≤ length (now constants)) × (now kinds ≡ kindTable) ⌝ }
+    requires { ⌜ Laid (now block) (now places) ops × (ops ≤ length (now places)) × (ops ≤ length (now marks)) × (ops ≤ length (now constants)) × (now shapes ≡ shapeTable) ⌝ }
     ensures { λ _. ⌜ Folded (now (block .entry)) (now (places .entry)) (now (marks .exit)) (now (constants .exit)) ops ⌝ }
 {
     let mut known = [0u8; 256];
@@ -157,8 +161,8 @@ pub fn fold(
     let mut i: usize = 0;
     while i < ops {
         let at = places[i] as usize;
-        let e = entry(kinds, block[at]);
-        let stated = fold_op(e, block, at, &mut known, &mut values);
+        let s = shape(shapes, block[at]);
+        let stated = fold_op(s, block, at, &mut known, &mut values);
         match stated {
             Stated::Value(x) => {
                 marks[i] = 1;

@@ -2,11 +2,10 @@
 ghost use mathlib.Core.Path.{_≡_};
 ghost use lib.Dec.{leb};
 ghost use lib.ListN.{getD};
-ghost use Rattle.ops.specs.Rows.{outsIn, insIn, restIn, testIn, roleIn, typesIn, roleNo, numberOf, isKnown, isComputing, isSetting, isJumping};
+ghost use Rattle.ops.specs.Rows.{outsIn, insIn, restIn, testIn, roleIn, typesIn, roleNo, numberOf, isKnown, isSetting, isJumping};
 ghost use Rattle.ops.specs.Kinds.{kindTable};
 ghost use Prim.Native.Nat.{_+_};
 use ops::BRANCHES;
-use ops::CONSTANT;
 use ops::JUMPS_TO;
 use ops::SETS_LABEL;
 
@@ -285,13 +284,13 @@ pub fn entry(kinds: &[u32; 256], kind: u8) -> u32
     kinds[kind as usize]
 }
 
-pub fn outs(e: u32) -> usize
+fn outs(e: u32) -> usize
     ensures { λ r. ⌜ r ≡ outsIn e ⌝ }
 {
     (e % 16) as usize
 }
 
-pub fn ins(e: u32) -> usize
+fn ins(e: u32) -> usize
     ensures { λ r. ⌜ r ≡ insIn e ⌝ }
 {
     (e / 16 % 16) as usize
@@ -312,7 +311,7 @@ pub fn test(e: u32) -> u32
 }
 
 // The number of the role, 0 for any that is none.
-pub fn role(e: u32) -> u32
+fn role(e: u32) -> u32
     ensures { λ r. ⌜ r ≡ numberOf (roleNo (roleIn e)) ⌝ }
 {
     let n = e / 65536 % 16;
@@ -342,12 +341,6 @@ pub fn is_known(e: u32) -> bool
     ensures { λ r. ⌜ r ≡ isKnown (roleNo (roleIn e)) ⌝ }
 {
     0 < role(e)
-}
-
-pub fn is_computing(e: u32) -> bool
-    ensures { λ r. ⌜ r ≡ isComputing (roleNo (roleIn e)) ⌝ }
-{
-    CONSTANT < role(e)
 }
 
 // The op sets a label; it may jump to one.

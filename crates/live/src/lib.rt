@@ -5,20 +5,21 @@ ghost use mathlib.Core.Bool.{cond, _||_};
 ghost use Prim.Native.Nat.{_+_, _%_, _≤_, _<_};
 ghost use lib.ListN.{length, getD};
 ghost use Rattle.theory.specs.Prune.{dead};
-ghost use Rattle.ops.specs.Rows.{outsIn, roleIn, roleNo, roleOf, computing, isSetting, isJumping};
-ghost use Rattle.ops.specs.Kinds.{kindTable, rowOf, document01};
+ghost use Rattle.ops.specs.Rows.{outsIn, roleOf, computing};
+ghost use Rattle.ops.specs.Kinds.{rowOf, document01};
 ghost use Rattle.ops.specs.Ops.{bytesAt, viewOf};
+ghost use Rattle.ops.specs.Shapes.{setsAs, jumpsAs, entryAt, shapeAt};
 ghost use Rattle.block.specs.Scan.{recordAt, Stands};
 ghost use Rattle.passes.specs.Live.{beforeAt, liveAs, liveOf, Turns, Timed};
-use kinds::ins;
-use kinds::is_jumping;
-use kinds::is_setting;
-use kinds::outs;
-use kinds::role;
 use marks::put_number;
 use ops::CONSTANT;
 use ops::LOADS;
 use ops::STORES;
+use shapes::ins;
+use shapes::is_jumping;
+use shapes::is_setting;
+use shapes::outs;
+use shapes::role;
 
 // Whether a variable is live: the later of its own event and its class's is odd.
 fn is_live(events: &[u16; 256], floors: &[u16; 4], classes: &[u8; 256], v: u8) -> bool
@@ -35,11 +36,11 @@ fn is_live(events: &[u16; 256], floors: &[u16; 4], classes: &[u8; 256], v: u8) -
 }
 
 // The outputs of an op are not live.
-fn end_outputs(e: u32, block: &[u8], at: usize, time: u16, events: &mut [u16; 256])
-    requires { ⌜ Stands rowOf (now block) at (getD (now block) at 0) × (e ≡ getD kindTable (getD (now block) at 0) 0) ⌝ }
-    ensures { λ _. ⌜ Timed (now (events .entry)) (bytesAt (now (block .entry)) (at + 1) (outsIn e)) time (now (events .exit)) ⌝ }
+fn end_outputs(s: u16, block: &[u8], at: usize, time: u16, events: &mut [u16; 256])
+    requires { ⌜ Stands rowOf (now block) at (getD (now block) at 0) × (s ≡ shapeAt (now block) at) ⌝ }
+    ensures { λ _. ⌜ Timed (now (events .entry)) (bytesAt (now (block .entry)) (at + 1) (outsIn (entryAt (now (block .entry)) at))) time (now (events .exit)) ⌝ }
 {
-    if outs(e) == 1 {
+    if outs(s) == 1 {
         put_number(events, block[at + 1], time);
     }
 }
@@ -62,11 +63,11 @@ fn wake(block: &[u8], from: usize, count: usize, time: u16, events: &mut [u16; 2
 }
 
 // When local temporaries change where a basic block ends: they are live but where the block is left.
-fn local_time(e: u32, time: u16) -> u16
+fn local_time(s: u16, time: u16) -> u16
     requires { ⌜ time < 65535 ⌝ }
-    ensures { λ r. ⌜ r ≡ cond (isSetting (roleNo (roleIn e)) || isJumping (roleNo (roleIn e))) (time + 1) time ⌝ }
+    ensures { λ r. ⌜ r ≡ cond (setsAs s || jumpsAs s) (time + 1) time ⌝ }
 {
-    if is_setting(e) | is_jumping(e) {
+    if is_setting(s) | is_jumping(s) {
         return time + 1;
     }
     time
@@ -75,22 +76,22 @@ fn local_time(e: u32, time: u16) -> u16
 // What is live before an op that is kept, but for its inputs, from what is live after it. Loads and stores show all
 // globals; where a basic block ends, the variables that outlive it are live, and where the block is left, the globals.
 fn live_but_inputs(
-    e: u32,
+    s: u16,
     block: &[u8],
     at: usize,
     time: u16,
     events: &mut [u16; 256],
     floors: &mut [u16; 4],
 )
-    requires { ⌜ Stands rowOf (now block) at (getD (now block) at 0) × (e ≡ getD kindTable (getD (now block) at 0) 0) × (time % 2 ≡ 0) × (time < 65535) ⌝ }
-    ensures { λ _. ⌜ Turns (now (events .entry)) (now (floors .entry)) time (beforeAt e (now (block .entry)) at) (now (events .exit)) (now (floors .exit)) ⌝ }
+    requires { ⌜ Stands rowOf (now block) at (getD (now block) at 0) × (s ≡ shapeAt (now block) at) × (time % 2 ≡ 0) × (time < 65535) ⌝ }
+    ensures { λ _. ⌜ Turns (now (events .entry)) (now (floors .entry)) time (beforeAt (entryAt (now (block .entry)) at) (now (block .entry)) at) (now (events .exit)) (now (floors .exit)) ⌝ }
 {
-    let r = role(e);
+    let r = role(s);
     if r < LOADS {
-        *floors = [time + 1, local_time(e, time), time, 0];
+        *floors = [time + 1, local_time(s, time), time, 0];
         return;
     }
-    end_outputs(e, block, at, time, events);
+    end_outputs(s, block, at, time, events);
     if STORES < r {
         return;
     }
@@ -99,7 +100,7 @@ fn live_but_inputs(
 
 // The same with its inputs; of an op that a constant replaces, less its output. Pure ops come first: they are most, and have one output.
 pub fn live_before(
-    e: u32,
+    s: u16,
     mark: u8,
     block: &[u8],
     at: usize,
@@ -107,34 +108,34 @@ pub fn live_before(
     events: &mut [u16; 256],
     floors: &mut [u16; 4],
 )
-    requires { ⌜ Stands rowOf (now block) at (getD (now block) at 0) × (e ≡ getD kindTable (getD (now block) at 0) 0) × (time % 2 ≡ 0) × (time < 65535) × (mark ≡ 1 → roleOf rowOf (getD (now block) at 0) ≡ computing) ⌝ }
+    requires { ⌜ Stands rowOf (now block) at (getD (now block) at 0) × (s ≡ shapeAt (now block) at) × (time % 2 ≡ 0) × (time < 65535) × (mark ≡ 1 → roleOf rowOf (getD (now block) at 0) ≡ computing) ⌝ }
     ensures { λ _. ⌜ Turns (now (events .entry)) (now (floors .entry)) time (liveAs mark (now (block .entry)) at) (now (events .exit)) (now (floors .exit)) ⌝ }
 {
-    if CONSTANT <= role(e) {
+    if CONSTANT <= role(s) {
         put_number(events, block[at + 1], time);
         if mark == 1 {
             return;
         }
-        wake(block, at + 2, ins(e), time + 1, events);
+        wake(block, at + 2, ins(s), time + 1, events);
         return;
     }
-    live_but_inputs(e, block, at, time, events, floors);
-    wake(block, at + 1 + outs(e), ins(e), time + 1, events);
+    live_but_inputs(s, block, at, time, events, floors);
+    wake(block, at + 1 + outs(s), ins(s), time + 1, events);
 }
 
 // Whether an op is pure and its output is not live after it.
 pub fn dead_op(
-    e: u32,
+    s: u16,
     block: &[u8],
     at: usize,
     events: &[u16; 256],
     floors: &[u16; 4],
     classes: &[u8; 256],
 ) -> bool
-    requires { ⌜ Stands rowOf (now block) at (getD (now block) at 0) × (e ≡ getD kindTable (getD (now block) at 0) 0) ⌝ }
+    requires { ⌜ Stands rowOf (now block) at (getD (now block) at 0) × (s ≡ shapeAt (now block) at) ⌝ }
     ensures { λ r. ⌜ r ≡ dead (viewOf document01 (recordAt rowOf (now (block .entry)) at)) (liveOf (now (events .entry)) (now (floors .entry)) (now (classes .entry))) ⌝ }
 {
-    if role(e) < CONSTANT {
+    if role(s) < CONSTANT {
         return false;
     }
     !is_live(events, floors, classes, block[at + 1])

@@ -3,6 +3,7 @@ pub mod Ranges
 pub mod Table
 pub mod Entry
 pub mod Plans
+pub mod Shapes
 pub mod Traits
 pub mod Inputs
 pub mod Fits

@@ -1,4 +1,4 @@
--- The digits of a plan are those that its entry gives, what its rank tells, and the shapes that ops have: one computed test each over the table. Assumes nothing.
+-- The digits of a plan are those that its entry gives, what its rank tells, and the sorts that ops are of: one computed test each over the table. Assumes nothing.
 use mathlib.Core.Path.{_≡_, refl, sym, ap, _∙_}
 use mathlib.Core.Bool.{Bool, true, false, cond, not, _&&_, _||_, Bool·beq}
 use mathlib.Core.List.{List, [], _∷_}
@@ -31,10 +31,10 @@ pub record Plan (e h : ℕ) : Type 0 where
   pub no-op-so : eqb (lengthIn h) 15 ≡ noOp e
 
 -- both parts of a test that passes
-abbrev Both : Bool → Bool → Type 0
+abbrev pub Both : Bool → Bool → Type 0
 Both a b = (a ≡ true) × (b ≡ true)
 
-both : (a b : Bool) → (a && b) ≡ true → Both a b
+pub both : (a b : Bool) → (a && b) ≡ true → Both a b
 both a b h = (and-l a b h, and-r a b h)
 
 abbrev digitsOk : ℕ → ℕ → Bool
@@ -81,7 +81,7 @@ by-digits k e t =
     }
 
 -- a test that every entry of the table passes, and 0, holds for every kind
-for-each : (f : ℕ → ℕ → Bool) → every f 0 kindTable ≡ true → ((k : ℕ) → f k 0 ≡ true) → (k : ℕ) → f k (getD kindTable k 0) ≡ true
+pub for-each : (f : ℕ → ℕ → Bool) → every f 0 kindTable ≡ true → ((k : ℕ) → f k 0 ≡ true) → (k : ℕ) → f k (getD kindTable k 0) ≡ true
 for-each f t z k = go (tell (ltb k 256))
   where
     go : (ltb k 256 ≡ true) ⊎ (ltb k 256 ≡ false) → f k (getD kindTable k 0) ≡ true

@@ -5,4 +5,5 @@ pub mod Ops
 pub mod Lawful
 pub mod Kinds
 pub mod Plans
+pub mod Shapes
 pub mod Evaluate

@@ -114,6 +114,7 @@ exitRank = 16
 abbrev pub settingRank : ℕ
 settingRank = 20
 
+-- tables of what each entry gives
 abbrev pub each : (ℕ → ℕ) → List ℕ → List ℕ
 each f [] = []
 each f (e ∷ es) = f e ∷ each f es

@@ -4,13 +4,13 @@ ghost use mathlib.Core.Bool.{cond};
 ghost use Prim.Native.Nat.{ℕ, _≤_};
 ghost use lib.Dec.{ltb};
 ghost use lib.ListN.{getD};
-ghost use Rattle.ops.specs.Kinds.{kindTable};
+ghost use Rattle.ops.specs.Shapes.{shapeTable};
 ghost use Rattle.passes.specs.Passes.{passOf};
 ghost use Rattle.passes.specs.Ready.{classBy, classIn, Ready};
-use kinds::table;
 use passes::Written;
 use rewrite::write_result;
 use scan::scan;
+use shapes::table;
 
 // The class of the i-th variable, which has this byte, where so many are globals.
 fn class_of(code: u8, i: usize, globals: usize) -> u8
@@ -39,7 +39,7 @@ fn classes_of(base: &[u8; 256], globals: usize, n: usize) -> [u8; 256]
 
 // The pass of an accepted block, with room for the marks and the constants of 64 ops.
 fn write_short(
-    kinds: &[u32; 256],
+    shapes: &[u16; 256],
     block: &[u8],
     start: usize,
     ops: usize,
@@ -47,13 +47,13 @@ fn write_short(
     classes: &[u8; 256],
     out: &mut [u8],
 ) -> Written
-    requires { ⌜ Ready (now block) (now places) (now classes) start ops × (ops ≤ 64) × (now kinds ≡ kindTable) ⌝ }
+    requires { ⌜ Ready (now block) (now places) (now classes) start ops × (ops ≤ 64) × (now shapes ≡ shapeTable) ⌝ }
     ensures { λ r. ⌜ (r ≡ (passOf (now (block .entry)) (now (out .entry))) .answer) × (now (out .exit) ≡ (passOf (now (block .entry)) (now (out .entry))) .out) ⌝ }
 {
     let mut marks = [0u8; 64];
     let mut constants = [0u64; 64];
     write_result(
-        kinds,
+        shapes,
         block,
         start,
         ops,
@@ -67,7 +67,7 @@ fn write_short(
 
 // The same, with room for those of as many ops as a block may have.
 fn write_long(
-    kinds: &[u32; 256],
+    shapes: &[u16; 256],
     block: &[u8],
     start: usize,
     ops: usize,
@@ -75,13 +75,13 @@ fn write_long(
     classes: &[u8; 256],
     out: &mut [u8],
 ) -> Written
-    requires { ⌜ Ready (now block) (now places) (now classes) start ops × (now kinds ≡ kindTable) ⌝ }
+    requires { ⌜ Ready (now block) (now places) (now classes) start ops × (now shapes ≡ shapeTable) ⌝ }
     ensures { λ r. ⌜ (r ≡ (passOf (now (block .entry)) (now (out .entry))) .answer) × (now (out .exit) ≡ (passOf (now (block .entry)) (now (out .entry))) .out) ⌝ }
 {
     let mut marks = [0u8; 256];
     let mut constants = [0u64; 256];
     write_result(
-        kinds,
+        shapes,
         block,
         start,
         ops,
@@ -108,10 +108,10 @@ pub fn pass(block: &[u8], out: &mut [u8]) -> Written
             place: s.place,
         };
     }
-    let kinds = table();
+    let shapes = table();
     let classes = classes_of(&base, s.globals, s.variables);
     if s.ops <= 64 {
-        return write_short(&kinds, block, s.start, s.ops, &places, &classes, out);
+        return write_short(&shapes, block, s.start, s.ops, &places, &classes, out);
     }
-    write_long(&kinds, block, s.start, s.ops, &places, &classes, out)
+    write_long(&shapes, block, s.start, s.ops, &places, &classes, out)
 }

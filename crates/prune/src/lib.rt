@@ -4,14 +4,14 @@ ghost use mathlib.Core.Bool.{cond};
 ghost use Prim.Native.Nat.{_-_, _≤_};
 ghost use lib.Dec.{eqb};
 ghost use lib.ListN.{length};
-ghost use Rattle.ops.specs.Kinds.{kindTable};
+ghost use Rattle.ops.specs.Shapes.{shapeTable};
 ghost use Rattle.block.specs.Rules.{globalsIn, keptIn};
 ghost use Rattle.passes.specs.Knows.{foldedOps, Noted};
 ghost use Rattle.passes.specs.Laid.{opsAt, Laid};
 ghost use Rattle.passes.specs.Live.{Classed, Keeps};
-use kinds::entry;
 use live::dead_op;
 use live::live_before;
+use shapes::shape;
 
 // The length of what fold leaves of the op from a place to the next.
 fn length_left(mark: u8, at: usize, next: usize) -> usize
@@ -26,14 +26,14 @@ fn length_left(mark: u8, at: usize, next: usize) -> usize
 
 // Prune of what fold leaves, read backward: those that are dropped are marked 2; how many bytes the others have.
 pub fn prune(
-    kinds: &[u32; 256],
+    shapes: &[u16; 256],
     block: &[u8],
     ops: usize,
     places: &[u16],
     classes: &[u8; 256],
     marks: &mut [u8],
 ) -> usize
-    requires { ⌜ Laid (now block) (now places) ops × Noted (now block) (now places) (now marks) ops × Classed (now classes) × (ops ≤ 256) × (ops ≤ length (now places)) × (ops ≤ length (now marks)) × (now kinds ≡ kindTable) ⌝ }
+    requires { ⌜ Laid (now block) (now places) ops × Noted (now block) (now places) (now marks) ops × Classed (now classes) × (ops ≤ 256) × (ops ≤ length (now places)) × (ops ≤ length (now marks)) × (now shapes ≡ shapeTable) ⌝ }
     ensures { λ r. ⌜ Keeps (foldedOps (opsAt (now (block .entry)) (now (places .entry)) 0 ops)) (globalsIn (now (classes .entry))) (keptIn (now (classes .entry))) (now (marks .entry)) (now (marks .exit)) r ⌝ }
 {
     let mut events = [0u16; 256];
@@ -45,12 +45,12 @@ pub fn prune(
     while 0 < i {
         i -= 1;
         let at = places[i] as usize;
-        let e = entry(kinds, block[at]);
-        if dead_op(e, block, at, &events, &floors, classes) {
+        let s = shape(shapes, block[at]);
+        if dead_op(s, block, at, &events, &floors, classes) {
             marks[i] = 2;
         } else {
             let mark = marks[i];
-            live_before(e, mark, block, at, time, &mut events, &mut floors);
+            live_before(s, mark, block, at, time, &mut events, &mut floors);
             size += length_left(mark, at, next);
         }
         next = at;

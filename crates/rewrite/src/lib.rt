@@ -2,7 +2,7 @@
 ghost use mathlib.Core.Path.{_≡_};
 ghost use Prim.Native.Nat.{_≤_};
 ghost use lib.ListN.{length};
-ghost use Rattle.ops.specs.Kinds.{kindTable};
+ghost use Rattle.ops.specs.Shapes.{shapeTable};
 ghost use Rattle.passes.specs.Passes.{passOf};
 ghost use Rattle.passes.specs.Ready.{Ready};
 use emit::copy;
@@ -10,7 +10,7 @@ use passes::Written;
 
 // The pass of an accepted block, with room for the marks and the constants of its ops.
 pub fn write_result(
-    kinds: &[u32; 256],
+    shapes: &[u16; 256],
     block: &[u8],
     start: usize,
     ops: usize,
@@ -20,11 +20,11 @@ pub fn write_result(
     constants: &mut [u64],
     out: &mut [u8],
 ) -> Written
-    requires { ⌜ Ready (now block) (now places) (now classes) start ops × (ops ≤ length (now marks)) × (ops ≤ length (now constants)) × (now kinds ≡ kindTable) ⌝ }
+    requires { ⌜ Ready (now block) (now places) (now classes) start ops × (ops ≤ length (now marks)) × (ops ≤ length (now constants)) × (now shapes ≡ shapeTable) ⌝ }
     ensures { λ r. ⌜ (r ≡ (passOf (now (block .entry)) (now (out .entry))) .answer) × (now (out .exit) ≡ (passOf (now (block .entry)) (now (out .entry))) .out) ⌝ }
 {
-    fold::fold(kinds, block, ops, places, marks, constants);
-    let size = start + prune::prune(kinds, block, ops, places, classes, marks);
+    fold::fold(shapes, block, ops, places, marks, constants);
+    let size = start + prune::prune(shapes, block, ops, places, classes, marks);
     if out.len() < size {
         return Written::Refused {
             number: 12,
@@ -32,6 +32,6 @@ pub fn write_result(
         };
     }
     copy(block, 0, start, out, 0);
-    emit::emit(kinds, block, start, ops, places, marks, constants, out);
+    emit::emit(shapes, block, start, ops, places, marks, constants, out);
     Written::Length(size)
 }

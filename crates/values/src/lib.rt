@@ -1,14 +1,13 @@
 // The values of the variables, one for each byte that can name one, and what a pure op states of them.
 ghost use mathlib.Core.Path.{_≡_};
-ghost use Prim.Native.Nat.{_<_};
+ghost use Prim.Native.Nat.{_+_, _<_};
 ghost use lib.ListN.{length, getD, set};
 ghost use Rattle.block.specs.Scan.{SetAt};
 ghost use Rattle.runs.specs.Evaluates.{envOf, Computed, inputsAt, statesAt, valuesOf};
+ghost use Rattle.ops.specs.Rows.{outsIn, insIn, restIn};
 ghost use Rattle.ops.specs.Kinds.{kindTable};
 ghost use Rattle.theory.specs.Machine.{reads};
 use evaluate::eval;
-use kinds::operand_count;
-use kinds::rest;
 use marks::index;
 use word::Stated;
 
@@ -50,16 +49,23 @@ fn input(block: &[u8], i: usize, values: &[u64; 256]) -> u64
     get(values, byte_at(block, i))
 }
 
-// What the op of this kind, with this entry, states of its inputs and the bytes after them.
-pub fn evaluate(e: u32, block: &[u8], at: usize, kind: u8, values: &[u64; 256]) -> Stated
-    requires { ⌜ Computed (now block) at kind × (e ≡ getD kindTable kind 0) ⌝ }
+// What the op of this kind, with so many operands and so many bytes after them, states of its inputs and these bytes.
+pub fn evaluate(
+    operands: usize,
+    rest: usize,
+    block: &[u8],
+    at: usize,
+    kind: u8,
+    values: &[u64; 256],
+) -> Stated
+    requires { ⌜ Computed (now block) at kind × (operands ≡ outsIn (getD kindTable kind 0) + insIn (getD kindTable kind 0)) × (rest ≡ restIn (getD kindTable kind 0)) ⌝ }
     ensures { λ r. ⌜ statesAt (now (block .entry)) at kind (reads (envOf (now (values .entry))) (inputsAt (now (block .entry)) at kind)) ≡ valuesOf r ⌝ }
 {
     let a = input(block, at + 2, values);
     let b = input(block, at + 3, values);
     let x = input(block, at + 4, values);
     let y = input(block, at + 5, values);
-    let p = at + 1 + operand_count(e);
-    let end = p + rest(e);
+    let p = at + 1 + operands;
+    let end = p + rest;
     eval(kind, &block[p..end], a, b, x, y)
 }

@@ -10,10 +10,17 @@ use Rattle.compute.proofs.compute_step.Tie as tie
 entry-requires : tie.Need-entry-requires
 entry-requires c κs = search needs
 
+operand-count-requires : tie.Need-operand-count-requires
+operand-count-requires c κs = search needs
+
+rest-requires : tie.Need-rest-requires
+rest-requires c κs = search needs
+
 evaluate-requires : tie.Need-evaluate-requires
 evaluate-requires c κs =
-    let start = c .before .before .before in
-    (start .pre .0, entry-is (start .args .kind) (start .pre .1) (c .before .entry .ensures))
+    let start = c .before .before .before .before .before in
+    let entry = entry-is (start .args .kind) (start .pre .1) (c .before .before .before .entry .ensures) in
+    (start .pre .0, rw entry at (c .before .before .operand-count .ensures), rw entry at (c .before .rest .ensures))
 
 enum-known-stated : tie.Need-enum-known-stated
 enum-known-stated c = search needs
@@ -23,35 +30,35 @@ add-put c = search needs
 
 shared-slice-read-put : tie.Need-shared-slice-read-put
 shared-slice-read-put c =
-    let pre = c .before .before .before .before .before .before .before .before .before .pre in
+    let pre = c .before .before .before .before .before .before .before .before .before .before .before .pre in
     inside (pre .0 .stands) (pre .0 .role-is) 1 (omega arith)
 
 put-requires : tie.Need-put-requires
 put-requires c κs = tt
 
-add-t13 : tie.Need-add-t13
-add-t13 c = search needs
+add-t15 : tie.Need-add-t15
+add-t15 c = search needs
 
 body-length-requires : tie.Need-body-length-requires
 body-length-requires c κs = search needs
 
-add-t17 : tie.Need-add-t17
-add-t17 c = search needs
+add-t19 : tie.Need-add-t19
+add-t19 c = search needs
 
 enum-told : tie.Need-enum-told
 enum-told c = search needs
 
 returns : tie.Need-returns
 returns c =
-    let start = c .before .before .before .before .before .before .before .before .before .before .before in
-    let entry = entry-is (start .args .kind) (start .pre .1) (c .before .before .before .before .before .before .before .before .before .entry .ensures) in
+    let start = c .before .before .before .before .before .before .before .before .before .before .before .before .before in
+    let entry = entry-is (start .args .kind) (start .pre .1) (c .before .before .before .before .before .before .before .before .before .before .before .entry .ensures) in
     let evaluated = c .before .before .before .before .before .before .before .evaluate in
     let stated = c .before .before .before .before .before .stated .given .1 in
     compute-falls (start .pre .0) (start .args .values .now) (evaluated .result) (evaluated .ensures) stated (c .before .put .ensures) entry (c .body-length .ensures)
 
 returns-2 : tie.Need-returns-2
 returns-2 c =
-    let start = c .before .before .before .before .before .before in
+    let start = c .before .before .before .before .before .before .before .before in
     let evaluated = c .before .before .evaluate in
     compute-unstated (start .pre .0) (start .args .values .now) (evaluated .result) (evaluated .ensures) (c .enum-told .given .1)
 
@@ -60,14 +67,16 @@ compute-step-spec =
     tie.close
     (tie.spec
     entry-requires
+    operand-count-requires
+    rest-requires
     evaluate-requires
     enum-known-stated
     add-put
     shared-slice-read-put
     put-requires
-    add-t13
+    add-t15
     body-length-requires
-    add-t17
+    add-t19
     enum-told
     returns
     returns-2)

@@ -6,16 +6,17 @@ use native.Mathlib.Omega.{arith}
 use lib.ListN.{length}
 use lib.Seq.{length-sets}
 use borrow.Author.Needs.{needs}
+use Rattle.ops.proofs.Shapes.{shape-of}
 use Rattle.passes.proofs.Emitting.{EmittingSo, emitting-start, here, emitting-stays, edit-computes, edit-room, emitting-edits, run-fits, emitting-ends, marked-some}
 use Rattle.passes.proofs.Placing.{op-inside}
 use Rattle.emit.proofs.emit.Statement.{statement}
 use Rattle.emit.proofs.emit.Tie as tie
 
 abbrev Inv-loop : tie.InvT-loop
-Inv-loop kinds block start ops places marks constants out₀ end from₀ to₀ i₀ out from to i = (i ≤ ops) × EmittingSo block places marks out₀ out ops start from to i
+Inv-loop shapes block start ops places marks constants out₀ end from₀ to₀ i₀ out from to i = (i ≤ ops) × EmittingSo block places marks out₀ out ops start from to i
 
 abbrev μ-loop : tie.MeasureT-loop
-μ-loop kinds block start ops places marks constants out₀ end from₀ to₀ i₀ out from to i = ops - i
+μ-loop shapes block start ops places marks constants out₀ end from₀ to₀ i₀ out from to i = ops - i
 
 loop-holds : tie.Need-loop-holds Inv-loop μ-loop
 loop-holds c = (omega arith, emitting-start (c .before .before .before .before .before .pre .2) (c .before .before .before .before .before .pre .3))
@@ -32,11 +33,11 @@ shared-slice-read-at c = omega (arith, c .before .before .before .before .before
 cast-at : tie.Need-cast-at Inv-loop μ-loop
 cast-at c = omega (arith, c .shared-slice-known6 .given (c .before .before .before .before .loop .i))
 
-shared-slice-read-entry : tie.Need-shared-slice-read-entry Inv-loop μ-loop
-shared-slice-read-entry c = op-inside (c .before .before .before .before .before .before .before .before .before .before .before .pre .0) (c .before .before .before .before .loop-test .taken)
+shared-slice-read-shape : tie.Need-shared-slice-read-shape Inv-loop μ-loop
+shared-slice-read-shape c = op-inside (c .before .before .before .before .before .before .before .before .before .before .before .pre .0) (c .before .before .before .before .loop-test .taken)
 
-entry-requires : tie.Need-entry-requires Inv-loop μ-loop
-entry-requires c κs = search needs
+shape-requires : tie.Need-shape-requires Inv-loop μ-loop
+shape-requires c κs = search needs
 
 mul-put-edit : tie.Need-mul-put-edit Inv-loop μ-loop
 mul-put-edit c = omega (arith, c .before .before .before .before .before .before .before .before .before .before .before .before .pre .6, c .before .before .before .before .before .loop-test .taken)
@@ -51,7 +52,7 @@ put-edit-requires c κs =
     let more = c .before .before .before .before .before .before .before .loop-test .taken in (
       pre .0 .stands (loop .i) more,
       edit-computes (pre .0) (pre .1) (loop .inv .1) more,
-      rw (pre .7) at (c .before .before .entry .ensures),
+      shape-of _ (c .before .before .shape .ensures) (pre .7),
       (here (pre .0) (pre .1) (loop .inv .1) more) .ordered,
       edit-room (pre .0) (pre .1) (loop .inv .1) more (marked-some (c .before .before .before .before .before .if1 .taken)) (pre .8),
     )
@@ -105,8 +106,8 @@ emit-spec =
     mul-at
     shared-slice-read-at
     cast-at
-    shared-slice-read-entry
-    entry-requires
+    shared-slice-read-shape
+    shape-requires
     mul-put-edit
     shared-slice-read-put-edit
     put-edit-requires

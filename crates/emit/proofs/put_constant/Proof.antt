@@ -2,6 +2,7 @@
 use mathlib.Core.Path.{refl}
 use native.Mathlib.Omega.{arith}
 use borrow.Author.Needs.{needs}
+use Rattle.ops.proofs.Shapes.{type-as}
 use Rattle.block.proofs.Views.{inside}
 use Rattle.passes.proofs.Constants.{constant-after}
 use Rattle.emit.proofs.put_constant.Statement.{statement}
@@ -44,7 +45,7 @@ returns c =
     let start = c .before .before .before .before .before .before .before .before .before .before .before .before in
     let a = start .args in (
       refl,
-      constant-after (start .pre .0) (start .pre .2) (start .pre .1) (a .out .now) (a .to) (a .value) (c .before .before .before .before .movi-kind .ensures) (start .pre .3)
+      constant-after (start .pre .0) refl (start .pre .1) (a .out .now) (a .to) (a .value) (rw (type-as _ (start .pre .2)) at (c .before .before .before .before .movi-kind .ensures)) (start .pre .3)
           (c .before .before .before .before .before .before .before .before .copy .ensures) (c .before .before .put-movi .ensures),
     )
 

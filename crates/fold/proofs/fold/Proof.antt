@@ -5,6 +5,7 @@ use Prim.Native.Nat.{_-_, _≤_, _<_}
 use native.Mathlib.Omega.{arith}
 use lib.ListN.{length, length-set}
 use borrow.Author.Needs.{needs}
+use Rattle.ops.proofs.Shapes.{shape-of}
 use Rattle.block.specs.Scan.{marked}
 use Rattle.block.proofs.MarkSets.{marked-none}
 use Rattle.passes.proofs.Forward.{FoldingSo, folding-start, folding-stays, folding-puts, folding-ends}
@@ -13,11 +14,11 @@ use Rattle.fold.proofs.fold.Statement.{statement}
 use Rattle.fold.proofs.fold.Tie as tie
 
 abbrev Inv-loop : tie.InvT-loop
-Inv-loop kinds block ops places marks₀ constants₀ known₀ values₀ i₀ marks constants known values i =
+Inv-loop shapes block ops places marks₀ constants₀ known₀ values₀ i₀ marks constants known values i =
     (i ≤ ops) × (length marks ≡ length marks₀) × (length constants ≡ length constants₀) × FoldingSo block places marks constants (marked known) values ops i
 
 abbrev μ-loop : tie.MeasureT-loop
-μ-loop kinds block ops places marks₀ constants₀ known₀ values₀ i₀ marks constants known values i = ops - i
+μ-loop shapes block ops places marks₀ constants₀ known₀ values₀ i₀ marks constants known values i = ops - i
 
 loop-holds : tie.Need-loop-holds Inv-loop μ-loop
 loop-holds c = (omega arith, refl, refl, folding-start _ (marked-none 256 refl))
@@ -31,14 +32,14 @@ shared-slice-read-at c = omega (arith, c .before .before .before .before .before
 cast-at : tie.Need-cast-at Inv-loop μ-loop
 cast-at c = omega (arith, c .shared-slice-known3 .given (c .before .before .loop .i))
 
-shared-slice-read-entry : tie.Need-shared-slice-read-entry Inv-loop μ-loop
-shared-slice-read-entry c = op-inside (c .before .before .before .before .before .before .before .before .pre .0) (c .before .before .loop-test .taken)
+shared-slice-read-shape : tie.Need-shared-slice-read-shape Inv-loop μ-loop
+shared-slice-read-shape c = op-inside (c .before .before .before .before .before .before .before .before .pre .0) (c .before .before .loop-test .taken)
 
-entry-requires : tie.Need-entry-requires Inv-loop μ-loop
-entry-requires c κs = search needs
+shape-requires : tie.Need-shape-requires Inv-loop μ-loop
+shape-requires c κs = search needs
 
 fold-op-requires : tie.Need-fold-op-requires Inv-loop μ-loop
-fold-op-requires c κs = (c .before .before .before .before .before .before .before .before .before .before .before .pre .0 .stands (c .before .before .before .before .before .before .loop .i) (c .before .before .before .before .before .loop-test .taken), rw (c .before .before .before .before .before .before .before .before .before .before .before .pre .4) at (c .before .before .entry .ensures))
+fold-op-requires c κs = (c .before .before .before .before .before .before .before .before .before .before .before .pre .0 .stands (c .before .before .before .before .before .before .loop .i) (c .before .before .before .before .before .loop-test .taken), shape-of _ (c .before .before .shape .ensures) (c .before .before .before .before .before .before .before .before .before .before .before .pre .4))
 
 enum-known-stated : tie.Need-enum-known-stated Inv-loop μ-loop
 enum-known-stated c = search needs
@@ -96,8 +97,8 @@ fold-spec =
     mul-at
     shared-slice-read-at
     cast-at
-    shared-slice-read-entry
-    entry-requires
+    shared-slice-read-shape
+    shape-requires
     fold-op-requires
     enum-known-stated
     slice-write-marks

@@ -4,6 +4,7 @@ use native.Mathlib.Omega.{arith}
 use lib.ListN.{getD}
 use Rattle.ops.specs.Rows.{constant, roleOf}
 use Rattle.ops.specs.Kinds.{rowOf}
+use Rattle.ops.proofs.Shapes.{outs-as, role-as}
 use Rattle.block.specs.Scan.{marked}
 use Rattle.block.proofs.MarkSets.{marked-none}
 use Rattle.block.proofs.Views.{inside}
@@ -15,7 +16,7 @@ use Rattle.fold.proofs.pass_over.Tie as tie
 
 -- past the first test
 constant-so : (r : tie.After-role) → r .role .result ≡ 8 → (let a = r .before .before .args in roleOf rowOf (getD (a .block .now) (a .at) 0) ≡ constant)
-constant-so r h = let start = r .before .before in is-constant (start .pre .0) (start .pre .1) (r .role .ensures) (marked (start .args .known .now)) (start .args .values .now) h
+constant-so r h = let start = r .before .before in is-constant (start .pre .0) refl (role-as _ (start .pre .1) (r .role .ensures)) (marked (start .args .known .now)) (start .args .values .now) h
 
 role-requires : tie.Need-role-requires
 role-requires c κs = search needs
@@ -38,12 +39,12 @@ learn-requires c κs = search needs
 returns : tie.Need-returns
 returns c =
     let start = c .before .before .before .before .before .before .before .before in
-    over-constant (start .pre .0) (start .pre .1) (c .before .before .before .before .before .before .role .ensures) (marked (start .args .known .now)) (start .args .values .now) (c .before .before .before .before .before .if1 .taken) (c .before .low-first .ensures .0) (c .learn .ensures)
+    over-constant (start .pre .0) refl (role-as _ (start .pre .1) (c .before .before .before .before .before .before .role .ensures)) (marked (start .args .known .now)) (start .args .values .now) (c .before .before .before .before .before .if1 .taken) (c .before .low-first .ensures .0) (c .learn .ensures)
 
 returns-2 : tie.Need-returns-2
 returns-2 c =
     let start = c .before .before .before .before .before in
-    over-end (start .pre .0) (start .pre .1) (c .before .before .before .role .ensures) (marked (start .args .known .now)) (start .args .values .now) (c .before .if2 .taken) (marked-none 256 refl)
+    over-end (start .pre .0) refl (role-as _ (start .pre .1) (c .before .before .before .role .ensures)) (marked (start .args .known .now)) (start .args .values .now) (c .before .if2 .taken) (marked-none 256 refl)
 
 outs-requires : tie.Need-outs-requires
 outs-requires c κs = search needs
@@ -52,7 +53,9 @@ add-put : tie.Need-add-put
 add-put c = search needs
 
 shared-slice-read-put : tie.Need-shared-slice-read-put
-shared-slice-read-put c = omega (arith, operands-inside (c .before .before .before .before .before .before .before .before .pre .0) (c .before .before .before .before .before .before .before .before .pre .1), c .before .before .before .outs .ensures, c .before .before .if3 .taken)
+shared-slice-read-put c =
+    let start = c .before .before .before .before .before .before .before .before in
+    omega (arith, operands-inside (start .pre .0) refl, outs-as _ (start .pre .1) (c .before .before .before .outs .ensures), c .before .before .if3 .taken)
 
 put-requires : tie.Need-put-requires
 put-requires c κs = search needs
@@ -60,14 +63,14 @@ put-requires c κs = search needs
 returns-3 : tie.Need-returns-3
 returns-3 c =
     let start = c .before .before .before .before .before .before .before .before .before in
-    over-output (start .pre .0) (start .pre .1) (c .before .before .before .before .before .before .before .role .ensures) (marked (start .args .known .now)) (start .args .values .now) (c .before .before .before .before .before .if2 .left) (c .before .before .before .before .before .before .if1 .left) (start .pre .2)
-    (c .before .before .before .before .outs .ensures) (c .before .before .before .if3 .taken) (forgotten (c .put .ensures))
+    over-output (start .pre .0) refl (role-as _ (start .pre .1) (c .before .before .before .before .before .before .before .role .ensures)) (marked (start .args .known .now)) (start .args .values .now) (c .before .before .before .before .before .if2 .left) (c .before .before .before .before .before .before .if1 .left) (start .pre .2)
+    (outs-as _ (start .pre .1) (c .before .before .before .before .outs .ensures)) (c .before .before .before .if3 .taken) (forgotten (c .put .ensures))
 
 returns-4 : tie.Need-returns-4
 returns-4 c =
     let start = c .before .before .before .before .before .before in
-    over-nothing (start .pre .0) (start .pre .1) (c .before .before .before .before .role .ensures) (marked (start .args .known .now)) (start .args .values .now) (c .before .before .if2 .left) (c .before .before .before .if1 .left) (start .pre .2)
-    (c .before .outs .ensures) (c .if3 .left)
+    over-nothing (start .pre .0) refl (role-as _ (start .pre .1) (c .before .before .before .before .role .ensures)) (marked (start .args .known .now)) (start .args .values .now) (c .before .before .if2 .left) (c .before .before .before .if1 .left) (start .pre .2)
+    (outs-as _ (start .pre .1) (c .before .outs .ensures)) (c .if3 .left)
 
 pub pass-over-spec : {M : Type 1} → statement M
 pass-over-spec =

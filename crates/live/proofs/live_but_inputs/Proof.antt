@@ -1,5 +1,7 @@
 -- What is live before an op but for its inputs, by the number of its role. Assumes nothing.
 use borrow.Author.Needs.{needs}
+use Rattle.ops.specs.Shapes.{entryAt}
+use Rattle.ops.proofs.Shapes.{role-as, labels-as}
 use Rattle.passes.proofs.Events.{turn-ends, turn-pure, turn-access}
 use Rattle.live.proofs.live_but_inputs.Statement.{statement}
 use Rattle.live.proofs.live_but_inputs.Tie as tie
@@ -15,16 +17,18 @@ local-time-requires c κs = search needs
 
 returns : tie.Need-returns
 returns c =
-    let a = c .before .before .before .before .before .args in
-    turn-ends (a .e) (a .time) (a .block .now) (a .at) (a .events .now) (a .floors .now) (c .before .before .before .role .ensures) (c .before .before .before .before .before .pre .2) (c .before .before .if1 .taken) (c .before .local-time .ensures)
+    let s = c .before .before .before .before .before in
+    let a = s .args in
+    turn-ends (entryAt (a .block .now) (a .at)) (a .time) (a .block .now) (a .at) (a .events .now) (a .floors .now) (role-as _ (s .pre .1) (c .before .before .before .role .ensures)) (s .pre .2) (c .before .before .if1 .taken) (rw (labels-as _ (s .pre .1)) at (c .before .local-time .ensures))
 
 end-outputs-requires : tie.Need-end-outputs-requires
 end-outputs-requires c κs = search needs
 
 returns-2 : tie.Need-returns-2
 returns-2 c =
-    let a = c .before .before .before .before .before .before .args in
-    turn-pure (a .e) (a .time) (a .block .now) (a .at) (a .events .now) (a .floors .now) (c .before .before .before .before .role .ensures) (c .before .before .before .before .before .before .pre .2) _ (c .before .end-outputs .ensures) (c .if2 .taken)
+    let s = c .before .before .before .before .before .before in
+    let a = s .args in
+    turn-pure (entryAt (a .block .now) (a .at)) (a .time) (a .block .now) (a .at) (a .events .now) (a .floors .now) (role-as _ (s .pre .1) (c .before .before .before .before .role .ensures)) (s .pre .2) _ (c .before .end-outputs .ensures) (c .if2 .taken)
 
 add-t13 : tie.Need-add-t13
 add-t13 c = search needs
@@ -37,8 +41,9 @@ element-copy-out-t19 c = search needs
 
 returns-3 : tie.Need-returns-3
 returns-3 c =
-    let a = c .before .before .before .before .before .before .before .before .before .args in
-    turn-access (a .e) (a .time) (a .block .now) (a .at) (a .events .now) (a .floors .now) (c .before .before .before .before .before .before .before .role .ensures) (c .before .before .before .before .before .before .before .before .before .pre .2) _ (c .before .before .before .before .end-outputs .ensures) (c .before .before .before .before .before .before .if1 .left) (c .before .before .before .if2 .left)
+    let s = c .before .before .before .before .before .before .before .before .before in
+    let a = s .args in
+    turn-access (entryAt (a .block .now) (a .at)) (a .time) (a .block .now) (a .at) (a .events .now) (a .floors .now) (role-as _ (s .pre .1) (c .before .before .before .before .before .before .before .role .ensures)) (s .pre .2) _ (c .before .before .before .before .end-outputs .ensures) (c .before .before .before .before .before .before .if1 .left) (c .before .before .before .if2 .left)
 
 pub live-but-inputs-spec : {M : Type 1} → statement M
 live-but-inputs-spec =

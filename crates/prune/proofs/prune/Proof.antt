@@ -6,6 +6,7 @@ use native.Mathlib.Omega.{arith}
 use lib.Dec.{eqb}
 use lib.ListN.{length, getD, length-set}
 use borrow.Author.Needs.{needs}
+use Rattle.ops.proofs.Shapes.{shape-of}
 use Rattle.block.specs.Rules.{globalsIn, keptIn}
 use Rattle.passes.specs.Knows.{foldedOps}
 use Rattle.passes.specs.Laid.{opsAt, placeOf}
@@ -17,12 +18,12 @@ use Rattle.prune.proofs.prune.Statement.{statement}
 use Rattle.prune.proofs.prune.Tie as tie
 
 abbrev Inv-loop : tie.InvT-loop
-Inv-loop kinds block ops places classes marks₀ events₀ floors₀ time₀ size₀ next₀ i₀ marks events floors time size next i =
+Inv-loop shapes block ops places classes marks₀ events₀ floors₀ time₀ size₀ next₀ i₀ marks events floors time size next i =
     (i ≤ ops) × (length marks ≡ length marks₀) × (next ≡ placeOf block places ops i) × (time ≡ 2 + 2 * (ops - i)) × Young events floors time
     × Pruning (foldedOps (opsAt block places 0 ops)) (globalsIn classes) (keptIn classes) marks₀ marks (liveOf events floors classes) i size
 
 abbrev μ-loop : tie.MeasureT-loop
-μ-loop kinds block ops places classes marks₀ events₀ floors₀ time₀ size₀ next₀ i₀ marks events floors time size next i = i
+μ-loop shapes block ops places classes marks₀ events₀ floors₀ time₀ size₀ next₀ i₀ marks events floors time size next i = i
 
 loop-holds : tie.Need-loop-holds Inv-loop μ-loop
 loop-holds c =
@@ -48,14 +49,14 @@ shared-slice-read-at c = omega (arith, c .before .before .before .before .before
 cast-at : tie.Need-cast-at Inv-loop μ-loop
 cast-at c = omega (arith, c .shared-slice-known3 .given (c .before .before .loop .i - 1))
 
-shared-slice-read-entry : tie.Need-shared-slice-read-entry Inv-loop μ-loop
-shared-slice-read-entry c = op-inside {i = c .before .before .before .loop .i - 1} (c .before .before .before .before .before .before .before .pre .0) (omega (arith, c .before .before .before .loop .inv .0, c .before .before .loop-test .taken))
+shared-slice-read-shape : tie.Need-shared-slice-read-shape Inv-loop μ-loop
+shared-slice-read-shape c = op-inside {i = c .before .before .before .loop .i - 1} (c .before .before .before .before .before .before .before .pre .0) (omega (arith, c .before .before .before .loop .inv .0, c .before .before .loop-test .taken))
 
-entry-requires : tie.Need-entry-requires Inv-loop μ-loop
-entry-requires c κs = search needs
+shape-requires : tie.Need-shape-requires Inv-loop μ-loop
+shape-requires c κs = search needs
 
 dead-op-requires : tie.Need-dead-op-requires Inv-loop μ-loop
-dead-op-requires c κs = (c .before .before .before .before .before .before .before .before .before .before .pre .0 .stands (c .before .before .before .before .before .before .loop .i - 1) (omega (arith, c .before .before .before .before .before .before .loop .inv .0, c .before .before .before .before .before .loop-test .taken)), rw (c .before .before .before .before .before .before .before .before .before .before .pre .6) at (c .before .before .entry .ensures))
+dead-op-requires c κs = (c .before .before .before .before .before .before .before .before .before .before .pre .0 .stands (c .before .before .before .before .before .before .loop .i - 1) (omega (arith, c .before .before .before .before .before .before .loop .inv .0, c .before .before .before .before .before .loop-test .taken)), shape-of _ (c .before .before .shape .ensures) (c .before .before .before .before .before .before .before .before .before .before .pre .6))
 
 slice-write-marks : tie.Need-slice-write-marks Inv-loop μ-loop
 slice-write-marks c = omega (arith, c .before .before .before .before .before .before .before .before .before .before .before .before .pre .5, c .before .before .before .before .before .before .before .before .loop .inv .0, c .before .before .before .before .before .before .before .before .loop .inv .1, c .before .before .before .before .before .before .before .loop-test .taken)
@@ -70,7 +71,7 @@ live-before-requires c κs =
     let more = c .before .before .before .before .before .before .before .before .before .before .loop-test .taken in
     let low : loop .i - 1 < start .args .ops = omega (arith, loop .inv .0, more) in (
       start .pre .0 .stands (loop .i - 1) low,
-      rw (start .pre .6) at (c .before .before .before .before .before .before .before .entry .ensures),
+      shape-of _ (c .before .before .before .before .before .before .before .shape .ensures) (start .pre .6),
       omega (arith, loop .inv .3),
       omega (arith, loop .inv .3, start .pre .3),
       mark-computes (start .pre .0) (start .pre .1 .folded) (before-that (loop .inv .5) more) low,
@@ -139,8 +140,8 @@ prune-spec =
     mul-at
     shared-slice-read-at
     cast-at
-    shared-slice-read-entry
-    entry-requires
+    shared-slice-read-shape
+    shape-requires
     dead-op-requires
     slice-write-marks
     slice-read-mark

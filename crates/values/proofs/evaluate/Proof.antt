@@ -1,4 +1,5 @@
 -- The op states what eval answers. Assumes nothing.
+use mathlib.Core.Path.{refl}
 use native.Mathlib.Omega.{arith}
 use borrow.Author.Needs.{needs}
 use Rattle.runs.proofs.Stating.{bytes-fit, evaluates}
@@ -32,14 +33,8 @@ input-requires-4 c κs = search needs
 add-p : tie.Need-add-p
 add-p c = search needs
 
-operand-count-requires : tie.Need-operand-count-requires
-operand-count-requires c κs = search needs
-
 add-p-2 : tie.Need-add-p-2
 add-p-2 c = search needs
-
-rest-requires : tie.Need-rest-requires
-rest-requires c κs = search needs
 
 add-end : tie.Need-add-end
 add-end c = search needs
@@ -51,24 +46,19 @@ part-eval-start : tie.Need-part-eval-start
 part-eval-start c = search needs
 
 part-eval-end : tie.Need-part-eval-end
-part-eval-end c =
-    let pre = c .before .before .before .before .before .before .before .pre in
-    omega (arith, bytes-fit (pre .0) (pre .1) (c .before .operand-count .ensures) (c .rest .ensures))
+part-eval-end c = let pre = c .before .before .before .before .before .pre in omega (arith, bytes-fit (pre .0) refl (pre .1) (pre .2))
 
 eval-requires : tie.Need-eval-requires
 eval-requires c κs = search needs
 
 returns : tie.Need-returns
 returns c =
-    let pre = c .before .before .before .before .before .before .before .before .before .pre in
-    let values = c .before .before .before .before .before .before .before .before .before .args .values .now in
-    let count = c .before .before .before .operand-count .ensures in
-    let rest = c .before .before .rest .ensures in
-    let input = c .before .before .before .before .before .before .before .input .ensures in
-    let input2 = c .before .before .before .before .before .before .input2 .ensures in
-    let input3 = c .before .before .before .before .before .input3 .ensures in
-    let input4 = c .before .before .before .before .input4 .ensures in
-    evaluates (pre .0) (pre .1) count rest values input input2 input3 input4 (c .eval .ensures)
+    let start = c .before .before .before .before .before .before .before in
+    let input = c .before .before .before .before .before .input .ensures in
+    let input2 = c .before .before .before .before .input2 .ensures in
+    let input3 = c .before .before .before .input3 .ensures in
+    let input4 = c .before .before .input4 .ensures in
+    evaluates (start .pre .0) refl (start .pre .1) (start .pre .2) (start .args .values .now) input input2 input3 input4 (c .eval .ensures)
 
 pub evaluate-spec : {M : Type 1} → statement M
 evaluate-spec =
@@ -83,9 +73,7 @@ evaluate-spec =
     add-input-4
     input-requires-4
     add-p
-    operand-count-requires
     add-p-2
-    rest-requires
     add-end
     sub-eval
     part-eval-start
