@@ -1,7 +1,7 @@
 -- The sets of variables and labels that arrays hold, and how stores change them. Assumes nothing.
 use mathlib.Core.Path.{_≡_, refl, sym, ap, ap₂, _∙_, subst, fun-ext}
 use mathlib.Core.Bool.{Bool, true, false, cond, not, _&&_, _||_}
-use mathlib.Core.List.{List}
+use mathlib.Core.List.{List, [], _∷_}
 use mathlib.Core.Logic.{_⊎_, inl, inr}
 use Prim.Native.Nat.{ℕ, zero, suc, _+_, _-_, _≤_, _<_}
 use native.Mathlib.Omega.{arith}
@@ -53,6 +53,12 @@ marked-none n e = ap marked e ∙ fun-ext (λ v. ap (λ (m : ℕ). eqb m 1) (zer
 
 pub numbered-none : {xs : List ℕ} (n : ℕ) → xs ≡ replicate n 0 → numbered xs ≡ empty
 numbered-none n e = ap numbered e ∙ fun-ext (λ v. ap (λ (m : ℕ). not (eqb m 0)) (zeros n v))
+
+-- nor beyond the end
+pub beyond-none : (xs : List ℕ) (l : ℕ) → length xs ≤ l → numbered xs l ≡ false
+beyond-none [] l h = refl
+beyond-none (x ∷ xs) zero h = absurd (omega arith)
+beyond-none (x ∷ xs) (suc l) h = beyond-none xs l (omega arith)
 
 -- rule 7 at the end: what is left to test below i decides the whole
 pub record SetBelow (targets labels : List ℕ) (n i : ℕ) : Type 0 where

@@ -39,7 +39,7 @@ module _ {T : Table} {b base : List ℕ} {p : ℕ} (g : Begins T b base p) where
       (ap declarations (g .after .records-are) ∙ q .0, ap opsFrom (g .after .records-are) ∙ q .1)
 
   pub approve : (places₀ places labels : List ℕ) (ops : ℕ) → checkBy T b ≡ Accepted → ops ≡ length (recordsAt T b p) → places ≡ placesFrom p 0 places₀ (recordsAt T b p)
-      → labels ≡ labelsFrom T 0 (replicate 256 0) (recordsAt T b p) → Approved T b places₀ base places labels p (g .n) (g .globals) ops
+      → labels ≡ labelsFrom T 0 (replicate 32 0) (recordsAt T b p) → Approved T b places₀ base places labels p (g .n) (g .globals) ops
   unfolding ds
   approve places₀ places labels ops a c q l =
       record {
@@ -53,7 +53,7 @@ module _ {T : Table} {b base : List ℕ} {p : ℕ} (g : Begins T b base p) where
         ops-are = sym (split .1);
         count-is = c ∙ ap length (sym (split .1));
         places-are = q ∙ ap (placesFrom p 0 places₀) (sym (split .1));
-        labels-are = l ∙ ap (labelsFrom T 0 (replicate 256 0)) (sym (split .1));
+        labels-are = l ∙ ap (labelsFrom T 0 (replicate 32 0)) (sym (split .1));
       }
 
 -- what the first scan leaves to the second

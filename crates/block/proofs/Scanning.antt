@@ -286,7 +286,7 @@ module _ {T : Table} {b : List ℕ} {start : ℕ} {places₀ base vars labels ta
         (sym (s .labels-are ∙ ap (labelsFrom T ops labels) rest))
 
 -- the start, after the declarations
-pub begins-start : {T : Table} {b base labels : List ℕ} {p : ℕ} (places₀ : List ℕ) → Begins T b base p → labels ≡ replicate 256 0
+pub begins-start : {T : Table} {b base labels : List ℕ} {p : ℕ} (places₀ : List ℕ) → Begins T b base p → labels ≡ replicate 32 0
     → Reading T b p places₀ base base labels (replicate 32 0) places₀ p 0 0
 begins-start {T = T} {b = b} {p = p} places₀ g z =
     record {
@@ -295,7 +295,7 @@ begins-start {T = T} {b = b} {p = p} places₀ g z =
       coded = g .after .coded;
       based = g .after .coded;
       declared = omega (arith, classes-length (g .after .before), g .after .count, g .after .few);
-      labels-so = sym (numbered-none 256 z);
+      labels-so = sym (numbered-none 32 z);
       targets-so = sym (marked-none 32 refl);
       ops-so = refl;
       last-so = refl;

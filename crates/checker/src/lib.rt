@@ -9,7 +9,7 @@ pub fn check(block: &[u8]) -> Verdict
 {
     let mut base = [15u8; 256];
     let mut places = [0u16; 256];
-    let mut labels = [0u16; 256];
+    let mut labels = [0u16; 32];
     let s = scan::scan(block, &mut base, &mut places, &mut labels);
     let rule = s.rule;
     if rule == 0 {

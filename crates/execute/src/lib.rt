@@ -18,11 +18,20 @@ fn wide(x: u16) -> usize
     x as usize
 }
 
-fn number_of(numbers: &[u16; 256], i: usize) -> usize
+// The place of the i-th op.
+fn place_of(places: &[u16; 256], i: usize) -> usize
     requires { ⌜ i < 256 ⌝ }
-    ensures { λ r. ⌜ r ≡ getD (now (numbers .entry)) i 0 ⌝ }
+    ensures { λ r. ⌜ r ≡ getD (now (places .entry)) i 0 ⌝ }
 {
-    wide(numbers[i])
+    wide(places[i])
+}
+
+// The number of a label.
+fn number_of(labels: &[u16; 32], l: usize) -> usize
+    requires { ⌜ l < 32 ⌝ }
+    ensures { λ r. ⌜ r ≡ getD (now (labels .entry)) l 0 ⌝ }
+{
+    wide(labels[l])
 }
 
 // The answer of a run that the op-th op ends, after so many: it counts where it exits or faults.
@@ -59,7 +68,7 @@ pub fn execute(
     start: usize,
     ops: usize,
     places: &[u16; 256],
-    labels: &[u16; 256],
+    labels: &[u16; 32],
     values: &mut [u64; 256],
     memory: &mut [u8],
 ) -> Ending
@@ -79,7 +88,7 @@ pub fn execute(
             }
             Outcome::JumpsTo(l) => {
                 op = number_of(labels, index(l)) - 1;
-                at = number_of(places, op);
+                at = place_of(places, op);
             }
             Outcome::Stops(stop) => return ended(stop, op, count),
         }

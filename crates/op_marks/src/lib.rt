@@ -9,7 +9,6 @@ ghost use Rattle.ops.specs.Plans.{noOp, lengthIn, rankOf, planAt};
 ghost use Rattle.block.specs.Scan.{SameBeyond, recordAt, Stands, codesIn, openAll, FirstReady, LabelFits, SetAt, LabelMarks, setsLabel, jumpsTo, Marks};
 use marks::index;
 use marks::put;
-use marks::put_number;
 use ops::MAX_VARIABLES;
 use plans::closes;
 use plans::labelled;
@@ -35,6 +34,21 @@ fn store_one(targets: &mut [u8], i: usize)
     targets[i] = 1;
 }
 
+fn store_number(labels: &mut [u16], i: usize, x: u16)
+    requires { ⌜ i < length (now labels) ⌝ }
+    ensures { λ _. ⌜ now (labels .exit) ≡ set (now (labels .entry)) i x ⌝ }
+{
+    labels[i] = x;
+}
+
+// A label is set: its number is x.
+fn put_label(labels: &mut [u16; 32], l: u8, x: u16)
+    requires { ⌜ l < 32 ⌝ }
+    ensures { λ _. ⌜ SetAt (now (labels .entry)) l x (now (labels .exit)) ⌝ }
+{
+    store_number(labels, index(l), x);
+}
+
 // A label is jumped to.
 fn mark_target(targets: &mut [u8; 32], l: u8)
     requires { ⌜ l < 32 ⌝ }
@@ -49,7 +63,7 @@ fn mark_label(
     block: &[u8],
     at: usize,
     op: usize,
-    labels: &mut [u16; 256],
+    labels: &mut [u16; 32],
     targets: &mut [u8; 32],
 )
     requires { ⌜ (at + lengthIn (planAt rank) ≤ length (now block)) × (1 < lengthIn (planAt rank)) × LabelFits rank (now block) at × (op < 1024) ⌝ }
@@ -60,7 +74,7 @@ fn mark_label(
     }
     let l = block[at + length(plan(rank)) - 1];
     if sets(rank) {
-        put_number(labels, l, (op + 1) as u16);
+        put_label(labels, l, (op + 1) as u16);
         return;
     }
     mark_target(targets, l);
@@ -87,7 +101,7 @@ pub fn mark_op(
     op: usize,
     base: &[u8; 256],
     vars: &mut [u8; 256],
-    labels: &mut [u16; 256],
+    labels: &mut [u16; 32],
     targets: &mut [u8; 32],
 )
     requires { ⌜ SameBeyond (now base) (now vars) × Stands rowOf (now block) at (getD (now block) at 0) × (op < 1024) × (rank ≡ rankOf (getD kindTable (getD (now block) at 0) 0)) × (noOp (getD kindTable (getD (now block) at 0) 0) ≡ false) × FirstReady (getD kindTable (getD (now block) at 0) 0) (now block) at (now vars) × LabelFits rank (now block) at ⌝ }

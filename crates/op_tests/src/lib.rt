@@ -57,7 +57,7 @@ fn inputs_fit(h: u64, block: &[u8], at: usize, vars: &[u8; 256]) -> bool
 }
 
 // Its label, the last byte, is below the limit and not set yet.
-fn label_ok(h: u64, block: &[u8], at: usize, labels: &[u16; 256]) -> bool
+fn label_ok(h: u64, block: &[u8], at: usize, labels: &[u16; 32]) -> bool
     requires { ⌜ (at + lengthIn h ≤ length (now block)) × (1 < lengthIn h) ⌝ }
     ensures { λ r. ⌜ r ≡ labelFits (now (labels .entry)) (getD (now (block .entry)) (at + lengthIn h - 1) 0) ⌝ }
 {
@@ -66,7 +66,7 @@ fn label_ok(h: u64, block: &[u8], at: usize, labels: &[u16; 256]) -> bool
 }
 
 // What else its plan asks.
-fn more_ok(h: u64, block: &[u8], at: usize, vars: &[u8; 256], labels: &[u16; 256]) -> bool
+fn more_ok(h: u64, block: &[u8], at: usize, vars: &[u8; 256], labels: &[u16; 32]) -> bool
     requires { ⌜ Placed h (now block) at ⌝ }
     ensures { λ r. ⌜ r ≡ moreOk h (now (block .entry)) at (now (vars .entry)) (now (labels .entry)) ⌝ }
 {
@@ -92,7 +92,7 @@ pub fn op_ok(
     at: usize,
     op: usize,
     vars: &[u8; 256],
-    labels: &[u16; 256],
+    labels: &[u16; 32],
 ) -> bool
     requires { ⌜ (at < length (now block)) × (rank ≡ rankOf (getD kindTable (getD (now block) at 0) 0)) × (n ≡ lengthBy (getD kindTable (getD (now block) at 0) 0)) × (now refusals ≡ refusalTable) ⌝ }
     ensures { λ r. ⌜ r ≡ opPasses (getD kindTable (getD (now (block .entry)) at 0) 0) (now (block .entry)) at op (now (vars .entry)) (now (labels .entry)) ⌝ }
@@ -118,7 +118,7 @@ fn broken_rule(
     at: usize,
     ops: usize,
     vars: &[u8; 256],
-    labels: &[u16; 256],
+    labels: &[u16; 32],
 ) -> u8
     requires { ⌜ (at + (outsIn e + insIn e + restIn e) < length (now block)) × (asksFor (testIn e) ≤ restIn e) ⌝ }
     ensures { λ r. ⌜ r ≡ firstBroken (opTests e (now (block .entry)) at ops (now (vars .entry)) (now (labels .entry)) false) ⌝ }
@@ -149,7 +149,7 @@ pub fn record_rule(
     at: usize,
     ops: usize,
     vars: &[u8; 256],
-    labels: &[u16; 256],
+    labels: &[u16; 32],
 ) -> u8
     requires { ⌜ (at < length (now block)) × (asksFor (testIn e) ≤ restIn e) ⌝ }
     ensures { λ r. ⌜ r ≡ entryRule e (now (block .entry)) at ops (now (vars .entry)) (now (labels .entry)) false ⌝ }

@@ -99,7 +99,7 @@ pub fn pass(block: &[u8], out: &mut [u8]) -> Written
 {
     let mut base = [15u8; 256];
     let mut places = [0u16; 256];
-    let mut labels = [0u16; 256];
+    let mut labels = [0u16; 32];
     let s = scan(block, &mut base, &mut places, &mut labels);
     let rule = s.rule;
     if rule != 0 {

@@ -123,14 +123,18 @@ pub fn byte_ok(refusals: &[u8; 256], asked: u32, x: u8) -> bool
 }
 
 // Whether a label is set.
-pub fn is_set(labels: &[u16; 256], l: u8) -> bool
+pub fn is_set(labels: &[u16; 32], l: u8) -> bool
     ensures { λ r. ⌜ r ≡ numbered (now (labels .entry)) l ⌝ }
 {
-    labels[l as usize] != 0
+    let of: &[u16] = labels;
+    if (l as usize) < of.len() {
+        return of[l as usize] != 0;
+    }
+    false
 }
 
 // Rule 7: the label of the op that starts at a place, its last byte, is not set yet.
-pub fn label_free(e: u32, block: &[u8], at: usize, labels: &[u16; 256]) -> bool
+pub fn label_free(e: u32, block: &[u8], at: usize, labels: &[u16; 32]) -> bool
     requires { ⌜ at + (outsIn e + insIn e + restIn e) < length (now block) ⌝ }
     ensures { λ r. ⌜ r ≡ labelFree (rowIn e) (numbered (now (labels .entry))) (getD (now (block .entry)) (at + (outsIn e + insIn e + restIn e)) 0) ⌝ }
 {
@@ -148,7 +152,7 @@ fn settled(target: u8, number: u16) -> bool
 }
 
 // Rule 7 at the end: each label below n that is jumped to is set.
-pub fn all_set(targets: &[u8; 32], labels: &[u16; 256], n: usize) -> bool
+pub fn all_set(targets: &[u8; 32], labels: &[u16; 32], n: usize) -> bool
     requires { ⌜ n ≤ 32 ⌝ }
     ensures { λ r. ⌜ r ≡ allSet (marked (now (targets .entry))) (numbered (now (labels .entry))) n ⌝ }
 {

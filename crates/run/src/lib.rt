@@ -21,7 +21,7 @@ fn run_ops(
     start: usize,
     ops: usize,
     places: &[u16; 256],
-    labels: &[u16; 256],
+    labels: &[u16; 32],
     globals: &mut [u64],
     memory: &mut [u8],
 ) -> Ending
@@ -50,7 +50,7 @@ pub fn run(block: &[u8], globals: &mut [u64], memory: &mut [u8]) -> Ending
 {
     let mut base = [15u8; 256];
     let mut places = [0u16; 256];
-    let mut labels = [0u16; 256];
+    let mut labels = [0u16; 32];
     let s = scan(block, &mut base, &mut places, &mut labels);
     let rule = s.rule;
     if rule != 0 {

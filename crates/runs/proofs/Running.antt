@@ -247,6 +247,9 @@ module _ {b values₀ memory₀ values memory places labels : List ℕ} {op plac
       number : m ≡ getD labels l 0
       number = em ∙ ap (λ (x : ℕ). getD labels x 0) ei
 
+      pub label-now : i < 32
+      label-now = omega (arith, ei, (landing (t .running) due (t .ready) (so e)) .low)
+
       pub number-now : 1 ≤ m
       number-now = omega (arith, number, (landing (t .running) due (t .ready) (so e)) .has-number)
 

@@ -27,7 +27,7 @@ pub struct Ops {
 }
 
 // The answer at a record that fails a test.
-fn stopped(block: &[u8], at: usize, ops: usize, vars: &[u8; 256], labels: &[u16; 256]) -> Ops
+fn stopped(block: &[u8], at: usize, ops: usize, vars: &[u8; 256], labels: &[u16; 32]) -> Ops
     requires { ⌜ at < length (now block) ⌝ }
     ensures { λ r. ⌜ ((r .rule) ≡ entryRule (getD kindTable (getD (now (block .entry)) at 0) 0) (now (block .entry)) at ops (now (vars .entry)) (now (labels .entry)) false) × ((r .place) ≡ at) × ((r .ops) ≡ ops) ⌝ }
 {
@@ -41,7 +41,7 @@ fn stopped(block: &[u8], at: usize, ops: usize, vars: &[u8; 256], labels: &[u16;
 }
 
 // The rule that is broken at the end, after an op with the rank last; 0 if none.
-fn end_rule(last: u8, targets: &[u8; 32], labels: &[u16; 256]) -> u8
+fn end_rule(last: u8, targets: &[u8; 32], labels: &[u16; 32]) -> u8
     ensures { λ r. ⌜ r ≡ endRule (eqb last exitRank) (now (targets .entry)) (now (labels .entry)) ⌝ }
 {
     if last != EXIT {
@@ -59,9 +59,9 @@ fn scan_ops(
     start: usize,
     base: &[u8; 256],
     places: &mut [u16; 256],
-    labels: &mut [u16; 256],
+    labels: &mut [u16; 32],
 ) -> Ops
-    requires { ⌜ Begins rowOf (now block) (now base) start × (now labels ≡ replicate 256 0) ⌝ }
+    requires { ⌜ Begins rowOf (now block) (now base) start × (now labels ≡ replicate 32 0) ⌝ }
     ensures { λ r. ⌜ ScannedBy rowOf (now (block .entry)) start (now (places .entry)) (now (places .exit)) (now (labels .exit)) (r .rule) (r .place) (r .ops) ⌝ }
 {
     let ranks = plans::ranks();
@@ -108,9 +108,9 @@ pub fn scan(
     block: &[u8],
     base: &mut [u8; 256],
     places: &mut [u16; 256],
-    labels: &mut [u16; 256],
+    labels: &mut [u16; 32],
 ) -> Found
-    requires { ⌜ (now base ≡ replicate 256 15) × (now labels ≡ replicate 256 0) ⌝ }
+    requires { ⌜ (now base ≡ replicate 256 15) × (now labels ≡ replicate 32 0) ⌝ }
     ensures { λ r. ⌜ Scanned rowOf (now (block .entry)) (now (places .entry)) (now (base .exit)) (now (places .exit)) (now (labels .exit)) (r .rule) (r .place) (r .start) (r .variables) (r .globals) (r .ops) ⌝ }
 {
     let d = scan_declarations(block, base);

@@ -5,7 +5,7 @@ use Prim.Native.Nat.{_-_}
 use native.Mathlib.Omega.{arith}
 use lib.ListN.{length}
 use borrow.Author.Needs.{needs}
-use Rattle.runs.proofs.Running.{Running, Turn, running-start, ends-past, inside-now, stands-now, few-now, stops-now, falls-on, number-now, target-now}
+use Rattle.runs.proofs.Running.{Running, Turn, running-start, ends-past, inside-now, stands-now, few-now, stops-now, falls-on, label-now, number-now, target-now}
 use Rattle.runs.proofs.Running.{jumps-on}
 use Rattle.execute.proofs.execute.Statement.{statement}
 use Rattle.execute.proofs.execute.Tie as tie
@@ -45,15 +45,17 @@ index-requires : tie.Need-index-requires Inv-loop μ-loop
 index-requires c κs = search needs
 
 number-of-requires : tie.Need-number-of-requires Inv-loop μ-loop
-number-of-requires c κs = search needs
+number-of-requires c κs =
+    let step = c .before .before .before .before .before .before .step .ensures in
+    label-now (turn (c .before .before .before .before .before .before .before .before .before .before)) step (c .before .before .outcome2 .given .1) (c .index .ensures) refl
 
 sub-op : tie.Need-sub-op Inv-loop μ-loop
 sub-op c =
     let step = c .before .before .before .before .before .before .before .step .ensures in
     number-now (turn (c .before .before .before .before .before .before .before .before .before .before .before)) step (c .before .before .before .outcome2 .given .1) (c .before .index .ensures) (c .number-of .ensures)
 
-number-of-requires-2 : tie.Need-number-of-requires-2 Inv-loop μ-loop
-number-of-requires-2 c κs =
+place-of-requires : tie.Need-place-of-requires Inv-loop μ-loop
+place-of-requires c κs =
     let step = c .before .before .before .before .before .before .before .step .ensures in
     target-now (turn (c .before .before .before .before .before .before .before .before .before .before .before)) step (c .before .before .before .outcome2 .given .1) (c .before .index .ensures) (c .number-of .ensures)
 
@@ -117,7 +119,7 @@ execute-spec =
     index-requires
     number-of-requires
     sub-op
-    number-of-requires-2
+    place-of-requires
     enum-known-outcome-3
     ended-requires
     same-length

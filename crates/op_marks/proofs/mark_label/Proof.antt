@@ -22,20 +22,19 @@ long k = k .length .ensures ∙ ap lengthIn (k .before .plan .ensures)
 inside : (k : tie.After-length) → let s = k .before .before .before .before .before in (s .args .at + k .length .result ≤ length (s .args .block .now)) × (1 < k .length .result)
 inside k = let p = k .before .before .before .before .before .pre in (omega (arith, long k, p), omega (arith, long k, p))
 
+low : (k : tie.After-length) → let s = k .before .before .before .before .before in getD (s .args .block .now) (s .args .at + k .length .result - 1) 0 < 32
+low k =
+    let m = k .before .before in
+    let s = m .before .before .before in
+    subst (λ (n : ℕ). getD (s .args .block .now) (s .args .at + n - 1) 0 < 32) (sym (long k)) (s .pre .2 (sym (m .before .labelled .ensures) ∙ not-false _ (m .if1 .left)))
+
 returns-2 : tie.Need-returns-2
 returns-2 c =
     let k = c .before .before .before .before .before in
     let m = k .before .before in
     let a = m .before .before .before .args in
     label-set (a .rank) _ (a .op) (a .labels .now) (a .targets .now) (m .before .labelled .ensures) (not-false _ (m .if1 .left)) (c .before .before .before .sets .ensures) (c .before .before .if2 .taken)
-    (ap (λ (n : ℕ). getD (a .block .now) (a .at + n - 1) 0) (long k)) (c .put-number .ensures)
-
-mark-target-requires : tie.Need-mark-target-requires
-mark-target-requires c κs =
-    let k = c .before .before .before .before in
-    let m = k .before .before in
-    let s = m .before .before .before in
-    subst (λ (n : ℕ). getD (s .args .block .now) (s .args .at + n - 1) 0 < 32) (sym (long k)) (s .pre .2 (sym (m .before .labelled .ensures) ∙ not-false _ (m .if1 .left)))
+    (ap (λ (n : ℕ). getD (a .block .now) (a .at + n - 1) 0) (long k)) (c .put-label .ensures)
 
 returns-3 : tie.Need-returns-3
 returns-3 c =
@@ -49,4 +48,4 @@ pub mark-label-spec : {M : Type 1} → statement M
 mark-label-spec =
     tie.close
     (tie.spec (λ c κs. search needs) returns (λ c κs. search needs) (λ c κs. search needs) (λ c. omega (arith, inside c)) (λ c. omega (arith, inside c)) (λ c. omega (arith, inside (c .before))) (λ c κs. search needs) (λ c. search needs) (λ c. search needs)
-    (λ c κs. search needs) returns-2 mark-target-requires returns-3)
+    (λ c κs. low (c .before .before .before .before)) returns-2 (λ c κs. low (c .before .before .before .before)) returns-3)
