@@ -34,6 +34,11 @@ pub record SetAt (xs : List ℕ) (i x : ℕ) (ys : List ℕ) : Type 0 where
   pub inside : i < length xs
   pub becomes : ys ≡ set xs i x
 
+-- the same where i is below the limit of labels, else nothing
+pub record SetLabelAt (xs : List ℕ) (i x : ℕ) (ys : List ℕ) : Type 0 where
+  pub below : i < labelCount → SetAt xs i x ys
+  pub beyond : labelCount ≤ i → ys ≡ xs
+
 -- the check's answer from a place on, after what has been seen
 unfoldable pub checkAt : Table → Seen → List ℕ → ℕ → Verdict
 checkAt T s block place = checkFrom T s place ((cutOf T (drop place block)) .records) ((cutOf T (drop place block)) .tail)

@@ -1,8 +1,9 @@
-// Arrays of 256 entries, one for each byte: what is known of variables and labels.
+// Arrays of 256 entries, one for each byte, and of 32, one for each label: what is known of variables and labels.
 ghost use mathlib.Core.Path.{_≡_};
 ghost use lib.ListN.{length, set};
 ghost use Prim.Native.Nat.{_<_};
-ghost use Rattle.block.specs.Scan.{SetAt};
+ghost use Rattle.block.specs.Scan.{SetAt, SetLabelAt};
+use ops::LABELS;
 
 // A byte as an index.
 pub fn index(x: u8) -> usize
@@ -32,9 +33,27 @@ pub fn put(a: &mut [u8; 256], i: u8, x: u8)
     store(a, index(i), x);
 }
 
-// A label's place holds its number.
+// The same of a number.
 pub fn put_number(a: &mut [u16; 256], i: u8, x: u16)
     ensures { λ _. ⌜ SetAt (now (a .entry)) i x (now (a .exit)) ⌝ }
 {
     store_number(a, index(i), x);
+}
+
+// A label's place holds its number; no byte from 32 on is a label.
+pub fn put_label(a: &mut [u16; 32], l: u8, x: u16)
+    ensures { λ _. ⌜ SetLabelAt (now (a .entry)) l x (now (a .exit)) ⌝ }
+{
+    if l < LABELS {
+        store_number(a, index(l), x);
+    }
+}
+
+// The same of a byte.
+pub fn put_target(a: &mut [u8; 32], l: u8, x: u8)
+    ensures { λ _. ⌜ SetLabelAt (now (a .entry)) l x (now (a .exit)) ⌝ }
+{
+    if l < LABELS {
+        store(a, index(l), x);
+    }
 }

@@ -3,12 +3,13 @@ ghost use mathlib.Core.Path.{_≡_};
 ghost use mathlib.Core.Bool.{false};
 ghost use mathlib.Core.List.{[], _∷_};
 ghost use Prim.Native.Nat.{_+_, _-_, _≤_, _<_};
-ghost use lib.ListN.{length, getD, set};
+ghost use lib.ListN.{length, getD};
 ghost use Rattle.ops.specs.Kinds.{rowOf, kindTable};
 ghost use Rattle.ops.specs.Plans.{noOp, lengthIn, rankOf, planAt};
-ghost use Rattle.block.specs.Scan.{SameBeyond, recordAt, Stands, codesIn, openAll, FirstReady, LabelFits, SetAt, LabelMarks, setsLabel, jumpsTo, Marks};
-use marks::index;
+ghost use Rattle.block.specs.Scan.{SameBeyond, recordAt, Stands, codesIn, openAll, FirstReady, LabelFits, LabelMarks, setsLabel, jumpsTo, Marks};
 use marks::put;
+use marks::put_label;
+use marks::put_target;
 use ops::MAX_VARIABLES;
 use plans::closes;
 use plans::labelled;
@@ -25,36 +26,6 @@ fn open_first(block: &[u8], at: usize, vars: &mut [u8; 256])
 {
     let v = block[at + 1];
     put(vars, v, code(vars, v) % 16);
-}
-
-fn store_one(targets: &mut [u8], i: usize)
-    requires { ⌜ i < length (now targets) ⌝ }
-    ensures { λ _. ⌜ now (targets .exit) ≡ set (now (targets .entry)) i 1 ⌝ }
-{
-    targets[i] = 1;
-}
-
-fn store_number(labels: &mut [u16], i: usize, x: u16)
-    requires { ⌜ i < length (now labels) ⌝ }
-    ensures { λ _. ⌜ now (labels .exit) ≡ set (now (labels .entry)) i x ⌝ }
-{
-    labels[i] = x;
-}
-
-// A label is set: its number is x.
-fn put_label(labels: &mut [u16; 32], l: u8, x: u16)
-    requires { ⌜ l < 32 ⌝ }
-    ensures { λ _. ⌜ SetAt (now (labels .entry)) l x (now (labels .exit)) ⌝ }
-{
-    store_number(labels, index(l), x);
-}
-
-// A label is jumped to.
-fn mark_target(targets: &mut [u8; 32], l: u8)
-    requires { ⌜ l < 32 ⌝ }
-    ensures { λ _. ⌜ SetAt (now (targets .entry)) l 1 (now (targets .exit)) ⌝ }
-{
-    store_one(targets, index(l));
 }
 
 // Its label is set, or jumped to: a label's number is one more than its op's.
@@ -77,7 +48,7 @@ fn mark_label(
         put_label(labels, l, (op + 1) as u16);
         return;
     }
-    mark_target(targets, l);
+    put_target(targets, l, 1);
 }
 
 // The variables' bytes are those at the start of a basic block.

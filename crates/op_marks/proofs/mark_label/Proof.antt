@@ -34,7 +34,7 @@ returns-2 c =
     let m = k .before .before in
     let a = m .before .before .before .args in
     label-set (a .rank) _ (a .op) (a .labels .now) (a .targets .now) (m .before .labelled .ensures) (not-false _ (m .if1 .left)) (c .before .before .before .sets .ensures) (c .before .before .if2 .taken)
-    (ap (λ (n : ℕ). getD (a .block .now) (a .at + n - 1) 0) (long k)) (c .put-label .ensures)
+    (ap (λ (n : ℕ). getD (a .block .now) (a .at + n - 1) 0) (long k)) (c .put-label .ensures .below (low k))
 
 returns-3 : tie.Need-returns-3
 returns-3 c =
@@ -42,10 +42,10 @@ returns-3 c =
     let m = k .before .before in
     let a = m .before .before .before .args in
     label-jumped (a .rank) _ (a .op) (a .labels .now) (a .targets .now) (m .before .labelled .ensures) (not-false _ (m .if1 .left)) (c .before .before .before .sets .ensures) (c .before .before .if2 .left)
-    (ap (λ (n : ℕ). getD (a .block .now) (a .at + n - 1) 0) (long k)) (c .mark-target .ensures)
+    (ap (λ (n : ℕ). getD (a .block .now) (a .at + n - 1) 0) (long k)) (c .put-target .ensures .below (low k))
 
 pub mark-label-spec : {M : Type 1} → statement M
 mark-label-spec =
     tie.close
     (tie.spec (λ c κs. search needs) returns (λ c κs. search needs) (λ c κs. search needs) (λ c. omega (arith, inside c)) (λ c. omega (arith, inside c)) (λ c. omega (arith, inside (c .before))) (λ c κs. search needs) (λ c. search needs) (λ c. search needs)
-    (λ c κs. low (c .before .before .before .before)) returns-2 (λ c κs. low (c .before .before .before .before)) returns-3)
+    (λ c κs. search needs) returns-2 (λ c κs. search needs) returns-3)
