@@ -1,16 +1,16 @@
 -- What an op leaves in the arrays, by the entry and the rank of its kind. Assumes nothing.
 use mathlib.Core.Path.{_≡_, refl, sym, ap, ap₂, _∙_, subst, fun-ext}
 use mathlib.Core.Logic.{_⊎_, inl, inr}
-use mathlib.Core.Bool.{Bool, true, false, cond, not, _||_}
+use mathlib.Core.Bool.{Bool, true, false, cond}
 use mathlib.Core.List.{List, [], _∷_}
-use Prim.Native.Nat.{ℕ, zero, suc, _+_, _-_, _^_, _≤_, _<_}
+use Prim.Native.Nat.{ℕ, zero, suc, _+_, _-_, _≤_, _<_}
 use native.Mathlib.Omega.{arith}
 use lib.Dec.{eqb, ltb, leb}
 use native.Mathlib.Nat.{mod-eq-of-lt}
 use lib.ListN.{length, getD, set}
 use borrow.Author.Tests.{eqb-true, ltb-false, ne-eqb}
-use Rattle.theory.proofs.Sets.{tell, clash}
-use Rattle.ops.specs.Rows.{outsIn, insIn, restIn, roleIn, roleNo, numberOf, isClosing, isSetting, isJumping}
+use Rattle.theory.proofs.Sets.{tell}
+use Rattle.ops.specs.Rows.{outsIn, insIn, restIn, roleIn, roleNo, isClosing}
 use Rattle.ops.specs.Kinds.{kindTable, rowOf}
 use Rattle.ops.specs.Ops.{bytesAt}
 use Rattle.ops.specs.Plans.{noOp, lengthBy, lengthIn, planOf, rankOf, planAt, straightEnd, exitRank, settingRank}

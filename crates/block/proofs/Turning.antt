@@ -2,8 +2,8 @@
 use mathlib.Core.Path.{_≡_, refl, sym, ap, _∙_, subst}
 use mathlib.Core.Logic.{_⊎_, inl, inr}
 use mathlib.Core.Bool.{Bool, true, false}
-use mathlib.Core.List.{List, [], _∷_}
-use Prim.Native.Nat.{ℕ, zero, suc, _+_, _-_, _%_, _≤_, _<_}
+use mathlib.Core.List.{List}
+use Prim.Native.Nat.{ℕ, _+_, _-_, _%_, _≤_, _<_}
 use native.Mathlib.Omega.{arith}
 use lib.Dec.{eqb, ltb}
 use lib.ListN.{length, getD, set}
@@ -16,7 +16,7 @@ use Rattle.ops.specs.Kinds.{kindTable, rowOf}
 use Rattle.ops.specs.Plans.{noOp, lengthBy, moreBy, lengthIn, planOf, rankOf, planAt, exitRank}
 use Rattle.ops.proofs.Entry.{digits}
 use Rattle.ops.proofs.Plans.{plan, plan-at, ranked-op}
-use Rattle.block.specs.Scan.{recordAt, codeOf, SameBeyond, opStands, opOk, opPasses, entryRule, endRule, marked, numbered, ScannedBy, Marks, FirstReady, LabelFits, Reading}
+use Rattle.block.specs.Scan.{recordAt, codeOf, SameBeyond, opStands, opOk, opPasses, entryRule, endRule, marked, numbered, ScannedBy, Marks, FirstReady, LabelLow, Reading}
 use Rattle.block.specs.Rules.{allSet}
 use Rattle.block.proofs.Codes.{code-small}
 use Rattle.block.proofs.Quick.{some-op, first-met, label-met}
@@ -83,8 +83,8 @@ module _ {b : List ℕ} {start : ℕ} {places₀ base vars labels targets places
         omega (arith, first-met b p ops vars labels (getD b p 0) refl refl refl whole-length here is-op (few-ops-here sound) (sym t ∙ y) c o, code-small (s .coded) (getD b (p + 1) 0))
 
     -- its label, if it has one, is below the limit
-    pub label-fits : {n : ℕ} → n ≡ rankOf e → LabelFits n b p
-    label-fits {n} z w =
+    pub label-low : {n : ℕ} → n ≡ rankOf e → LabelLow n b p
+    label-low {n} z w =
         let flow = ranked-op (getD b p 0) refl z is-op in
         let same : planAt n ≡ planOf e = plan-at (getD b p 0) refl z in
         let more : moreBy e ≡ 2 = eqb-true _ 2 (sym (flow .labels) ∙ w) in

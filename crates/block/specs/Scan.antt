@@ -104,8 +104,8 @@ pub record LabelledAs (row : Row) (l op : ℕ) (labels labels′ : List ℕ) : T
 abbrev pub FirstReady : ℕ → List ℕ → ℕ → List ℕ → Type 0
 FirstReady e block place vars = isClosing (roleNo (roleIn e)) ≡ false → outsIn e ≡ 0 → codesIn vars (getD block (place + 1) 0) < 16
 
-abbrev pub LabelFits : ℕ → List ℕ → ℕ → Type 0
-LabelFits n block place = ltb exitRank n ≡ true → getD block (place + lengthIn (planAt n) - 1) 0 < labelCount
+abbrev pub LabelLow : ℕ → List ℕ → ℕ → Type 0
+LabelLow n block place = ltb exitRank n ≡ true → getD block (place + lengthIn (planAt n) - 1) 0 < labelCount
 
 abbrev pub setsLabel : ℕ → Bool
 setsLabel n = eqb n settingRank
@@ -269,7 +269,7 @@ recordsAt T block place = (cutOf T (drop place block)) .records
 pub data ScannedBy (T : Table) (block : List ℕ) (start : ℕ) (places₀ places labels : List ℕ) : ℕ → ℕ → ℕ → Type 0 where
   refuses-op : {rule place ops : ℕ} → (rule ≡ 0 → ⊥) → Refused rule place ≡ checkBy T block → ScannedBy T block start places₀ places labels rule place ops
   accepts-ops : {place ops : ℕ} → checkBy T block ≡ Accepted → ops ≡ length (recordsAt T block start) → places ≡ placesFrom start 0 places₀ (recordsAt T block start)
-      → labels ≡ labelsFrom T 0 (replicate 32 0) (recordsAt T block start) → ScannedBy T block start places₀ places labels 0 place ops
+      → labels ≡ labelsFrom T 0 (replicate labelCount 0) (recordsAt T block start) → ScannedBy T block start places₀ places labels 0 place ops
 
 -- the rule that is broken at the end, after an op that is exit_tb or not; 0 if none
 abbrev pub endRule : Bool → List ℕ → List ℕ → ℕ
@@ -309,7 +309,7 @@ pub record Reading (T : Table) (b : List ℕ) (start : ℕ) (places₀ base vars
   pub last-so : eqb last exitRank ≡ eqb (seen .last) 0x04
   pub count : length (recordsAt T b start) ≡ ops + length (recordsAt T b p)
   pub places-are : placesFrom start 0 places₀ (recordsAt T b start) ≡ placesFrom p ops places (recordsAt T b p)
-  pub labels-are : labelsFrom T 0 (replicate 32 0) (recordsAt T b start) ≡ labelsFrom T ops labels (recordsAt T b p)
+  pub labels-are : labelsFrom T 0 (replicate labelCount 0) (recordsAt T b start) ≡ labelsFrom T ops labels (recordsAt T b p)
   pub first-op : ops ≡ 0 → p < length b → getD b p 0 ≡ 1 → ⊥
   pub few : ops ≤ 256
 
@@ -325,7 +325,7 @@ pub record Approved (T : Table) (block places₀ base places labels : List ℕ) 
   pub ops-are : recordsAt T block start ≡ opsFrom (recordsOf T block)
   pub count-is : ops ≡ length (opsFrom (recordsOf T block))
   pub places-are : places ≡ placesFrom start 0 places₀ (opsFrom (recordsOf T block))
-  pub labels-are : labels ≡ labelsFrom T 0 (replicate 32 0) (opsFrom (recordsOf T block))
+  pub labels-are : labels ≡ labelsFrom T 0 (replicate labelCount 0) (opsFrom (recordsOf T block))
 
 pub data Scanned (T : Table) (block places₀ base places labels : List ℕ) : ℕ → ℕ → ℕ → ℕ → ℕ → ℕ → Type 0 where
   rejected : {rule place start n globals ops : ℕ} → (rule ≡ 0 → ⊥) → Refused rule place ≡ checkBy T block → Scanned T block places₀ base places labels rule place start n globals ops

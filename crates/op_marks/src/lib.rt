@@ -4,9 +4,9 @@ ghost use mathlib.Core.Bool.{false};
 ghost use mathlib.Core.List.{[], _∷_};
 ghost use Prim.Native.Nat.{_+_, _-_, _≤_, _<_};
 ghost use lib.ListN.{length, getD};
-ghost use Rattle.ops.specs.Kinds.{rowOf, kindTable};
-ghost use Rattle.ops.specs.Plans.{noOp, lengthIn, rankOf, planAt};
-ghost use Rattle.block.specs.Scan.{SameBeyond, recordAt, Stands, codesIn, openAll, FirstReady, LabelFits, LabelMarks, setsLabel, jumpsTo, Marks};
+ghost use Rattle.ops.specs.Kinds.{rowOf};
+ghost use Rattle.ops.specs.Plans.{noOp, lengthIn, rankOf, planAt, entryAt};
+ghost use Rattle.block.specs.Scan.{SameBeyond, recordAt, Stands, codesIn, openAll, FirstReady, LabelLow, LabelMarks, setsLabel, jumpsTo, Marks};
 use marks::put;
 use marks::put_label;
 use marks::put_target;
@@ -37,7 +37,7 @@ fn mark_label(
     labels: &mut [u16; 32],
     targets: &mut [u8; 32],
 )
-    requires { ⌜ (at + lengthIn (planAt rank) ≤ length (now block)) × (1 < lengthIn (planAt rank)) × LabelFits rank (now block) at × (op < 1024) ⌝ }
+    requires { ⌜ (at + lengthIn (planAt rank) ≤ length (now block)) × (1 < lengthIn (planAt rank)) × LabelLow rank (now block) at × (op < 1024) ⌝ }
     ensures { λ _. ⌜ LabelMarks (setsLabel rank) (jumpsTo rank) (getD (now (block .entry)) (at + lengthIn (planAt rank) - 1) 0) op (now (labels .entry)) (now (labels .exit)) (now (targets .entry)) (now (targets .exit)) ⌝ }
 {
     if !labelled(rank) {
@@ -75,7 +75,7 @@ pub fn mark_op(
     labels: &mut [u16; 32],
     targets: &mut [u8; 32],
 )
-    requires { ⌜ SameBeyond (now base) (now vars) × Stands rowOf (now block) at (getD (now block) at 0) × (op < 1024) × (rank ≡ rankOf (getD kindTable (getD (now block) at 0) 0)) × (noOp (getD kindTable (getD (now block) at 0) 0) ≡ false) × FirstReady (getD kindTable (getD (now block) at 0) 0) (now block) at (now vars) × LabelFits rank (now block) at ⌝ }
+    requires { ⌜ SameBeyond (now base) (now vars) × Stands rowOf (now block) at (getD (now block) at 0) × (op < 1024) × (rank ≡ rankOf (entryAt (now block) at)) × (noOp (entryAt (now block) at) ≡ false) × FirstReady (entryAt (now block) at) (now block) at (now vars) × LabelLow rank (now block) at ⌝ }
     ensures { λ r. ⌜ Marks rowOf (recordAt rowOf (now (block .entry)) at) op (now (base .entry)) (now (vars .entry)) (now (vars .exit)) (now (labels .entry)) (now (labels .exit)) (now (targets .entry)) (now (targets .exit)) ⌝ }
 {
     if straight(rank) {

@@ -4,8 +4,7 @@ ghost use mathlib.Core.Bool.{false, _&&_};
 ghost use Prim.Native.Nat.{_+_, _-_, _≤_, _<_};
 ghost use lib.ListN.{length, getD};
 ghost use Rattle.ops.specs.Rows.{outsIn, insIn, restIn, testIn, asksFor};
-ghost use Rattle.ops.specs.Kinds.{kindTable};
-ghost use Rattle.ops.specs.Plans.{lengthBy, lengthIn, firstAskIn, rankOf};
+ghost use Rattle.ops.specs.Plans.{lengthBy, lengthIn, firstAskIn, rankOf, entryAt};
 ghost use Rattle.block.specs.Checks.{firstBroken};
 ghost use Rattle.block.specs.Scan.{opTests, entryRule, Placed, codeAt, meets, threeFit, refusalTable, labelFits, moreOk, opPasses};
 use kinds::body_length;
@@ -94,8 +93,8 @@ pub fn op_ok(
     vars: &[u8; 256],
     labels: &[u16; 32],
 ) -> bool
-    requires { ⌜ (at < length (now block)) × (rank ≡ rankOf (getD kindTable (getD (now block) at 0) 0)) × (n ≡ lengthBy (getD kindTable (getD (now block) at 0) 0)) × (now refusals ≡ refusalTable) ⌝ }
-    ensures { λ r. ⌜ r ≡ opPasses (getD kindTable (getD (now (block .entry)) at 0) 0) (now (block .entry)) at op (now (vars .entry)) (now (labels .entry)) ⌝ }
+    requires { ⌜ (at < length (now block)) × (rank ≡ rankOf (entryAt (now block) at)) × (n ≡ lengthBy (entryAt (now block) at)) × (now refusals ≡ refusalTable) ⌝ }
+    ensures { λ r. ⌜ r ≡ opPasses (entryAt (now (block .entry)) at) (now (block .entry)) at op (now (vars .entry)) (now (labels .entry)) ⌝ }
 {
     let h = plan(rank);
     if block.len() - at < n {

@@ -7,14 +7,14 @@ use Prim.Native.Nat.{ℕ, zero, suc, _+_, _-_, _*_, _/_, _≤_, _<_}
 use native.Mathlib.Omega.{arith}
 use lib.Dec.{eqb, ltb, leb}
 use lib.ListN.{length, getD}
-use borrow.Author.Tests.{eqb-true, ltb-true, ltb-false, leb-true}
+use borrow.Author.Tests.{eqb-true, ltb-true, leb-true}
 use Rattle.theory.proofs.Sets.{and-l, and-r, tell, clash}
 use Rattle.ops.specs.Rows.{outsIn, insIn, restIn, testIn, roleIn, typesOf, roleNo, isKnown, isClosing, isSetting, isJumping}
 use Rattle.ops.specs.Kinds.{kindTable}
 use Rattle.ops.specs.Plans.{typeIn, noOp, lengthBy, outAskBy, secondBy, inAskBy, inAtBy, byteTestBy, askOf, byteAtBy, moreBy, planOf, each, standsFor, rankOf, planAt, straightEnd, exitRank, settingRank, rankTable, lengthTable}
 use Rattle.ops.specs.Plans.{lengthIn, outAskIn, firstAskIn, secondAskIn, firstAtIn, secondAtIn, byteAtIn, byteAskIn, moreIn}
-use Rattle.ops.proofs.Ranges.{every, listed, beq-same}
-use Rattle.ops.proofs.Table.{table-long, past, beyond}
+use Rattle.ops.proofs.Ranges.{every, beq-same}
+use Rattle.ops.proofs.Table.{table-long, past, for-each}
 
 -- the plan of an entry
 pub record Plan (e h : ℕ) : Type 0 where
@@ -79,14 +79,6 @@ by-digits k e t =
       more-so = eqb-true _ _ a10;
       no-op-so = beq-same _ _ a11;
     }
-
--- a test that every entry of the table passes, and 0, holds for every kind
-pub for-each : (f : ℕ → ℕ → Bool) → every f 0 kindTable ≡ true → ((k : ℕ) → f k 0 ≡ true) → (k : ℕ) → f k (getD kindTable k 0) ≡ true
-for-each f t z k = go (tell (ltb k 256))
-  where
-    go : (ltb k 256 ≡ true) ⊎ (ltb k 256 ≡ false) → f k (getD kindTable k 0) ≡ true
-    go (inl h) = listed f kindTable t k (rw table-long (ltb-true k 256 h))
-    go (inr h) = rw (beyond k (ltb-false k 256 h)) (z k)
 
 pub plan : (k : ℕ) {e : ℕ} → e ≡ getD kindTable k 0 → Plan e (planOf e)
 unfolding planOf typesOf

@@ -2,7 +2,7 @@
 use mathlib.Core.Path.{_≡_, refl, sym, ap, _∙_}
 use mathlib.Core.Bool.{Bool, true, cond, _&&_, _||_}
 use mathlib.Core.List.{List, [], _∷_}
-use Prim.Native.Nat.{ℕ, zero, suc, _+_, _%_, _<_}
+use Prim.Native.Nat.{ℕ, zero, suc, _%_, _<_}
 use native.Mathlib.Omega.{arith}
 use lib.Dec.{eqb, ltb}
 use lib.ListN.{getD}
@@ -12,8 +12,8 @@ use Rattle.ops.specs.Kinds.{kindTable}
 use Rattle.ops.specs.Plans.{each}
 use Rattle.ops.specs.Shapes.{shapeOf, shapeTable, outsAs, typeAs, insAs, restAs, roleAs, computesAs, setsAs, jumpsAs}
 use Rattle.ops.proofs.Ranges.{every}
-use Rattle.ops.proofs.Table.{role-read}
-use Rattle.ops.proofs.Plans.{both, for-each}
+use Rattle.ops.proofs.Table.{role-read, for-each}
+use Rattle.ops.proofs.Plans.{both}
 
 -- the shape of an entry, whose role has a number below 10
 pub record Shape (e s : ℕ) : Type 0 where

@@ -80,6 +80,14 @@ past (x ∷ xs) (suc k) h = past xs k (omega arith)
 pub beyond : (k : ℕ) → 256 ≤ k → getD kindTable k 0 ≡ 0
 beyond k h = past kindTable k (rw table-long h)
 
+-- a test that every entry of the table passes, and 0, holds for every kind
+pub for-each : (f : ℕ → ℕ → Bool) → every f 0 kindTable ≡ true → ((k : ℕ) → f k 0 ≡ true) → (k : ℕ) → f k (getD kindTable k 0) ≡ true
+for-each f t z k = go (tell (ltb k 256))
+  where
+    go : (ltb k 256 ≡ true) ⊎ (ltb k 256 ≡ false) → f k (getD kindTable k 0) ≡ true
+    go (inl h) = listed f kindTable t k (rw table-long (ltb-true k 256 h))
+    go (inr h) = rw (beyond k (ltb-false k 256 h)) (z k)
+
 pub unknown-beyond : (k : ℕ) → 256 ≤ k → roleOf rowOf k ≡ unknown
 unfolding tableOf roleNo
 unknown-beyond k h = ap (λ (e : ℕ). roleNo (roleIn e)) (beyond k h)

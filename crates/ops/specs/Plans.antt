@@ -104,7 +104,8 @@ rankOf e = rankAmong e standsFor
 unfoldable pub planAt : ℕ → ℕ
 planAt n = planOf (getD kindTable (getD standsFor n 0) 0)
 
--- what a rank tells
+-- what a rank tells: below the first of these nothing else is asked, and the basic block goes on; from exit_tb's on it ends, and above that an
+-- op has a label, which set_label sets
 abbrev pub straightEnd : ℕ
 straightEnd = 13
 
@@ -113,6 +114,10 @@ exitRank = 16
 
 abbrev pub settingRank : ℕ
 settingRank = 20
+
+-- the entry of the kind at a place of a block
+abbrev pub entryAt : List ℕ → ℕ → ℕ
+entryAt block place = getD kindTable (getD block place 0) 0
 
 -- tables of what each entry gives
 abbrev pub each : (ℕ → ℕ) → List ℕ → List ℕ

@@ -3,10 +3,9 @@ use Prim.Native.Nat.{ℕ, _+_, _*_, _/_, _%_}
 use mathlib.Core.Bool.{Bool, _||_}
 use mathlib.Core.List.{List}
 use lib.Dec.{eqb, ltb}
-use lib.ListN.{getD}
 use Rattle.ops.specs.Rows.{outsIn, insIn, restIn, roleIn, typesIn}
 use Rattle.ops.specs.Kinds.{kindTable}
-use Rattle.ops.specs.Plans.{each}
+use Rattle.ops.specs.Plans.{each, entryAt}
 
 -- the shape, in digits from the lowest: the outputs, the type of the first operand, the inputs, the bytes after the operands, the role's number
 unfoldable pub shapeOf : ℕ → ℕ
@@ -15,10 +14,7 @@ shapeOf e = outsIn e + 4 * (typesIn e % 4) + 16 * insIn e + 256 * restIn e + 409
 abbrev pub shapeTable : List ℕ
 shapeTable = each shapeOf kindTable
 
--- the entry of the kind at a place of a block, and its shape
-abbrev pub entryAt : List ℕ → ℕ → ℕ
-entryAt block place = getD kindTable (getD block place 0) 0
-
+-- that of the kind at a place of a block
 abbrev pub shapeAt : List ℕ → ℕ → ℕ
 shapeAt block place = shapeOf (entryAt block place)
 

@@ -1,17 +1,16 @@
 -- How many outputs and inputs an op has: a test of the whole table. Assumes nothing.
 use mathlib.Core.Path.{_≡_, refl}
-use mathlib.Core.Bool.{Bool, true, false, not, _&&_, _||_}
-use mathlib.Core.Logic.{_⊎_, inl, inr}
+use mathlib.Core.Bool.{Bool, true, not, _&&_, _||_}
 use Prim.Native.Nat.{ℕ, zero, suc, _≤_, _<_}
 use native.Mathlib.Omega.{arith}
 use lib.Dec.{eqb, ltb, leb}
-use lib.ListN.{length, getD}
-use borrow.Author.Tests.{ltb-true, ltb-false, leb-true, eqb-true, lt-ltb}
-use Rattle.theory.proofs.Sets.{and-l, and-r, tell}
+use lib.ListN.{getD}
+use borrow.Author.Tests.{ltb-true, leb-true, eqb-true, lt-ltb}
+use Rattle.theory.proofs.Sets.{and-l, and-r}
 use Rattle.ops.specs.Rows.{outsIn, insIn, roleIn, roleNo, numberOf, isComputing}
 use Rattle.ops.specs.Kinds.{kindTable}
-use Rattle.ops.proofs.Ranges.{every, listed}
-use Rattle.ops.proofs.Table.{beyond}
+use Rattle.ops.proofs.Ranges.{every}
+use Rattle.ops.proofs.Table.{for-each}
 
 -- at most four inputs, at most one output; a pure op has an output, and a computing one an input
 abbrev oneOut : ℕ → ℕ → Bool
@@ -21,24 +20,13 @@ all-so : every oneOut 0 kindTable ≡ true
 unfolding kindTable roleNo
 all-so = refl
 
-long-so : length kindTable ≡ 256
-unfolding kindTable
-long-so = refl
-
-none-so : oneOut 0 0 ≡ true
+none-so : (k : ℕ) → oneOut k 0 ≡ true
 unfolding roleNo
-none-so = refl
-
-one-out : (k : ℕ) → oneOut k (getD kindTable k 0) ≡ true
-one-out k = go (tell (ltb k 256))
-  where
-    go : (ltb k 256 ≡ true) ⊎ (ltb k 256 ≡ false) → oneOut k (getD kindTable k 0) ≡ true
-    go (inl h) = listed oneOut kindTable all-so k (omega (arith, long-so, ltb-true k 256 h))
-    go (inr h) = rw (beyond k (ltb-false k 256 h)) none-so
+none-so k = refl
 
 module _ {e : ℕ} (k : ℕ) (q : e ≡ getD kindTable k 0) where
   so : oneOut k e ≡ true
-  so = rw q (one-out k)
+  so = rw q (for-each oneOut all-so none-so k)
 
   pub few-outs : outsIn e ≤ 1
   few-outs = leb-true (outsIn e) 1 (and-l (leb (outsIn e) 1) _ (and-r (leb (insIn e) 4) _ so))

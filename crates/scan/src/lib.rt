@@ -3,9 +3,10 @@ ghost use mathlib.Core.Path.{_≡_};
 ghost use mathlib.Core.Bool.{false};
 ghost use Prim.Native.Nat.{_<_};
 ghost use lib.Dec.{eqb};
-ghost use lib.ListN.{length, getD, replicate};
-ghost use Rattle.ops.specs.Kinds.{rowOf, kindTable};
-ghost use Rattle.ops.specs.Plans.{exitRank};
+ghost use lib.ListN.{length, replicate};
+ghost use Rattle.ops.specs.Limits.{labelCount};
+ghost use Rattle.ops.specs.Kinds.{rowOf};
+ghost use Rattle.ops.specs.Plans.{exitRank, entryAt};
 ghost use Rattle.block.specs.Scan.{entryRule, endRule, Begins, ScannedBy, Scanned};
 use declarations::scan_declarations;
 use kinds::entry;
@@ -29,7 +30,7 @@ pub struct Ops {
 // The answer at a record that fails a test.
 fn stopped(block: &[u8], at: usize, ops: usize, vars: &[u8; 256], labels: &[u16; 32]) -> Ops
     requires { ⌜ at < length (now block) ⌝ }
-    ensures { λ r. ⌜ ((r .rule) ≡ entryRule (getD kindTable (getD (now (block .entry)) at 0) 0) (now (block .entry)) at ops (now (vars .entry)) (now (labels .entry)) false) × ((r .place) ≡ at) × ((r .ops) ≡ ops) ⌝ }
+    ensures { λ r. ⌜ ((r .rule) ≡ entryRule (entryAt (now (block .entry)) at) (now (block .entry)) at ops (now (vars .entry)) (now (labels .entry)) false) × ((r .place) ≡ at) × ((r .ops) ≡ ops) ⌝ }
 {
     let kinds = kinds::table();
     let e = entry(&kinds, block[at]);
@@ -61,7 +62,7 @@ fn scan_ops(
     places: &mut [u16; 256],
     labels: &mut [u16; 32],
 ) -> Ops
-    requires { ⌜ Begins rowOf (now block) (now base) start × (now labels ≡ replicate 32 0) ⌝ }
+    requires { ⌜ Begins rowOf (now block) (now base) start × (now labels ≡ replicate labelCount 0) ⌝ }
     ensures { λ r. ⌜ ScannedBy rowOf (now (block .entry)) start (now (places .entry)) (now (places .exit)) (now (labels .exit)) (r .rule) (r .place) (r .ops) ⌝ }
 {
     let ranks = plans::ranks();
@@ -110,7 +111,7 @@ pub fn scan(
     places: &mut [u16; 256],
     labels: &mut [u16; 32],
 ) -> Found
-    requires { ⌜ (now base ≡ replicate 256 15) × (now labels ≡ replicate 32 0) ⌝ }
+    requires { ⌜ (now base ≡ replicate 256 15) × (now labels ≡ replicate labelCount 0) ⌝ }
     ensures { λ r. ⌜ Scanned rowOf (now (block .entry)) (now (places .entry)) (now (base .exit)) (now (places .exit)) (now (labels .exit)) (r .rule) (r .place) (r .start) (r .variables) (r .globals) (r .ops) ⌝ }
 {
     let d = scan_declarations(block, base);

@@ -4,7 +4,7 @@ use Prim.Native.Nat.{ℕ, _+_}
 use native.Mathlib.Omega.{arith}
 use lib.ListN.{getD}
 use Rattle.ops.specs.Rows.{outsIn, insIn}
-use Rattle.ops.specs.Shapes.{entryAt}
+use Rattle.ops.specs.Plans.{entryAt}
 use Rattle.ops.proofs.Shapes.{outs-as, ins-as, rest-as}
 use Rattle.runs.specs.Evaluates.{Computed}
 use Rattle.block.specs.Scan.{marked}

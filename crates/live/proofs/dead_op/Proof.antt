@@ -4,7 +4,7 @@ use Prim.Native.Nat.{_+_}
 use native.Mathlib.Omega.{arith}
 use borrow.Author.Needs.{needs}
 use Rattle.ops.specs.Rows.{outsIn}
-use Rattle.ops.specs.Shapes.{entryAt}
+use Rattle.ops.specs.Plans.{entryAt}
 use Rattle.ops.proofs.Shapes.{role-as}
 use Rattle.passes.specs.Live.{liveOf}
 use Rattle.passes.proofs.Before.{operands-inside, never-dead, dead-if}

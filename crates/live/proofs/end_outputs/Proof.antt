@@ -6,7 +6,7 @@ use lib.ListN.{getD}
 use borrow.Author.Needs.{needs}
 use Rattle.ops.specs.Rows.{outsIn}
 use Rattle.ops.specs.Ops.{bytesAt}
-use Rattle.ops.specs.Shapes.{entryAt}
+use Rattle.ops.specs.Plans.{entryAt}
 use Rattle.ops.proofs.Shapes.{outs-as}
 use Rattle.passes.proofs.Before.{operands-inside}
 use Rattle.passes.proofs.Events.{timed-one, timed-none, timed-as, one-byte, no-byte}

@@ -5,7 +5,7 @@ use native.Mathlib.Omega.{arith}
 use lib.ListN.{length, getD}
 use borrow.Author.Needs.{needs}
 use Rattle.ops.specs.Rows.{insIn}
-use Rattle.ops.specs.Shapes.{entryAt}
+use Rattle.ops.specs.Plans.{entryAt}
 use Rattle.ops.proofs.Shapes.{outs-as, ins-as, role-as}
 use Rattle.passes.proofs.Before.{operands-inside}
 use Rattle.passes.proofs.Counts.{few-ins, pure-out}

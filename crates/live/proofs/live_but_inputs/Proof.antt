@@ -1,6 +1,6 @@
 -- What is live before an op but for its inputs, by the number of its role. Assumes nothing.
 use borrow.Author.Needs.{needs}
-use Rattle.ops.specs.Shapes.{entryAt}
+use Rattle.ops.specs.Plans.{entryAt}
 use Rattle.ops.proofs.Shapes.{role-as, labels-as}
 use Rattle.passes.proofs.Events.{turn-ends, turn-pure, turn-access}
 use Rattle.live.proofs.live_but_inputs.Statement.{statement}

@@ -1,11 +1,10 @@
 -- `plan` has the plan of each rank: a computed comparison for each, and that of no op for the rest. Assumes nothing.
-use mathlib.Core.Path.{_≡_, refl}
+use mathlib.Core.Path.{_≡_}
 use Prim.Native.Nat.{ℕ, suc, _≤_}
 use native.Mathlib.Omega.{arith}
-use lib.ListN.{getD}
 use Rattle.ops.specs.Rows.{typesOf}
 use Rattle.ops.specs.Kinds.{kindTable}
-use Rattle.ops.specs.Plans.{standsFor, planOf, planAt}
+use Rattle.ops.specs.Plans.{planOf, planAt}
 use Rattle.ops.proofs.Plans.{plan-none}
 use Rattle.plans.proofs.plan.Statement.{statement}
 use Rattle.plans.proofs.plan.Tie as tie

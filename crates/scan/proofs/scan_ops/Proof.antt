@@ -11,7 +11,7 @@ use Rattle.ops.specs.Plans.{lengthBy, rankOf}
 use Rattle.ops.proofs.Plans.{rank-in, length-in}
 use Rattle.block.specs.Scan.{Reading}
 use Rattle.block.proofs.Scanning.{few-ops-here, stands-at, begins-start, begins-inside}
-use Rattle.block.proofs.Turning.{same-beyond, fails-at, sound, is-op, inside, further, again, ready, label-fits, ends-at}
+use Rattle.block.proofs.Turning.{same-beyond, fails-at, sound, is-op, inside, further, again, ready, label-low, ends-at}
 use Rattle.scan.proofs.scan_ops.Statement.{statement}
 use Rattle.scan.proofs.scan_ops.Tie as tie
 
@@ -66,7 +66,7 @@ mark-op-requires c κs =
     let e = c .before .before .before in
     let k = reading e in
     let s = sound (k .before .loop .inv .1) (k .loop-test .taken) (e .before .op-ok .ensures) (passed e) in
-    (same-beyond (k .before .loop .inv .1), stands-at s, omega (arith, few-ops-here s), its-rank (ranked e), is-op (k .before .loop .inv .1) (k .loop-test .taken) (e .before .op-ok .ensures) (passed e), ready (k .before .loop .inv .1) (k .loop-test .taken) (e .before .op-ok .ensures) (passed e), label-fits (k .before .loop .inv .1) (k .loop-test .taken) (e .before .op-ok .ensures) (passed e) (its-rank (ranked e)))
+    (same-beyond (k .before .loop .inv .1), stands-at s, omega (arith, few-ops-here s), its-rank (ranked e), is-op (k .before .loop .inv .1) (k .loop-test .taken) (e .before .op-ok .ensures) (passed e), ready (k .before .loop .inv .1) (k .loop-test .taken) (e .before .op-ok .ensures) (passed e), label-low (k .before .loop .inv .1) (k .loop-test .taken) (e .before .op-ok .ensures) (passed e) (its-rank (ranked e)))
 
 few : (c : tie.Else1 Inv-loop μ-loop) → reading c .before .loop .ops < 256
 few c = let k = reading c in few-ops-here (sound (k .before .loop .inv .1) (k .loop-test .taken) (c .before .op-ok .ensures) (passed c))
