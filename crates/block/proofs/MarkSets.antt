@@ -93,22 +93,11 @@ module _ (row : Row) (labels : Vars) {s j : Bool} (es : s ≡ isSetting (row .ro
 
 -- what an op leaves, by the columns of its role
 module _ (row : Row) (l op : ℕ) {xs : List ℕ} {s : Bool} (e : s ≡ isSetting (row .role)) where
-  pub labelled-so : {m : ℕ} {ys : List ℕ} → s ≡ true → m ≡ l → SetAt xs m (op + 1) ys → LabelledAs row l op xs ys
-  labelled-so {m} {ys} t q w =
-      let b : isSetting (row .role) ≡ true = sym e ∙ t in
-      record {
-        labels-so = numbered-upd w (omega arith) ∙ ap (λ (n : ℕ). upd (numbered xs) n true) q ∙ ap (λ (b : Bool). markedBy b (numbered xs) l) (sym b);
-        numbers-so = w .becomes ∙ ap (λ (n : ℕ). set xs n (op + 1)) q ∙ ap (λ (b : Bool). cond b (set xs l (op + 1)) xs) (sym b);
-      }
-
   pub labelled-not : s ≡ false → LabelledAs row l op xs xs
   labelled-not t =
       let b : isSetting (row .role) ≡ false = sym e ∙ t in
       record { labels-so = ap (λ (b : Bool). markedBy b (numbered xs) l) (sym b); numbers-so = ap (λ (b : Bool). cond b (set xs l (op + 1)) xs) (sym b) }
 
 module _ (l : ℕ) (xs : List ℕ) {t : Bool} where
-  pub target-so : {s : Bool} {m : ℕ} {ys : List ℕ} → s ≡ t → s ≡ true → m ≡ l → SetAt xs m 1 ys → marked ys ≡ markedBy t (marked xs) l
-  target-so e q d w = marked-upd w ∙ ap (λ (n : ℕ). upd (marked xs) n true) d ∙ ap (λ (b : Bool). markedBy b (marked xs) l) (sym (sym e ∙ q))
-
   pub target-not : {s : Bool} → s ≡ t → s ≡ false → marked xs ≡ markedBy t (marked xs) l
   target-not e q = ap (λ (b : Bool). markedBy b (marked xs) l) (sym (sym e ∙ q))

@@ -13,9 +13,9 @@ use Rattle.theory.proofs.Sets.{tell}
 use Rattle.ops.specs.Rows.{outsIn, insIn, restIn, roleIn, roleNo, isClosing}
 use Rattle.ops.specs.Kinds.{kindTable, rowOf}
 use Rattle.ops.specs.Ops.{bytesAt}
-use Rattle.ops.specs.Plans.{noOp, lengthBy, lengthIn, planOf, rankOf, planAt, straightEnd, exitRank, settingRank}
+use Rattle.ops.specs.Plans.{noOp, lengthBy, lengthIn, planOf, rankOf, planAt, exitRank, settingRank}
 use Rattle.ops.proofs.Entry.{Digits, digits}
-use Rattle.ops.proofs.Plans.{plan, Sorted, sorted, plan-at, straight-so, RankedOp, ranked-op}
+use Rattle.ops.proofs.Plans.{plan, Sorted, sorted, plan-at, RankedOp, ranked-op}
 use Rattle.block.specs.Rules.{markedBy}
 use Rattle.block.specs.Scan.{recordAt, Stands, SetAt, codesIn, openAll, FirstReady, marked, numbered, LabelMarks, setsLabel, jumpsTo, Marks}
 use Rattle.block.proofs.MarkSets.{numbered-upd, marked-upd}
@@ -93,14 +93,8 @@ module _ {b : List ℕ} {p k : ℕ} (st : Stands rowOf b p k) (n : noOp (getD ki
     whole-here = (omega (arith, st .whole, d .body, long), omega (arith, long, op .has-byte))
 
     module _ {num : ℕ} {base vars vars′ : List ℕ} (labels targets : List ℕ) (f : FirstReady e b p vars) (w : codesIn vars′ ≡ openAll (codesIn vars) (getD b (p + 1) 0 ∷ [])) where
-      opened : {t : Bool} → t ≡ isClosing (roleNo (roleIn e)) → t ≡ false → Marks rowOf (recordAt rowOf b p) num base vars vars′ labels labels targets targets
-      opened q c = marks-open st d q labels targets c refl (w ∙ outputs vars (sym q ∙ c) f)
-
       pub marks-opened : {t : Bool} → t ≡ leb exitRank r → t ≡ false → Marks rowOf (recordAt rowOf b p) num base vars vars′ labels labels targets targets
-      marks-opened q c = opened (q ∙ flow .closes) c
-
-      pub marks-straight : {t : Bool} → t ≡ ltb r straightEnd → t ≡ true → Marks rowOf (recordAt rowOf b p) num base vars vars′ labels labels targets targets
-      marks-straight q y = opened refl (op .closes ∙ straight-so k refl its (sym q ∙ y) .1)
+      marks-opened q c = let closed = q ∙ flow .closes in marks-open st d closed labels targets c refl (w ∙ outputs vars (sym closed ∙ c) f)
 
     pub marks-ended : {t : Bool} {num : ℕ} {base vars vars′ labels labels′ targets targets′ : List ℕ} → t ≡ leb exitRank r → t ≡ true → codesIn vars′ ≡ codesIn base
         → LabelMarks (setsLabel r) (jumpsTo r) (getD b (p + lengthIn (planAt r) - 1) 0) num labels labels′ targets targets′

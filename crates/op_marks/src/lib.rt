@@ -16,7 +16,6 @@ use plans::labelled;
 use plans::length;
 use plans::plan;
 use plans::sets;
-use plans::straight;
 use rules::code;
 
 // The first operand of the op at a place may be read from now on: it is the output, or an input that could be read before.
@@ -64,7 +63,6 @@ fn restart(base: &[u8; 256], vars: &mut [u8; 256])
 }
 
 // What the op at a place leaves in the arrays; base: the variables' bytes at the start of a basic block.
-// Straight ops come first, so that their one branch is that of the fast test.
 pub fn mark_op(
     rank: u8,
     block: &[u8],
@@ -78,10 +76,6 @@ pub fn mark_op(
     requires { ⌜ SameBeyond (now base) (now vars) × Stands rowOf (now block) at (getD (now block) at 0) × (op < 1024) × (rank ≡ rankOf (entryAt (now block) at)) × (noOp (entryAt (now block) at) ≡ false) × FirstReady (entryAt (now block) at) (now block) at (now vars) × LabelLow rank (now block) at ⌝ }
     ensures { λ r. ⌜ Marks rowOf (recordAt rowOf (now (block .entry)) at) op (now (base .entry)) (now (vars .entry)) (now (vars .exit)) (now (labels .entry)) (now (labels .exit)) (now (targets .entry)) (now (targets .exit)) ⌝ }
 {
-    if straight(rank) {
-        open_first(block, at, vars);
-        return;
-    }
     if !closes(rank) {
         open_first(block, at, vars);
         return;

@@ -28,7 +28,6 @@ pub record Plan (e h : ℕ) : Type 0 where
   pub byte-ask : byteAskIn h ≡ askOf (byteTestBy e)
   pub byte-few : byteTestBy e < 8
   pub more-so : moreIn h ≡ moreBy e
-  pub no-op-so : eqb (lengthIn h) 15 ≡ noOp e
 
 -- both parts of a test that passes
 abbrev pub Both : Bool → Bool → Type 0
@@ -48,7 +47,7 @@ digitsOk k e =
     && (eqb (secondAtIn h) (inAtBy e (secondBy e))
     && (eqb (byteAtIn h) (byteAtBy e)
     && (eqb (byteAskIn h) (askOf (byteTestBy e))
-    && (ltb (byteTestBy e) 8 && (eqb (moreIn h) (moreBy e) && Bool·beq (eqb (lengthIn h) 15) (noOp e))))))))))
+    && (ltb (byteTestBy e) 8 && eqb (moreIn h) (moreBy e)))))))))
 
 digits-right : every digitsOk 0 kindTable ≡ true
 unfolding planOf kindTable typesOf
@@ -64,8 +63,7 @@ by-digits k e t =
     let (a6, t6) = both _ _ t5 in
     let (a7, t7) = both _ _ t6 in
     let (a8, t8) = both _ _ t7 in
-    let (a9, t9) = both _ _ t8 in
-    let (a10, a11) = both _ _ t9 in
+    let (a9, a10) = both _ _ t8 in
     record {
       length-so = eqb-true _ _ a1;
       out-ask = eqb-true _ _ a2;
@@ -77,7 +75,6 @@ by-digits k e t =
       byte-ask = eqb-true _ _ a8;
       byte-few = ltb-true _ _ a9;
       more-so = eqb-true _ _ a10;
-      no-op-so = beq-same _ _ a11;
     }
 
 pub plan : (k : ℕ) {e : ℕ} → e ≡ getD kindTable k 0 → Plan e (planOf e)
@@ -99,8 +96,6 @@ pub record Sorted (k e : ℕ) : Type 0 where
   pub sort : Sort e
   pub is-known : isKnown (roleNo (roleIn e)) ≡ true
   pub not-one : eqb k 1 ≡ false
-  pub closes : isClosing (roleNo (roleIn e)) ≡ ltb (roleIn e) 6
-  pub sets : isSetting (roleNo (roleIn e)) ≡ eqb (roleIn e) 2
 
 abbrev jumps : ℕ → Bool
 jumps e = isSetting (roleNo (roleIn e)) || isJumping (roleNo (roleIn e))
@@ -117,7 +112,7 @@ opOk k e =
     noOp e
     || (ltb (outsIn e) 2
     && (leb 1 (outsIn e + insIn e + restIn e)
-    && (leb (outsIn e + insIn e + restIn e) 9 && (sortOk e && (isKnown (roleNo (roleIn e)) && (not (eqb k 1) && (Bool·beq (isClosing (roleNo (roleIn e))) (ltb (roleIn e) 6) && Bool·beq (isSetting (roleNo (roleIn e))) (eqb (roleIn e) 2))))))))
+    && (leb (outsIn e + insIn e + restIn e) 9 && (sortOk e && (isKnown (roleNo (roleIn e)) && not (eqb k 1))))))
 
 ops-right : every opOk 0 kindTable ≡ true
 unfolding kindTable typesOf roleNo
@@ -184,9 +179,7 @@ sorted k {e} q n =
     let (a2, t2) = both _ _ t1 in
     let (a3, t3) = both _ _ t2 in
     let (a4, t4) = both _ _ t3 in
-    let (a5, t5) = both _ _ t4 in
-    let (a6, t6) = both _ _ t5 in
-    let (a7, a8) = both _ _ t6 in
+    let (a5, a6) = both _ _ t4 in
     record {
       few-outs = ltb-true _ _ a1;
       has-byte = leb-true _ _ a2;
@@ -194,8 +187,6 @@ sorted k {e} q n =
       sort = by-sort e a4;
       is-known = a5;
       not-one = not-so _ a6;
-      closes = beq-same _ _ a7;
-      sets = beq-same _ _ a8;
     }
 
 -- an entry that is none: its kind is unknown, or declares; no byte passes its test
@@ -256,7 +247,7 @@ first-read k {e} {h} q z n c o =
 
 -- what the rank of an entry tells: its plan; of the straight ones, that nothing else is asked
 abbrev rankOk : ℕ → ℕ → Bool
-rankOk k e = let n = rankOf e in eqb (planAt n) (planOf e) && (not (ltb n straightEnd) || (eqb (moreBy e) 0 && not (ltb (roleIn e) 6)))
+rankOk k e = let n = rankOf e in eqb (planAt n) (planOf e) && (not (ltb n straightEnd) || eqb (moreBy e) 0)
 
 ranks-right : every rankOk 0 kindTable ≡ true
 unfolding rankOf planAt planOf kindTable typesOf
@@ -277,11 +268,9 @@ pub plan-none : (n : ℕ) → 21 ≤ n → 0x0454000f ≡ planAt n
 unfolding planAt planOf kindTable typesOf
 plan-none n l = let z : getD standsFor n 0 ≡ 0 = past standsFor n l in rw z
 
-pub straight-so : (k : ℕ) {e n : ℕ} → e ≡ getD kindTable k 0 → n ≡ rankOf e → ltb n straightEnd ≡ true → (moreBy e ≡ 0) × (ltb (roleIn e) 6 ≡ false)
+pub straight-so : (k : ℕ) {e n : ℕ} → e ≡ getD kindTable k 0 → n ≡ rankOf e → ltb n straightEnd ≡ true → moreBy e ≡ 0
 straight-so k {e} {n} q r y =
-    let t = or-not (not (ltb (rankOf e) straightEnd)) _ (ap not (rw r at y)) (both (eqb (planAt (rankOf e)) (planOf e)) _ (ranked k q) .1) in
-    let (a, b) = both _ _ t in
-    (eqb-true _ _ a, not-so _ b)
+    eqb-true _ _ (or-not (not (ltb (rankOf e) straightEnd)) _ (ap not (rw r at y)) (both (eqb (planAt (rankOf e)) (planOf e)) _ (ranked k q) .1))
 
 -- and of an op, whether it ends a basic block, what it does to a label, and whether it is exit_tb
 pub record RankedOp (k e n : ℕ) : Type 0 where

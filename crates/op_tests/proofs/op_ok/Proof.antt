@@ -86,7 +86,7 @@ returns-3 c =
     let b = c .before .before .before in
     let k = entered b in
     let s = start k in
-    passes-straight (s .args .block .now) (s .args .at) (s .args .op) (s .args .vars .now) (s .args .labels .now) (kind (planned k)) refl refl (its-plan (planned k)) (whole k) (s .pre .0) (sym (tests b) ∙ not-false _ (c .before .before .if2 .left)) (straight-so (kind (planned k)) refl (s .pre .1) (sym (c .before .straight .ensures) ∙ c .if3 .taken) .0)
+    passes-straight (s .args .block .now) (s .args .at) (s .args .op) (s .args .vars .now) (s .args .labels .now) (kind (planned k)) refl refl (its-plan (planned k)) (whole k) (s .pre .0) (sym (tests b) ∙ not-false _ (c .before .before .if2 .left)) (straight-so (kind (planned k)) refl (s .pre .1) (sym (c .before .straight .ensures) ∙ c .if3 .taken))
 
 returns-4 : tie.Need-returns-4
 returns-4 c =
