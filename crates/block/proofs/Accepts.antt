@@ -9,9 +9,9 @@ use lib.ListN.{length}
 use borrow.Author.Tests.{eqb-true, ne-eqb}
 use Rattle.theory.specs.Machine.{All}
 use Rattle.theory.proofs.Sets.{and-l, and-r, and-i}
-use Rattle.block.specs.Checks.{Finding, asks, firstBroken, opRules, rulesOf, endRules, answer, checkFrom, checkBy}
+use Rattle.block.specs.Checks.{Finding, asks, firstBroken, opRules, rulesOf, endRules, refusedOr, checkFrom, checkBy}
 use Rattle.block.specs.Meaning.{seen}
-use Rattle.block.specs.Records.{cutOf, recordsOf, concat, isDeclaration}
+use Rattle.block.specs.Records.{cutOf, recordsOf, recordBytes, isDeclaration}
 use Rattle.block.specs.Rules.{Seen, start, rule3, next}
 use Rattle.block.proofs.Cut.{AllWhole, cut-whole, cut-concat}
 use Rattle.block.specs.declared.Verdict.{Verdict}
@@ -53,7 +53,7 @@ numbered-rules T s r = go (isDeclaration r)
 pub numbered-end : (s : Seen) → Numbered (endRules s)
 numbered-end s = (omega arith, (omega arith, tt))
 
-answer-accepted : (number place : ℕ) (go : Verdict) → answer number place go ≡ Accepted → (eqb number 0 ≡ true) × (go ≡ Accepted)
+answer-accepted : (number place : ℕ) (go : Verdict) → refusedOr number place go ≡ Accepted → (eqb number 0 ≡ true) × (go ≡ Accepted)
 answer-accepted number place go h = by (eqb number 0) _ h
   where
     by : (b : Bool) (p : ℕ) → cond b go (Refused number p) ≡ Accepted → (b ≡ true) × (go ≡ Accepted)
@@ -63,7 +63,7 @@ answer-accepted number place go h = by (eqb number 0) _ h
 pub check-accepts : (T : Table) (s : Seen) (place : ℕ) (rs : List (List ℕ)) (tail : ℕ) → checkFrom T s place rs tail ≡ Accepted → (tail ≡ 0) × (accepts T s rs ≡ true)
 unfolding checkFrom
 check-accepts T s place [] tail h =
-    let p = answer-accepted tail place (answer (firstBroken (endRules s)) place Accepted) h in
+    let p = answer-accepted tail place (refusedOr (firstBroken (endRules s)) place Accepted) h in
     let q = answer-accepted (firstBroken (endRules s)) place Accepted (p .1) in
     (eqb-true tail 0 (p .0), rw (← none-broken (endRules s) (numbered-end s)) (q .0))
 check-accepts T s place (r ∷ rs) tail h =
@@ -85,7 +85,7 @@ unfolding checkBy cutOf
 accepted-records T block h = (cut-whole T (length block) block, check-accepts T start 0 ((cutOf T block) .records) ((cutOf T block) .tail) h .1)
 
 -- whole records that are accepted make an accepted block
-pub records-accepted : (T : Table) (rs : List (List ℕ)) → AllWhole T rs → accepts T start rs ≡ true → checkBy T (concat rs) ≡ Accepted
+pub records-accepted : (T : Table) (rs : List (List ℕ)) → AllWhole T rs → accepts T start rs ≡ true → checkBy T (recordBytes rs) ≡ Accepted
 unfolding checkBy
 records-accepted T rs w h = rw (cut-concat T rs w) (accepts-check T start 0 rs h)
 

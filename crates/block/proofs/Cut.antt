@@ -13,7 +13,7 @@ use Rattle.theory.proofs.Sets.{and-l, and-r, and-i, clash}
 use Rattle.theory.proofs.Simulation.{more}
 use Rattle.ops.specs.Rows.{known, bodyLength, Table}
 use Rattle.ops.specs.Ops.{kindOf}
-use Rattle.block.specs.Records.{Cut, nothingLeft, stray, cons, cutBy, cutOf, concat, isDeclaration, declarations, opsFrom}
+use Rattle.block.specs.Records.{Cut, nothingLeft, stray, cons, cutBy, cutOf, recordBytes, isDeclaration, declarations, opsFrom}
 
 -- a record of a known kind, with its body
 abbrev pub whole : Table → List ℕ → Bool
@@ -64,17 +64,17 @@ no-record T = go (known T 0)
     go true = eqb·zero-suc (bodyLength T 0)
     go false = refl
 
-cut-records : (T : Table) (rs : List (List ℕ)) (n : ℕ) → AllWhole T rs → length (concat rs) ≤ n → cutBy T n (concat rs) ≡ cut-clean rs
+cut-records : (T : Table) (rs : List (List ℕ)) (n : ℕ) → AllWhole T rs → length (recordBytes rs) ≤ n → cutBy T n (recordBytes rs) ≡ cut-clean rs
 cut-records T [] n h l = cut-none T n
 cut-records T ([] ∷ rs) n h l = clash (whole T []) (h .0) (no-record T)
 cut-records T ((k ∷ body) ∷ rs) zero h l = absurd (omega arith)
 cut-records T ((k ∷ body) ∷ rs) (suc n) h l =
-    cut-first T n k body (concat rs) (h .0)
-    ∙ ap (cons (k ∷ body)) (cut-records T rs n (h .1) (omega (arith, length-append body (concat rs))))
+    cut-first T n k body (recordBytes rs) (h .0)
+    ∙ ap (cons (k ∷ body)) (cut-records T rs n (h .1) (omega (arith, length-append body (recordBytes rs))))
 
-pub cut-concat : (T : Table) (rs : List (List ℕ)) → AllWhole T rs → cutOf T (concat rs) ≡ cut-clean rs
+pub cut-concat : (T : Table) (rs : List (List ℕ)) → AllWhole T rs → cutOf T (recordBytes rs) ≡ cut-clean rs
 unfolding cutOf
-cut-concat T rs h = cut-records T rs (length (concat rs)) h (omega arith)
+cut-concat T rs h = cut-records T rs (length (recordBytes rs)) h (omega arith)
 
 -- the declarations and the records from the first op on
 pub split-records : (rs : List (List ℕ)) → declarations rs ++ opsFrom rs ≡ rs

@@ -15,7 +15,7 @@ use Rattle.theory.proofs.Sets.{and-l, and-r, tell, clash}
 use Rattle.ops.specs.Rows.{isKnown, at, Table}
 use Rattle.ops.specs.Rows.{known, bodyLength}
 use Rattle.ops.specs.Ops.{kindOf}
-use Rattle.block.specs.Checks.{asks, firstBroken, answer, checkBy}
+use Rattle.block.specs.Checks.{asks, firstBroken, refusedOr, checkBy}
 use Rattle.block.specs.Records.{Cut, cons, cutOf, recordsOf, isDeclaration, classOf, typeOf, classesOf, declaredTypes, globalCount}
 use Rattle.block.specs.Rules.{Seen}
 use Rattle.block.specs.Scan.{Stands, codesIn, codeOf, Coded, codeFor, declarationOk, declaresGlobal, declaresOther, declaredRule, Stopped, DeclaredBy, refuses, reads-on}
@@ -147,7 +147,7 @@ module _ {T : Table} (law : LawfulTable T) {b vars : List ℕ} {p n globals : �
     unfolding rule3 declarationOk
     rule-3 = let all : allGlobal classes ≡ eqb globals n = sym (count-all classes) ∙ ap₂ eqb (sym (d .globals-are)) lc in rw (class, type, all, lc)
 
-    turn : answer (firstBroken (asks 3 met ∷ [])) p (checkAt T (declared (declaredSeen classes types) (recordAt T b p)) b (p + 3)) ≡ checkBy T b
+    turn : refusedOr (firstBroken (asks 3 met ∷ [])) p (checkAt T (declared (declaredSeen classes types) (recordAt T b p)) b (p + 3)) ≡ checkBy T b
     unfolding next
     turn =
         let e = at-record T b p h (declaredSeen classes types) is-known within in

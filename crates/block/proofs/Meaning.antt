@@ -11,9 +11,9 @@ use borrow.Author.Tests.{ltb-true, ltb-false, eqb-true, eqb-false, lt-ltb, le-lt
 use Rattle.theory.proofs.Sets.{and-l, and-r, and-i, clash}
 use Rattle.ops.specs.Rows.{known, bodyLength, Table}
 use Rattle.ops.specs.Ops.{kindOf}
-use Rattle.block.specs.Checks.{Finding, firstBroken, rulesOf, endRules, answer, checkFrom, checkBy}
+use Rattle.block.specs.Checks.{Finding, firstBroken, rulesOf, endRules, refusedOr, checkFrom, checkBy}
 use Rattle.block.specs.Meaning.{seen, AllMet, FirstBroken, here, later, Meets, EachMeets, Obeys, Breaks, unknown2, short1, record-breaks, ending, Broken, AcceptedMeans, RefusedMeans}
-use Rattle.block.specs.Records.{Cut, stray, cons, cutBy, cutOf, recordsOf, concat}
+use Rattle.block.specs.Records.{Cut, stray, cons, cutBy, cutOf, recordsOf, recordBytes}
 use Rattle.block.specs.Rules.{Seen, start, next}
 use Rattle.block.specs.declared.Verdict.{Verdict}
 use Rattle.block.specs.declared.Verdict.the-variants.{Accepted, Refused}
@@ -99,7 +99,7 @@ records-met T s (r ∷ rs) h t =
     ((met-whole T r (m .met2) (m .met1), q .0), and-i (allMet (rulesOf T s r)) (accepts T (next T s r) rs) (meets-all T s r m) (q .1))
 
 -- records that leave nothing over are the bytes
-pub cut-together : (T : Table) (n : ℕ) (bytes : List ℕ) → length bytes ≤ n → (cutBy T n bytes) .tail ≡ 0 → concat ((cutBy T n bytes) .records) ≡ bytes
+pub cut-together : (T : Table) (n : ℕ) (bytes : List ℕ) → length bytes ≤ n → (cutBy T n bytes) .tail ≡ 0 → recordBytes ((cutBy T n bytes) .records) ≡ bytes
 unfolding cutBy
 cut-together T zero [] l z = refl
 cut-together T zero (k ∷ bytes) l z = absurd (omega arith)
@@ -108,9 +108,9 @@ cut-together T (suc n) (k ∷ bytes) l z =
     go (cutBy T n (drop (bodyLength T k) bytes)) (known T k) (ltb (length bytes) (bodyLength T k))
     (cut-together T n (drop (bodyLength T k) bytes) (omega (arith, length-drop (bodyLength T k) bytes))) z
   where
-    go : (more : Cut) (t u : Bool) → (more .tail ≡ 0 → concat (more .records) ≡ drop (bodyLength T k) bytes)
+    go : (more : Cut) (t u : Bool) → (more .tail ≡ 0 → recordBytes (more .records) ≡ drop (bodyLength T k) bytes)
         → (cond t (cond u (stray 1) (cons (k ∷ take (bodyLength T k) bytes) more)) (stray 2)) .tail ≡ 0
-        → concat ((cond t (cond u (stray 1) (cons (k ∷ take (bodyLength T k) bytes) more)) (stray 2)) .records) ≡ k ∷ bytes
+        → recordBytes ((cond t (cond u (stray 1) (cons (k ∷ take (bodyLength T k) bytes) more)) (stray 2)) .records) ≡ k ∷ bytes
     go more false u ih q = absurd (omega arith)
     go more true true ih q = absurd (omega arith)
     go more true false ih q =
@@ -136,8 +136,8 @@ accepted-means T block = record { accepted-obeys = accepted-obeys T block; obeys
 record BrokenFrom (T : Table) (s : Seen) (place : ℕ) (bytes : List ℕ) (number p : ℕ) : Type 0 where
   before : List (List ℕ)
   rest : List ℕ
-  together : concat before ++ rest ≡ bytes
-  place-is : p ≡ place + length (concat before)
+  together : recordBytes before ++ rest ≡ bytes
+  place-is : p ≡ place + length (recordBytes before)
   each : EachMeets T s before
   broken : Breaks T (seen T s before) rest number
 
@@ -153,13 +153,13 @@ module _ (T : Table) {s : Seen} {place number p : ℕ} where
       record {
         before = r ∷ b .before;
         rest = b .rest;
-        together = append-assoc r (concat (b .before)) (b .rest) ∙ ap (λ (l : List ℕ). r ++ l) (b .together);
-        place-is = omega (arith, b .place-is, length-append r (concat (b .before)));
+        together = append-assoc r (recordBytes (b .before)) (b .rest) ∙ ap (λ (l : List ℕ). r ++ l) (b .together);
+        place-is = omega (arith, b .place-is, length-append r (recordBytes (b .before)));
         each = each-cons T m (b .each);
         broken = b .broken;
       }
 
-  broken-end : answer (firstBroken (endRules s)) place Accepted ≡ Refused number p → BrokenFrom T s place [] number p
+  broken-end : refusedOr (firstBroken (endRules s)) place Accepted ≡ Refused number p → BrokenFrom T s place [] number p
   broken-end h = go (eqb (firstBroken (endRules s)) 0) refl h
     where
       go : (b : Bool) → eqb (firstBroken (endRules s)) 0 ≡ b → cond b Accepted (Refused (firstBroken (endRules s)) place) ≡ Refused number p → BrokenFrom T s place [] number p
@@ -226,7 +226,7 @@ abbrev answerFrom : Table → Seen → ℕ → List ℕ → Verdict
 answerFrom T s place bytes = checkFrom T s place ((cutOf T bytes) .records) ((cutOf T bytes) .tail)
 
 answer-record : (T : Table) (s : Seen) (place : ℕ) (r bytes : List ℕ) → whole T r ≡ true
-    → answerFrom T s place (r ++ bytes) ≡ answer (firstBroken (rulesOf T s r)) place (answerFrom T (next T s r) (place + length r) bytes)
+    → answerFrom T s place (r ++ bytes) ≡ refusedOr (firstBroken (rulesOf T s r)) place (answerFrom T (next T s r) (place + length r) bytes)
 unfolding checkFrom
 answer-record T s place r bytes w = rw (front T r bytes w)
 
@@ -244,23 +244,23 @@ answer-here {T = T} s place (k ∷ bytes) number (short1 l e q) = rw (e, lt-ltb 
 answer-here {T = T} s place rest number (record-breaks r after e k l b) =
     rw (← e)
     (answer-record T s place r after (met-whole T r k l)
-    ∙ ap (λ (m : ℕ). answer m place (answerFrom T (next T s r) (place + length r) after)) (is-first b)
+    ∙ ap (λ (m : ℕ). refusedOr m place (answerFrom T (next T s r) (place + length r) after)) (is-first b)
     ∙ rw (ne-eqb number 0 (no-zero (numbered-rules T s r) b)))
 answer-here s place rest number (ending e b) = rw e (rw (is-first b, ne-eqb number 0 (no-zero (numbered-end s) b)))
 
 answer-after : {T : Table} (before : List (List ℕ)) (s : Seen) (place : ℕ) (rest : List ℕ) (number : ℕ) → EachMeets T s before → Breaks T (seen T s before) rest number
-    → answerFrom T s place (concat before ++ rest) ≡ Refused number (place + length (concat before))
+    → answerFrom T s place (recordBytes before ++ rest) ≡ Refused number (place + length (recordBytes before))
 answer-after [] s place rest number h b = let e : place ≡ place + 0 = omega arith in answer-here s place rest number b ∙ ap (Refused number) e
 answer-after {T = T} (r ∷ rs) s place rest number h b =
-    let e : place + length r + length (concat rs) ≡ place + length (r ++ concat rs) = omega (arith, length-append r (concat rs)) in
-    ap (answerFrom T s place) (append-assoc r (concat rs) rest)
-    ∙ answer-on s place r (concat rs ++ rest) (each-first T h)
+    let e : place + length r + length (recordBytes rs) ≡ place + length (r ++ recordBytes rs) = omega (arith, length-append r (recordBytes rs)) in
+    ap (answerFrom T s place) (append-assoc r (recordBytes rs) rest)
+    ∙ answer-on s place r (recordBytes rs ++ rest) (each-first T h)
     ∙ answer-after rs (next T s r) (place + length r) rest number (each-rest T h) b ∙ ap (Refused number) e
 
 broken-refused : {T : Table} (block : List ℕ) (number place : ℕ) → Broken T block number place → checkBy T block ≡ Refused number place
 unfolding checkBy
 broken-refused {T = T} block number place b =
-    let e : 0 + length (concat (b .before)) ≡ place = omega (arith, b .place-is) in
+    let e : 0 + length (recordBytes (b .before)) ≡ place = omega (arith, b .place-is) in
     ap (answerFrom T start 0) (sym (b .together)) ∙ answer-after (b .before) start 0 (b .rest) number (b .each) (b .broken) ∙ ap (Refused number) e
 
 pub refused-means : (T : Table) (block : List ℕ) (number place : ℕ) → RefusedMeans T block number place

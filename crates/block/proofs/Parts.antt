@@ -9,7 +9,7 @@ use Rattle.theory.specs.Sets.{empty}
 use Rattle.theory.proofs.Sets.{and-l, and-r, and-i}
 use Rattle.ops.specs.Ops.{tcg, Dialect}
 use Rattle.block.specs.Meaning.{seen}
-use Rattle.block.specs.Records.{Cut, recordsOf, concat, declarations, opsFrom, classesOf}
+use Rattle.block.specs.Records.{Cut, recordsOf, recordBytes, declarations, opsFrom, classesOf}
 use Rattle.block.specs.Rules.{Seen, start, keptIn}
 use Rattle.block.proofs.Accepts.{accepts, accepted-records, records-accepted, meet, accepts-append}
 use Rattle.block.proofs.Cut.{all-left, all-right}
@@ -75,7 +75,7 @@ parts {D = D} law block h =
 
 -- the other way: declarations and ops that meet every rule make an accepted block
 pub joined : {D : Dialect} (law : Lawful D) (ds os : List (List ℕ)) → AllWhole (D .rows) ds → AllDeclared ds → meet (D .rows) start ds ≡ true → checks (tcg D) (checker D) (declaredIn start ds) os ≡ true
-    → scoped (tcg D) (keptIn (classesOf ds)) empty os ≡ true → (checkBy (D .rows) (concat (ds ++ os)) ≡ Accepted) × Parts D (concat (ds ++ os)) ds os
+    → scoped (tcg D) (keptIn (classesOf ds)) empty os ≡ true → (checkBy (D .rows) (recordBytes (ds ++ os)) ≡ Accepted) × Parts D (recordBytes (ds ++ os)) ds os
 joined {D = D} law ds os wd d m c k = (
   records-accepted (D .rows) (ds ++ os) w (accepts-append (D .rows) start ds os ∙ and-i (meet (D .rows) start ds) (accepts (D .rows) (seen (D .rows) start ds) os) m (ap (λ (s : Seen). accepts (D .rows) s os) (seen-declared (D .rows) start ds d) ∙ q .2)),
   record {

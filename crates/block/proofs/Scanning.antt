@@ -21,7 +21,7 @@ use Rattle.block.proofs.Codes.{coded-next, codes-closed, codes-open}
 use Rattle.block.proofs.Declaring.{classes-length}
 use Rattle.block.proofs.OpRules.{Op, tests-alike, stopped-not, no-op, no-fit, op-fits}
 use Rattle.block.proofs.Views.{row-at, output-bytes, label-byte}
-use Rattle.block.specs.Checks.{asks, firstBroken, opRules, rulesOf, endRules, answer, checkBy}
+use Rattle.block.specs.Checks.{asks, firstBroken, opRules, rulesOf, endRules, refusedOr, checkBy}
 use Rattle.block.specs.Records.{Cut, cons, cutOf, isDeclaration, classOf, typeOf, classesOf, declaredTypes}
 use Rattle.block.specs.Rules.{Seen, allGlobal, allBelow, rule3, rule4, markedBy, rule9, rule10, allSet}
 use Rattle.block.specs.Rules.{rule7end, passed, next}
@@ -35,7 +35,7 @@ use Rattle.block.specs.declared.Verdict.the-variants.{Accepted, Refused}
 
 -- a place's answer by the rule that its record breaks
 at-place : (T : Table) (s : Seen) (b : List ℕ) (p : ℕ) → p < length b
-    → checkAt T s b p ≡ answer (recordRule T s b p) p (checkAt T (next T s (recordAt T b p)) b (p + suc (bodyLength T (getD b p 0))))
+    → checkAt T s b p ≡ refusedOr (recordRule T s b p) p (checkAt T (next T s (recordAt T b p)) b (p + suc (bodyLength T (getD b p 0))))
 unfolding recordRule
 at-place T s b p h = go (known T (getD b p 0)) refl (ltb (length b) (p + suc (bodyLength T (getD b p 0)))) refl
   where
@@ -43,7 +43,7 @@ at-place T s b p h = go (known T (getD b p 0)) refl (ltb (length b) (p + suc (bo
     k = getD b p 0
 
     go : (t : Bool) → known T k ≡ t → (u : Bool) → ltb (length b) (p + suc (bodyLength T k)) ≡ u
-        → checkAt T s b p ≡ answer (cond t (cond u 1 (firstBroken (rulesOf T s (recordAt T b p)))) 2) p (checkAt T (next T s (recordAt T b p)) b (p + suc (bodyLength T k)))
+        → checkAt T s b p ≡ refusedOr (cond t (cond u 1 (firstBroken (rulesOf T s (recordAt T b p)))) 2) p (checkAt T (next T s (recordAt T b p)) b (p + suc (bodyLength T k)))
     go false e u f = at-unknown T b p h s e
     go true e true f = at-short T b p h s e (ltb-true (length b) (p + suc (bodyLength T k)) f)
     go true e false f = at-record T b p h s e (ltb-false (length b) (p + suc (bodyLength T k)) f)
@@ -180,7 +180,7 @@ module _ {T : Table} {b : List ℕ} {start : ℕ} {places₀ base vars labels ta
         let a : rule ≡ recordRule T (s .seen) b p = q ∙ sym entry-rule in
         refuses-op z (sym (ne-answer (recordRule T (s .seen) b p) (λ u. z (a ∙ u)) ∙ ap (λ (m : ℕ). Refused m p) (sym a)) ∙ sym (at-place T (s .seen) b p h) ∙ s .goes-on)
       where
-        ne-answer : (m : ℕ) → (m ≡ 0 → ⊥) → answer m p (checkAt T (next T (s .seen) (recordAt T b p)) b (p + suc (bodyLength T (getD b p 0)))) ≡ Refused m p
+        ne-answer : (m : ℕ) → (m ≡ 0 → ⊥) → refusedOr m p (checkAt T (next T (s .seen) (recordAt T b p)) b (p + suc (bodyLength T (getD b p 0)))) ≡ Refused m p
         ne-answer m u = rw (ne-eqb m 0 u)
 
     module _ {stands : Bool} (o : stands ≡ opStands e b p) where
@@ -238,7 +238,7 @@ module _ {T : Table} {b : List ℕ} {start : ℕ} {places₀ base vars labels ta
         seen = passed T (s .seen) (recordAt T b p);
         goes-on =
             ap (λ (t : Seen). checkAt T t b (p + suc (bodyLength T (getD b p 0)))) (sym seen-next)
-            ∙ sym (ap (λ (m : ℕ). answer m p (checkAt T (next T (s .seen) (recordAt T b p)) b (p + suc (bodyLength T (getD b p 0))))) (k .sound))
+            ∙ sym (ap (λ (m : ℕ). refusedOr m p (checkAt T (next T (s .seen) (recordAt T b p)) b (p + suc (bodyLength T (getD b p 0))))) (k .sound))
             ∙ sym (at-place T (s .seen) b p (k .here)) ∙ s .goes-on;
         coded = coded-next (s .based) (s .coded) row vars′ (outsBy row (recordAt T b p)) (w .codes-so) outs-below;
         based = s .based;
@@ -264,7 +264,7 @@ module _ {T : Table} {b : List ℕ} {start : ℕ} {places₀ base vars labels ta
 -- the end
 module _ {T : Table} {b : List ℕ} {start : ℕ} {places₀ base vars labels targets places : List ℕ} {p ops last : ℕ}
     (s : Reading T b start places₀ base vars labels targets places p ops last) (h : length b ≤ p) where
-  end-answer : answer (firstBroken (endRules (s .seen))) p Accepted ≡ checkBy T b
+  end-answer : refusedOr (firstBroken (endRules (s .seen))) p Accepted ≡ checkBy T b
   end-answer = sym (at-end T (s .seen) b p h) ∙ s .goes-on
 
   pub scanning-10 : eqb last exitRank ≡ false → ScannedBy T b start places₀ places labels 10 p ops

@@ -9,7 +9,7 @@ use lib.ListN.{length, getD, take, drop, drop-of-length-le, length-drop}
 use lib.Seq.{drop-cons, length-take-le, drop-drop}
 use borrow.Author.Tests.{lt-ltb, le-ltb}
 use Rattle.ops.specs.Rows.{known, bodyLength, Table}
-use Rattle.block.specs.Checks.{firstBroken, rulesOf, endRules, answer, checkFrom, checkBy}
+use Rattle.block.specs.Checks.{firstBroken, rulesOf, endRules, refusedOr, checkFrom, checkBy}
 use Rattle.block.specs.Records.{nothingLeft, stray, cons, cutBy, cutOf}
 use Rattle.block.specs.Rules.{Seen, start, next}
 use Rattle.block.specs.Scan.{recordAt, checkAt}
@@ -77,7 +77,7 @@ module _ (T : Table) (b : List ℕ) (p : ℕ) (h : p < length b) where
     at-short e l = rw (cut-short e l)
 
     pub at-record : known T (getD b p 0) ≡ true → p + suc (bodyLength T (getD b p 0)) ≤ length b
-        → checkAt T s b p ≡ answer (firstBroken (rulesOf T s (recordAt T b p))) p (checkAt T (next T s (recordAt T b p)) b (p + suc (bodyLength T (getD b p 0))))
+        → checkAt T s b p ≡ refusedOr (firstBroken (rulesOf T s (recordAt T b p))) p (checkAt T (next T s (recordAt T b p)) b (p + suc (bodyLength T (getD b p 0))))
     unfolding checkAt checkFrom
     at-record e l = rw (cut-record e l, record-length l)
 
@@ -85,7 +85,7 @@ pub cut-end : (T : Table) (b : List ℕ) (p : ℕ) → length b ≤ p → cutOf 
 unfolding cutOf cutBy
 cut-end T b p h = rw (drop-of-length-le b h)
 
-pub at-end : (T : Table) (s : Seen) (b : List ℕ) (p : ℕ) → length b ≤ p → checkAt T s b p ≡ answer (firstBroken (endRules s)) p Accepted
+pub at-end : (T : Table) (s : Seen) (b : List ℕ) (p : ℕ) → length b ≤ p → checkAt T s b p ≡ refusedOr (firstBroken (endRules s)) p Accepted
 unfolding checkAt checkFrom
 at-end T s b p h = rw (cut-end T b p h)
 

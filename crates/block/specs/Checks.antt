@@ -36,13 +36,13 @@ rulesOf T s r = cond (isDeclaration r) (asks 3 (rule3 s r) ∷ []) (opRules T s 
 abbrev pub endRules : Seen → List Finding
 endRules s = asks 10 (rule10 s) ∷ asks 7 (rule7end s) ∷ []
 
-abbrev pub answer : ℕ → ℕ → Verdict → Verdict
-answer number place go = cond (eqb number 0) go (Refused number place)
+abbrev pub refusedOr : ℕ → ℕ → Verdict → Verdict
+refusedOr number place go = cond (eqb number 0) go (Refused number place)
 
 -- "Records are read in order and the first bad one answers." place: where the next record starts
 unfoldable pub checkFrom : Table → Seen → ℕ → List (List ℕ) → ℕ → Verdict
-checkFrom T s place [] tail = answer tail place (answer (firstBroken (endRules s)) place Accepted)
-checkFrom T s place (r ∷ rs) tail = let go = checkFrom T (next T s r) (place + length r) rs tail in answer (firstBroken (rulesOf T s r)) place go
+checkFrom T s place [] tail = refusedOr tail place (refusedOr (firstBroken (endRules s)) place Accepted)
+checkFrom T s place (r ∷ rs) tail = let go = checkFrom T (next T s r) (place + length r) rs tail in refusedOr (firstBroken (rulesOf T s r)) place go
 
 unfoldable pub checkBy : Table → List ℕ → Verdict
 checkBy T block = checkFrom T start 0 ((cutOf T block) .records) ((cutOf T block) .tail)

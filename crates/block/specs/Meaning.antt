@@ -8,7 +8,7 @@ use Rattle.ops.specs.Rows.{known, bodyLength, Table}
 use Rattle.ops.specs.Ops.{kindOf}
 use Rattle.theory.specs.Machine.{All}
 use Rattle.block.specs.Checks.{Finding, rulesOf, endRules, checkBy}
-use Rattle.block.specs.Records.{concat}
+use Rattle.block.specs.Records.{recordBytes}
 use Rattle.block.specs.Rules.{Seen, start, next}
 use Rattle.block.specs.declared.Verdict.the-variants.{Accepted, Refused}
 
@@ -40,7 +40,7 @@ EachMeets T s rs = (before : List (List ℕ)) (r : List ℕ) (after : List (List
 -- 7, "a jumped-to label never set"
 pub record Obeys (T : Table) (block : List ℕ) : Type 0 where
   pub records : List (List ℕ)
-  pub together : concat records ≡ block
+  pub together : recordBytes records ≡ block
   pub each : EachMeets T start records
   pub end : AllMet (endRules (seen T start records))
 
@@ -58,8 +58,8 @@ pub data Breaks (T : Table) (s : Seen) (rest : List ℕ) : ℕ → Type 0 where
 pub record Broken (T : Table) (block : List ℕ) (number place : ℕ) : Type 0 where
   pub before : List (List ℕ)
   pub rest : List ℕ
-  pub together : concat before ++ rest ≡ block
-  pub place-is : place ≡ length (concat before)
+  pub together : recordBytes before ++ rest ≡ block
+  pub place-is : place ≡ length (recordBytes before)
   pub each : EachMeets T start before
   pub broken : Breaks T (seen T start before) rest number
 

@@ -37,9 +37,9 @@ abbrev pub recordsOf : Table → List ℕ → List (List ℕ)
 recordsOf T block = (cutOf T block) .records
 
 -- the bytes of records
-abbrev pub concat : List (List ℕ) → List ℕ
-concat [] = []
-concat (r ∷ rs) = r ++ concat rs
+abbrev pub recordBytes : List (List ℕ) → List ℕ
+recordBytes [] = []
+recordBytes (r ∷ rs) = r ++ recordBytes rs
 
 abbrev pub isDeclaration : List ℕ → Bool
 isDeclaration r = eqb (kindOf r) 0x01

@@ -11,7 +11,7 @@ ghost use Rattle.ops.specs.Rows.{computing, roleOf};
 ghost use Rattle.ops.specs.Ops.{folding};
 ghost use Rattle.ops.specs.Kinds.{rowOf, document01, moviKind};
 ghost use Rattle.ops.specs.Shapes.{shapeTable, typeAs, shapeAt};
-ghost use Rattle.block.specs.Records.{concat};
+ghost use Rattle.block.specs.Records.{recordBytes};
 ghost use Rattle.block.specs.Scan.{recordAt, Stands};
 ghost use Rattle.passes.specs.Knows.{foldedOps};
 ghost use Rattle.passes.specs.Laid.{opsAt, placeOf, Laid, editOf, keptFrom};
@@ -112,8 +112,8 @@ pub fn emit(
     constants: &[u64],
     out: &mut [u8],
 )
-    requires { ⌜ Laid (now block) (now places) ops × Marked (now block) (now places) (now marks) (now constants) ops × (placeOf (now block) (now places) ops 0 ≡ start) × (start ≤ length (now block)) × (ops ≤ length (now places)) × (ops ≤ length (now marks)) × (ops ≤ length (now constants)) × (now shapes ≡ shapeTable) × (start + length (concat (keptFrom 0 (now marks) (foldedOps (opsAt (now block) (now places) 0 ops)))) ≤ length (now out)) ⌝ }
-    ensures { λ _. ⌜ now (out .exit) ≡ sets (now (out .entry)) start (concat (keptFrom 0 (now (marks .entry)) (foldedOps (opsAt (now (block .entry)) (now (places .entry)) 0 ops)))) ⌝ }
+    requires { ⌜ Laid (now block) (now places) ops × Marked (now block) (now places) (now marks) (now constants) ops × (placeOf (now block) (now places) ops 0 ≡ start) × (start ≤ length (now block)) × (ops ≤ length (now places)) × (ops ≤ length (now marks)) × (ops ≤ length (now constants)) × (now shapes ≡ shapeTable) × (start + length (recordBytes (keptFrom 0 (now marks) (foldedOps (opsAt (now block) (now places) 0 ops)))) ≤ length (now out)) ⌝ }
+    ensures { λ _. ⌜ now (out .exit) ≡ sets (now (out .entry)) start (recordBytes (keptFrom 0 (now (marks .entry)) (foldedOps (opsAt (now (block .entry)) (now (places .entry)) 0 ops)))) ⌝ }
 {
     let end = block.len();
     let mut from = start;

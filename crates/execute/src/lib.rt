@@ -5,7 +5,7 @@ ghost use lib.ListN.{getD};
 ghost use Rattle.theory.specs.Machine.{cost};
 ghost use Rattle.ops.specs.Kinds.{kindTable};
 ghost use Rattle.runs.specs.Runs.{answerOf};
-ghost use Rattle.runs.specs.Steps.{endOf, Ready, Executed};
+ghost use Rattle.runs.specs.Steps.{endOf, ReadyToRun, Executed};
 use marks::index;
 use runs::Ending;
 use runs::Outcome;
@@ -72,7 +72,7 @@ pub fn execute(
     values: &mut [u64; 256],
     memory: &mut [u8],
 ) -> Ending
-    requires { ⌜ Ready (now block) (now places) (now labels) start ops × (now kinds ≡ kindTable) ⌝ }
+    requires { ⌜ ReadyToRun (now block) (now places) (now labels) start ops × (now kinds ≡ kindTable) ⌝ }
     ensures { λ r. ⌜ Executed (now (block .entry)) (now (values .entry)) (now (memory .entry)) (now (values .exit)) (now (memory .exit)) r ⌝ }
 {
     let mut op: usize = 0;

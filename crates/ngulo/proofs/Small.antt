@@ -13,7 +13,7 @@ use Rattle.ops.proofs.Table.{body-short}
 use Rattle.ops.proofs.Document01.{lawful}
 use Rattle.block.specs.Checks.{asks, opRules, checkOf}
 use Rattle.block.specs.Meaning.{AllMet, EachMeets}
-use Rattle.block.specs.Records.{recordsOf, concat, isDeclaration, declarations, opsFrom, classOf, classesOf}
+use Rattle.block.specs.Records.{recordsOf, recordBytes, isDeclaration, declarations, opsFrom, classOf, classesOf}
 use Rattle.block.proofs.Checker.{room3, room9}
 use Rattle.block.proofs.Meaning.{refused-means}
 use Rattle.block.proofs.Parts.{parts}
@@ -33,11 +33,11 @@ next-is : (s : Seen) (r : List ℕ) (b : Bool) → isDeclaration r ≡ b → nex
 unfolding next
 next-is s r b e = ap (λ (t : Bool). cond t (declared s r) (passed rowOf s r)) e
 
-each-short : (rs : List (List ℕ)) (s : Seen) → EachMeets rowOf s rs → length (concat rs) ≤ 10 * length rs
+each-short : (rs : List (List ℕ)) (s : Seen) → EachMeets rowOf s rs → length (recordBytes rs) ≤ 10 * length rs
 each-short [] s e = omega arith
 each-short (r ∷ rs) s e =
     let m = e [] r rs refl in
-    omega (arith, length-append r (concat rs), m .met1, body-short (kindOf r), each-short rs (next rowOf s r) (λ before q after z. e (r ∷ before) q after (ap (λ (l : List (List ℕ)). r ∷ l) z)))
+    omega (arith, length-append r (recordBytes rs), m .met1, body-short (kindOf r), each-short rs (next rowOf s r) (λ before q after z. e (r ∷ before) q after (ap (λ (l : List (List ℕ)). r ∷ l) z)))
 
 each-few : (rs : List (List ℕ)) (s : Seen) → EachMeets rowOf s rs → length (s .classes) ≤ 64 → s .ops ≤ 256 → length rs + length (s .classes) + s .ops ≤ 320
 each-few [] s e l n = omega arith

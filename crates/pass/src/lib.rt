@@ -6,7 +6,7 @@ ghost use lib.Dec.{ltb};
 ghost use lib.ListN.{getD};
 ghost use Rattle.ops.specs.Shapes.{shapeTable};
 ghost use Rattle.passes.specs.Passes.{passOf};
-ghost use Rattle.passes.specs.Ready.{classBy, classIn, Ready};
+ghost use Rattle.passes.specs.Ready.{classBy, classIn, ReadyToPass};
 use passes::Written;
 use rewrite::write_result;
 use scan::scan;
@@ -47,7 +47,7 @@ fn write_short(
     classes: &[u8; 256],
     out: &mut [u8],
 ) -> Written
-    requires { ⌜ Ready (now block) (now places) (now classes) start ops × (ops ≤ 64) × (now shapes ≡ shapeTable) ⌝ }
+    requires { ⌜ ReadyToPass (now block) (now places) (now classes) start ops × (ops ≤ 64) × (now shapes ≡ shapeTable) ⌝ }
     ensures { λ r. ⌜ (r ≡ (passOf (now (block .entry)) (now (out .entry))) .answer) × (now (out .exit) ≡ (passOf (now (block .entry)) (now (out .entry))) .out) ⌝ }
 {
     let mut marks = [0u8; 64];
@@ -75,7 +75,7 @@ fn write_long(
     classes: &[u8; 256],
     out: &mut [u8],
 ) -> Written
-    requires { ⌜ Ready (now block) (now places) (now classes) start ops × (now shapes ≡ shapeTable) ⌝ }
+    requires { ⌜ ReadyToPass (now block) (now places) (now classes) start ops × (now shapes ≡ shapeTable) ⌝ }
     ensures { λ r. ⌜ (r ≡ (passOf (now (block .entry)) (now (out .entry))) .answer) × (now (out .exit) ≡ (passOf (now (block .entry)) (now (out .entry))) .out) ⌝ }
 {
     let mut marks = [0u8; 256];

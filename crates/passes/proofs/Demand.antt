@@ -9,7 +9,7 @@ use Rattle.theory.specs.Prune.{AllUsed, liveAll}
 use Rattle.memory.proofs.Digits.{room}
 use Rattle.memory.proofs.Faults.{sized}
 use Rattle.ops.specs.Ops.{tcg, Dialect}
-use Rattle.block.specs.Records.{recordsOf, concat, declarations, opsFrom, classesOf}
+use Rattle.block.specs.Records.{recordsOf, recordBytes, declarations, opsFrom, classesOf}
 use Rattle.block.proofs.Parts.{Parts, parts}
 use Rattle.passes.specs.Demand.{Room, Demand3, DemandOf, Demand}
 use Rattle.passes.specs.Passes.{passOps, resultOf, written}
@@ -27,7 +27,7 @@ module _ {D : Dialect} (law : Lawful D) (block : List ℕ) (ds os : List (List �
   kept = passOps D (classesOf ds) os
 
   bytes : List ℕ
-  bytes = concat (ds ++ kept)
+  bytes = recordBytes (ds ++ kept)
 
   same : resultOf D block ≡ bytes
   unfolding bytes kept
@@ -49,7 +49,7 @@ module _ {D : Dialect} (law : Lawful D) (block : List ℕ) (ds os : List (List �
 
   settled : resultOf D bytes ≡ bytes
   unfolding bytes kept passOps
-  settled = result-of bytes ds kept (q .1) ∙ ap (λ (t : Prog (tcg D)). concat (ds ++ t)) ((ops-preserved law (classesOf ds) os (p .in-scope)) .again)
+  settled = result-of bytes ds kept (q .1) ∙ ap (λ (t : Prog (tcg D)). recordBytes (ds ++ t)) ((ops-preserved law (classesOf ds) os (p .in-scope)) .again)
 
   demand3 : (out : List ℕ) → Room (resultOf D block) out → Demand3 D block out
   unfolding bytes kept

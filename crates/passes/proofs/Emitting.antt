@@ -14,7 +14,7 @@ use borrow.Author.Tests.{eqb-true, eqb-false, lt-ltb, le-ltb}
 use Rattle.theory.proofs.Sets.{tell}
 use Rattle.ops.specs.Rows.{bodyLength, computing, roleOf}
 use Rattle.ops.specs.Kinds.{rowOf}
-use Rattle.block.specs.Records.{concat}
+use Rattle.block.specs.Records.{recordBytes}
 use Rattle.block.specs.Scan.{recordAt}
 use Rattle.passes.specs.Knows.{foldedOps}
 use Rattle.passes.specs.Laid.{opsAt, placeOf, Laid, editOf, keptFrom}
@@ -26,11 +26,11 @@ use Rattle.passes.proofs.Stores.{Copying, copying-start, copying-over, 
 
 -- the kept ops before the i-th are stored, or wait
 pub record EmittingSo (b P marks out₀ out : List ℕ) (ops start from to i : ℕ) : Type 0 where
-  pub copied : Copying b out₀ out start from (placeOf b P ops i) to (concat (keptFrom 0 marks (foldedOps (opsAt b P 0 ops)))) (concat (keptFrom i marks (drop i (foldedOps (opsAt b P 0 ops)))))
+  pub copied : Copying b out₀ out start from (placeOf b P ops i) to (recordBytes (keptFrom 0 marks (foldedOps (opsAt b P 0 ops)))) (recordBytes (keptFrom i marks (drop i (foldedOps (opsAt b P 0 ops)))))
 
 pub emitting-start : {b P marks out : List ℕ} {ops start : ℕ} → placeOf b P ops 0 ≡ start → start ≤ length b → EmittingSo b P marks out out ops start start start 0
 emitting-start {b} {P} {marks} {out} {ops} {start} e h =
-    record { copied = subst (λ (n : ℕ). Copying b out out start start n start (concat (keptFrom 0 marks (foldedOps (opsAt b P 0 ops)))) (concat (keptFrom 0 marks (foldedOps (opsAt b P 0 ops))))) (sym e) (copying-start h) }
+    record { copied = subst (λ (n : ℕ). Copying b out out start start n start (recordBytes (keptFrom 0 marks (foldedOps (opsAt b P 0 ops)))) (recordBytes (keptFrom 0 marks (foldedOps (opsAt b P 0 ops))))) (sym e) (copying-start h) }
 
 pub marked-some : {m : ℕ} → (m ≡ 0 → ⊥) → 0 < m
 marked-some {m} n = lt-of-le-ne {i = 0} {k = m} (omega arith) (λ z. n (sym z))
@@ -52,7 +52,7 @@ module _ {b P marks constants out₀ out : List ℕ} {ops start from to i : ℕ}
     o = getD (foldedOps (opsAt b P 0 ops)) i []
 
     abbrev more : List ℕ
-    more = concat (keptFrom (i + 1) marks (drop (i + 1) (foldedOps (opsAt b P 0 ops))))
+    more = recordBytes (keptFrom (i + 1) marks (drop (i + 1) (foldedOps (opsAt b P 0 ops))))
 
     abbrev body : ℕ
     body = suc (bodyLength rowOf (getD b (getD P i 0) 0))
@@ -63,18 +63,18 @@ module _ {b P marks constants out₀ out : List ℕ} {ops start from to i : ℕ}
     place-here : placeOf b P ops i ≡ getD P i 0
     place-here = rw (lt-ltb i ops h)
 
-    pub here : Copying b out₀ out start from (getD P i 0) to (concat (keptFrom 0 marks (foldedOps (opsAt b P 0 ops)))) (concat (keptFrom i marks (drop i (foldedOps (opsAt b P 0 ops)))))
-    here = subst (λ (n : ℕ). Copying b out₀ out start from n to (concat (keptFrom 0 marks os)) (concat (keptFrom i marks (drop i os)))) place-here (s .copied)
+    pub here : Copying b out₀ out start from (getD P i 0) to (recordBytes (keptFrom 0 marks (foldedOps (opsAt b P 0 ops)))) (recordBytes (keptFrom i marks (drop i (foldedOps (opsAt b P 0 ops)))))
+    here = subst (λ (n : ℕ). Copying b out₀ out start from n to (recordBytes (keptFrom 0 marks os)) (recordBytes (keptFrom i marks (drop i os)))) place-here (s .copied)
 
-    kept-here : getD marks i 0 < 2 → concat (keptFrom i marks (drop i os)) ≡ o ++ more
+    kept-here : getD marks i 0 < 2 → recordBytes (keptFrom i marks (drop i os)) ≡ o ++ more
     kept-here k =
-        ap (λ (xs : List (List ℕ)). concat (keptFrom i marks xs)) cut ∙ ap concat (kept-more i marks o (drop (suc i) os) k)
-        ∙ ap (λ (n : ℕ). o ++ concat (keptFrom n marks (drop n os))) (sym (add-one i))
+        ap (λ (xs : List (List ℕ)). recordBytes (keptFrom i marks xs)) cut ∙ ap recordBytes (kept-more i marks o (drop (suc i) os) k)
+        ∙ ap (λ (n : ℕ). o ++ recordBytes (keptFrom n marks (drop n os))) (sym (add-one i))
 
-    dropped-here : 2 ≤ getD marks i 0 → concat (keptFrom i marks (drop i os)) ≡ more
+    dropped-here : 2 ≤ getD marks i 0 → recordBytes (keptFrom i marks (drop i os)) ≡ more
     dropped-here k =
-        ap (λ (xs : List (List ℕ)). concat (keptFrom i marks xs)) cut ∙ ap concat (kept-less i marks o (drop (suc i) os) k)
-        ∙ ap (λ (n : ℕ). concat (keptFrom n marks (drop n os))) (sym (add-one i))
+        ap (λ (xs : List (List ℕ)). recordBytes (keptFrom i marks xs)) cut ∙ ap recordBytes (kept-less i marks o (drop (suc i) os) k)
+        ∙ ap (λ (n : ℕ). recordBytes (keptFrom n marks (drop n os))) (sym (add-one i))
 
     -- it waits
     pub emitting-stays : getD marks i 0 ≡ 0 → EmittingSo b P marks out₀ out ops start from to (i + 1)
@@ -82,7 +82,7 @@ module _ {b P marks constants out₀ out : List ℕ} {ops start from to i : ℕ}
         let e = kept-here (omega arith) ∙ ap (λ (x : List ℕ). x ++ more) ((left .left i h (omega arith)) .stays k) in
         record {
           copied =
-              subst (λ (n : ℕ). Copying b out₀ out start from n to (concat (keptFrom 0 marks os)) more) (sym (laid .next-is i h)) (copying-over here body e ((laid .stands i h) .whole));
+              subst (λ (n : ℕ). Copying b out₀ out start from n to (recordBytes (keptFrom 0 marks os)) more) (sym (laid .next-is i h)) (copying-over here body e ((laid .stands i h) .whole));
         }
 
     -- an op that a constant replaces computes
@@ -90,10 +90,10 @@ module _ {b P marks constants out₀ out : List ℕ} {ops start from to i : ℕ}
     edit-computes k = ((left .left i h (omega arith)) .becomes k) .role-is
 
     module _ (k : 0 < getD marks i 0) where
-      edit-here : concat (keptFrom i marks (drop i os)) ≡ editOf b (getD P i 0) (getD marks i 0) (getD constants i 0) ++ more
+      edit-here : recordBytes (keptFrom i marks (drop i os)) ≡ editOf b (getD P i 0) (getD marks i 0) (getD constants i 0) ++ more
       edit-here = go (tell (eqb (getD marks i 0) 1))
         where
-          go : (eqb (getD marks i 0) 1 ≡ true) ⊎ (eqb (getD marks i 0) 1 ≡ false) → concat (keptFrom i marks (drop i os)) ≡ editOf b (getD P i 0) (getD marks i 0) (getD constants i 0) ++ more
+          go : (eqb (getD marks i 0) 1 ≡ true) ⊎ (eqb (getD marks i 0) 1 ≡ false) → recordBytes (keptFrom i marks (drop i os)) ≡ editOf b (getD P i 0) (getD marks i 0) (getD constants i 0) ++ more
           go (inl q) =
               let one : getD marks i 0 ≡ 1 = eqb-true (getD marks i 0) 1 q in
               rw q (kept-here (omega arith) ∙ ap (λ (x : List ℕ). x ++ more) (((left .left i h (omega arith)) .becomes one) .op-is))
@@ -102,7 +102,7 @@ module _ {b P marks constants out₀ out : List ℕ} {ops start from to i : ℕ}
               above : (m : ℕ) → 0 < m → (m ≡ 1 → ⊥) → 2 ≤ m
               above m l n = lt-of-le-ne {i = 1} {k = m} l (λ z. n (sym z))
 
-      pub edit-room : start + length (concat (keptFrom 0 marks (foldedOps (opsAt b P 0 ops)))) ≤ length out₀ → to + (getD P i 0 - from) + cond (eqb (getD marks i 0) 1) 10 0 ≤ length out
+      pub edit-room : start + length (recordBytes (keptFrom 0 marks (foldedOps (opsAt b P 0 ops)))) ≤ length out₀ → to + (getD P i 0 - from) + cond (eqb (getD marks i 0) 1) 10 0 ≤ length out
       edit-room r =
           omega (
             arith,
@@ -120,7 +120,7 @@ module _ {b P marks constants out₀ out : List ℕ} {ops start from to i : ℕ}
           let z : to′ ≡ to + (getD P i 0 - from) + length x = t ∙ ap (λ (m : ℕ). to + (getD P i 0 - from) + m) (sym (edit-long b (getD P i 0) (getD marks i 0) (getD constants i 0))) in
           record {
             copied =
-                subst (λ (m : ℕ). Copying b out₀ out′ start next m to′ (concat (keptFrom 0 marks os)) more) n
+                subst (λ (m : ℕ). Copying b out₀ out′ start next m to′ (recordBytes (keptFrom 0 marks os)) more) n
                 (copying-put here x edit-here q z (omega (arith, n, laid .next-is i h, (laid .stands i h) .whole)));
           }
 
@@ -128,11 +128,11 @@ module _ {b P marks constants out₀ out : List ℕ} {ops start from to i : ℕ}
     place-end : placeOf b P ops i ≡ length b
     place-end = rw (le-ltb i ops h)
 
-    last : Copying b out₀ out start from (length b) to (concat (keptFrom 0 marks (foldedOps (opsAt b P 0 ops)))) (concat (keptFrom i marks (drop i (foldedOps (opsAt b P 0 ops)))))
-    last = subst (λ (n : ℕ). Copying b out₀ out start from n to (concat (keptFrom 0 marks os)) (concat (keptFrom i marks (drop i os)))) place-end (s .copied)
+    last : Copying b out₀ out start from (length b) to (recordBytes (keptFrom 0 marks (foldedOps (opsAt b P 0 ops)))) (recordBytes (keptFrom i marks (drop i (foldedOps (opsAt b P 0 ops)))))
+    last = subst (λ (n : ℕ). Copying b out₀ out start from n to (recordBytes (keptFrom 0 marks os)) (recordBytes (keptFrom i marks (drop i os)))) place-end (s .copied)
 
-    pub run-fits : start + length (concat (keptFrom 0 marks (foldedOps (opsAt b P 0 ops)))) ≤ length out₀ → (from ≤ length b) × (to + (length b - from) ≤ length out)
+    pub run-fits : start + length (recordBytes (keptFrom 0 marks (foldedOps (opsAt b P 0 ops)))) ≤ length out₀ → (from ≤ length b) × (to + (length b - from) ≤ length out)
     run-fits r = (last .ordered, omega (arith, copying-room last r))
 
-    pub emitting-ends : {out′ : List ℕ} → out′ ≡ sets out to (take (length b - from) (drop from b)) → out′ ≡ sets out₀ start (concat (keptFrom 0 marks (foldedOps (opsAt b P 0 ops))))
-    emitting-ends q = copying-ends last (ap concat (kept-none i marks os (omega (arith, folded-long b P ops)))) q .0
+    pub emitting-ends : {out′ : List ℕ} → out′ ≡ sets out to (take (length b - from) (drop from b)) → out′ ≡ sets out₀ start (recordBytes (keptFrom 0 marks (foldedOps (opsAt b P 0 ops))))
+    emitting-ends q = copying-ends last (ap recordBytes (kept-none i marks os (omega (arith, folded-long b P ops)))) q .0

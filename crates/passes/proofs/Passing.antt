@@ -14,7 +14,7 @@ use Rattle.theory.specs.Sets.{Vars}
 use Rattle.ops.specs.Ops.{tcg}
 use Rattle.ops.specs.Kinds.{rowOf, document01}
 use Rattle.block.specs.Checks.{checkOf, checkBy}
-use Rattle.block.specs.Records.{cutOf, recordsOf, concat, declarations, opsFrom, classesOf}
+use Rattle.block.specs.Records.{cutOf, recordsOf, recordBytes, declarations, opsFrom, classesOf}
 use Rattle.block.specs.Rules.{start as unread, globalsIn, keptIn}
 use Rattle.block.specs.Scan.{Approved, Scanned, rejected, approved}
 use Rattle.block.proofs.Accepts.{check-accepts}
@@ -27,7 +27,7 @@ use Rattle.passes.specs.Knows.{foldedOps}
 use Rattle.passes.specs.Laid.{opsAt, keptFrom}
 use Rattle.passes.specs.Live.{Keeps}
 use Rattle.passes.specs.Passes.{passOps, resultOf, Passed, passRefused, written, passChecked, passOf, passBy}
-use Rattle.passes.specs.Ready.{classIn, ClassesOf, Ready}
+use Rattle.passes.specs.Ready.{classIn, ClassesOf, ReadyToPass}
 use Rattle.passes.proofs.Classes.{globals-first, classes-so}
 use Rattle.passes.proofs.Placing.{scan-laid, scan-ops, scan-first}
 use Rattle.passes.proofs.Result.{declarations-size, ops-size, concat-append, parts-size, kept-parts, result-of, pass-answers}
@@ -37,15 +37,15 @@ use Rattle.passes.specs.declared.Written.the-variants.{Refused, Length}
 use Rattle.ops.proofs.Document01.{lawful}
 
 -- an accepted block is its declarations and its ops
-accepted-bytes : (block : List ℕ) → checkOf block ≡ Accepted → concat (declarations (recordsOf rowOf block)) ++ concat (opsFrom (recordsOf rowOf block)) ≡ block
+accepted-bytes : (block : List ℕ) → checkOf block ≡ Accepted → recordBytes (declarations (recordsOf rowOf block)) ++ recordBytes (opsFrom (recordsOf rowOf block)) ≡ block
 unfolding checkBy cutOf
 accepted-bytes block h =
     let rs = recordsOf rowOf block in
-    sym (concat-append (declarations rs) (opsFrom rs)) ∙ ap concat (split-records rs)
+    sym (concat-append (declarations rs) (opsFrom rs)) ∙ ap recordBytes (split-records rs)
     ∙ cut-together rowOf (length block) block (omega arith) ((check-accepts rowOf unread 0 ((cutOf rowOf block) .records) ((cutOf rowOf block) .tail) h) .0)
 
 -- an accepted block
-module _ {block places classes : List ℕ} {start ops : ℕ} (r : Ready block places classes start ops) where
+module _ {block places classes : List ℕ} {start ops : ℕ} (r : ReadyToPass block places classes start ops) where
   abbrev ds : List (List ℕ)
   ds = declarations (recordsOf rowOf block)
 
@@ -56,19 +56,19 @@ module _ {block places classes : List ℕ} {start ops : ℕ} (r : Ready block pl
   its-parts = parts lawful block (r .accepted)
 
   -- its declarations are its first bytes
-  declared-bytes : take start block ≡ concat ds
-  declared-bytes = ap (take start) (sym (accepted-bytes block (r .accepted))) ∙ take-at (concat ds) (concat os) start (sym (r .start-is))
+  declared-bytes : take start block ≡ recordBytes ds
+  declared-bytes = ap (take start) (sym (accepted-bytes block (r .accepted))) ∙ take-at (recordBytes ds) (recordBytes os) start (sym (r .start-is))
 
   pub declared-fit : start ≤ length block
-  declared-fit = omega (arith, r .start-is, length-append (concat ds) (concat os), ap length (accepted-bytes block (r .accepted)))
+  declared-fit = omega (arith, r .start-is, length-append (recordBytes ds) (recordBytes os), ap length (accepted-bytes block (r .accepted)))
 
   pub few-here : ops ≤ 256
   few-here = omega (arith, r .count-is, few-ops document01 (declaredIn unread ds) os (its-parts .checked) (omega arith))
 
   result-small : length (resultOf document01 block) ≤ 2752
   result-small =
-      let e : resultOf document01 block ≡ concat (ds ++ passOps document01 (classesOf ds) os) = result-of block ds os its-parts in
-      let b = parts-size lawful (concat (ds ++ passOps document01 (classesOf ds) os)) ds (passOps document01 (classesOf ds) os) ((kept-parts lawful block ds os its-parts) .1) in
+      let e : resultOf document01 block ≡ recordBytes (ds ++ passOps document01 (classesOf ds) os) = result-of block ds os its-parts in
+      let b = parts-size lawful (recordBytes (ds ++ passOps document01 (classesOf ds) os)) ds (passOps document01 (classesOf ds) os) ((kept-parts lawful block ds os its-parts) .1) in
       omega (arith, ap length e, b)
 
   no-room : (out : List ℕ) → length out < length (resultOf document01 block) → passOf block out ≡ passRefused 12 0 out
@@ -80,7 +80,7 @@ module _ {block places classes : List ℕ} {start ops : ℕ} (r : Ready block pl
   -- what prune keeps of what fold leaves
   module _ {marks₀ marks : List ℕ} {size : ℕ} (k : Keeps (foldedOps (opsAt block places 0 ops)) (globalsIn classes) (keptIn classes) marks₀ marks size) where
     abbrev left : List ℕ
-    left = concat (keptFrom 0 marks (foldedOps (opsAt block places 0 ops)))
+    left = recordBytes (keptFrom 0 marks (foldedOps (opsAt block places 0 ops)))
 
     kept-ops : keptFrom 0 marks (foldedOps (opsAt block places 0 ops)) ≡ passOps document01 (classesOf ds) os
     unfolding passOps
@@ -88,12 +88,12 @@ module _ {block places classes : List ℕ} {start ops : ℕ} (r : Ready block pl
         k .kept-are ∙ ap₂ (λ (g m : Vars). prune (tcg document01) g m (foldedOps (opsAt block places 0 ops))) (r .classes-are .globals-so) (r .classes-are .kept-so)
         ∙ ap (λ (q : List (List ℕ)). prune (tcg document01) (globalsIn (classesOf ds)) (keptIn (classesOf ds)) (foldedOps q)) (r .ops-are)
 
-    result-is : resultOf document01 block ≡ concat ds ++ left
+    result-is : resultOf document01 block ≡ recordBytes ds ++ left
     result-is =
-        result-of block ds os its-parts ∙ concat-append ds (passOps document01 (classesOf ds) os) ∙ ap (λ (x : List (List ℕ)). concat ds ++ concat x) (sym kept-ops)
+        result-of block ds os its-parts ∙ concat-append ds (passOps document01 (classesOf ds) os) ∙ ap (λ (x : List (List ℕ)). recordBytes ds ++ recordBytes x) (sym kept-ops)
 
     result-size : start + size ≡ length (resultOf document01 block)
-    result-size = omega (arith, ap length result-is, length-append (concat ds) left, r .start-is, k .size-is)
+    result-size = omega (arith, ap length result-is, length-append (recordBytes ds) left, r .start-is, k .size-is)
 
     pub size-small : start + size ≤ 2752
     size-small = omega (arith, result-size, result-small)
@@ -105,16 +105,16 @@ module _ {block places classes : List ℕ} {start ops : ℕ} (r : Ready block pl
 
     -- the declarations are stored, then the kept ops
     module _ (out : List ℕ) {out₁ : List ℕ} (l : start + size ≤ length out) (e : out₁ ≡ sets out 0 (take start (drop 0 block))) where
-      pub ops-fit : start + length (concat (keptFrom 0 marks (foldedOps (opsAt block places 0 ops)))) ≤ length out₁
+      pub ops-fit : start + length (recordBytes (keptFrom 0 marks (foldedOps (opsAt block places 0 ops)))) ≤ length out₁
       ops-fit = omega (arith, ap length e, length-sets out 0 (take start (drop 0 block)), l, k .size-is)
 
       stored : {out₂ : List ℕ} → out₂ ≡ sets out₁ start left → out₂ ≡ resultOf document01 block ++ drop (length (resultOf document01 block)) out
       stored q =
-          q ∙ ap₂ (λ (x : List ℕ) (m : ℕ). sets x m left) (e ∙ ap (sets out 0) declared-bytes) (r .start-is ∙ sym (zero-add (length (concat ds))))
-          ∙ sym (sets-append out 0 (concat ds) left) ∙ ap (sets out 0) (sym result-is) ∙ sets-eq (resultOf document01 block) out 0 (omega (arith, l, result-size))
+          q ∙ ap₂ (λ (x : List ℕ) (m : ℕ). sets x m left) (e ∙ ap (sets out 0) declared-bytes) (r .start-is ∙ sym (zero-add (length (recordBytes ds))))
+          ∙ sym (sets-append out 0 (recordBytes ds) left) ∙ ap (sets out 0) (sym result-is) ∙ sets-eq (resultOf document01 block) out 0 (omega (arith, l, result-size))
           ∙ ap (λ (m : ℕ). resultOf document01 block ++ drop m out) (zero-add (length (resultOf document01 block)))
 
-      pub pass-stores : {out₂ : List ℕ} → out₂ ≡ sets out₁ start (concat (keptFrom 0 marks (foldedOps (opsAt block places 0 ops))))
+      pub pass-stores : {out₂ : List ℕ} → out₂ ≡ sets out₁ start (recordBytes (keptFrom 0 marks (foldedOps (opsAt block places 0 ops))))
           → (Length (start + size) ≡ (passOf block out) .answer) × (out₂ ≡ (passOf block out) .out)
       pass-stores q =
           let a = pass-answers document01 block out (r .accepted) (omega (arith, l, result-size)) in
@@ -128,14 +128,14 @@ module _ {block places₀ base places labels : List ℕ} {start n globals ops : 
   its : Parts document01 block declared (opsFrom (recordsOf rowOf block))
   its = parts lawful block (a .accepted)
 
-  start-so : start ≡ length (concat declared)
+  start-so : start ≡ length (recordBytes declared)
   start-so = a .start-is ∙ sym (declarations-size lawful declared (its .wholes .0) (its .all-declared) ∙ ap (λ (m : ℕ). 3 * m) (a .variables))
 
   abbrev ops-in : List (List ℕ)
   ops-in = opsFrom (recordsOf rowOf block)
 
-  all-bytes : start + length (concat ops-in) ≡ length block
-  all-bytes = omega (arith, start-so, length-append (concat declared) (concat ops-in), ap length (accepted-bytes block (a .accepted)))
+  all-bytes : start + length (recordBytes ops-in) ≡ length block
+  all-bytes = omega (arith, start-so, length-append (recordBytes declared) (recordBytes ops-in), ap length (accepted-bytes block (a .accepted)))
 
   ops-few : length ops-in ≤ 256
   ops-few = omega (arith, few-ops document01 (declaredIn unread declared) ops-in (its .checked) (omega arith))
@@ -149,7 +149,7 @@ module _ {block places₀ base places labels : List ℕ} {start n globals ops : 
       classes-so of globals (a .coded) (λ v. globals-first rowOf unread declared (its .all-declared) (its .met) v ∙ ap (ltb v) (sym (a .globals-are)))
       (λ v. c v ∙ ap (λ (m : ℕ). cond (ltb v m) (classIn base globals v) 2) (sym (classes-length declared ∙ a .variables)))
 
-  ready : length places₀ ≡ 256 → (of : List ℕ) → ((v : ℕ) → getD of v 2 ≡ cond (ltb v n) (classIn base globals v) 2) → Ready block places of start ops
+  ready : length places₀ ≡ 256 → (of : List ℕ) → ((v : ℕ) → getD of v 2 ≡ cond (ltb v n) (classIn base globals v) 2) → ReadyToPass block places of start ops
   ready l of c =
       let room : length ops-in ≤ length places₀ = omega (arith, ops-few) in
       record {
@@ -168,7 +168,7 @@ module _ {block places₀ base places labels : List ℕ} {start n globals ops : 
 -- of an accepted block, and of a refused one
 module _ {block places₀ base places labels : List ℕ} {start n globals ops : ℕ} where
   pub ready-by : {rule place : ℕ} → Scanned rowOf block places₀ base places labels rule place start n globals ops → rule ≡ 0 → length places₀ ≡ 256 → (of : List ℕ)
-      → ((v : ℕ) → getD of v 2 ≡ cond (ltb v n) (classIn base globals v) 2) → Ready block places of start ops
+      → ((v : ℕ) → getD of v 2 ≡ cond (ltb v n) (classIn base globals v) 2) → ReadyToPass block places of start ops
   ready-by (rejected z q) e l of c = absurd (z e)
   ready-by (approved a) e l of c = ready a l of c
 

@@ -14,7 +14,7 @@ use borrow.Author.Tests.{ltb-true, ltb-false, lt-ltb, le-ltb}
 use Rattle.theory.proofs.Sets.{tell}
 use Rattle.ops.specs.Rows.{bodyLength}
 use Rattle.ops.specs.Kinds.{rowOf}
-use Rattle.block.specs.Records.{concat}
+use Rattle.block.specs.Records.{recordBytes}
 use Rattle.block.specs.Scan.{recordAt, recordsAt, placesFrom, Stands}
 use Rattle.block.proofs.Places.{Standing, standing, spanOf, records-from, places-at}
 use Rattle.block.proofs.Steps.{record-length}
@@ -69,13 +69,13 @@ span-next j [] h = absurd (omega arith)
 span-next zero (o ∷ os) h = omega arith
 span-next (suc j) (o ∷ os) h = omega (arith, span-next j os (omega arith))
 
-span-all : (os : List (List ℕ)) → spanOf (length os) os ≡ length (concat os)
+span-all : (os : List (List ℕ)) → spanOf (length os) os ≡ length (recordBytes os)
 span-all [] = refl
-span-all (o ∷ os) = omega (arith, span-all os, length-append o (concat os))
+span-all (o ∷ os) = omega (arith, span-all os, length-append o (recordBytes os))
 
 -- the places that the scan keeps
 module _ (b P₀ P : List ℕ) (start : ℕ) (os : List (List ℕ)) (r : recordsAt rowOf b start ≡ os) (p : P ≡ placesFrom start 0 P₀ os) (few : length os ≤ length P₀)
-    (all : start + length (concat os) ≡ length b) (small : length b < 65536) where
+    (all : start + length (recordBytes os) ≡ length b) (small : length b < 65536) where
   module _ (j : ℕ) (h : j < length os) where
     here : recordsAt rowOf b (start + spanOf j os) ≡ getD os j [] ∷ drop (suc j) os
     here = records-from rowOf b start j os r (omega arith) ∙ drop-cons os j [] h

@@ -16,7 +16,7 @@ use Rattle.ops.specs.Rows.{bodyLength, roleOf, computing}
 use Rattle.ops.specs.Kinds.{rowOf, document01}
 use Rattle.ops.specs.Ops.{viewOf, tcg}
 use Rattle.ops.proofs.Table.{body-short}
-use Rattle.block.specs.Records.{concat}
+use Rattle.block.specs.Records.{recordBytes}
 use Rattle.block.specs.Scan.{recordAt, Stands}
 use Rattle.block.proofs.Views.{pure-view}
 use Rattle.passes.specs.Knows.{foldedOps, Folded}
@@ -59,7 +59,7 @@ module _ {b : List ℕ} {p m x : ℕ} {o : List ℕ} (s : Stands rowOf b p (getD
 pub record Pruning (os : List (List ℕ)) (glob kept : Vars) (marks₀ marks : List ℕ) (live : Vars) (i size : ℕ) : Type 0 where
   pub kept-so : keptFrom i marks (drop i os) ≡ prune (tcg document01) glob kept (drop i os)
   pub live-so : live ≡ liveOps (tcg document01) glob kept (drop i os)
-  pub size-so : size ≡ length (concat (keptFrom i marks (drop i os)))
+  pub size-so : size ≡ length (recordBytes (keptFrom i marks (drop i os)))
   pub earlier : (j : ℕ) → j < i → getD marks j 0 ≡ getD marks₀ j 0
   pub marks-so : (j : ℕ) → getD marks j 0 < 2 → getD marks j 0 ≡ getD marks₀ j 0
   pub small : size + 10 * i ≤ 10 * length os
@@ -73,7 +73,7 @@ pruning-start b P marks glob kept ops =
     record {
       kept-so = k ∙ rw d;
       live-so = rw d;
-      size-so = sym (ap (λ (xs : List (List ℕ)). length (concat xs)) k);
+      size-so = sym (ap (λ (xs : List (List ℕ)). length (recordBytes xs)) k);
       earlier = λ j h. refl;
       marks-so = λ j h. refl;
       small = omega arith;
@@ -125,7 +125,7 @@ module _ {b P constants marks₀ marks : List ℕ} {glob kept live : Vars} {ops 
       record {
         kept-so = rw cut (k ∙ s .kept-so ∙ rw w);
         live-so = rw cut (s .live-so ∙ rw w);
-        size-so = rw cut (s .size-so ∙ ap (λ (xs : List (List ℕ)). length (concat xs)) (sym k));
+        size-so = rw cut (s .size-so ∙ ap (λ (xs : List (List ℕ)). length (recordBytes xs)) (sym k));
         earlier = λ j l. getD-set-other marks i j 2 0 (λ z. omega arith) ∙ s .earlier j (omega arith);
         marks-so = λ j l. later j (tell (eqb i j)) l;
         small = omega (arith, s .small);
@@ -148,11 +148,11 @@ module _ {b P constants marks₀ marks : List ℕ} {glob kept live : Vars} {ops 
   pruning-kept {live′} {n} d m e =
       let w = dead-so ∙ sym d in
       let k = kept-more i marks o (drop (suc i) os) mark-few in
-      let z : size + n ≡ length (o ++ concat (keptFrom (suc i) marks (drop (suc i) os))) = omega (arith, e, s .size-so, kept-long, length-append o (concat (keptFrom (suc i) marks (drop (suc i) os)))) in
+      let z : size + n ≡ length (o ++ recordBytes (keptFrom (suc i) marks (drop (suc i) os))) = omega (arith, e, s .size-so, kept-long, length-append o (recordBytes (keptFrom (suc i) marks (drop (suc i) os)))) in
       record {
         kept-so = rw cut (k ∙ ap (λ (xs : List (List ℕ)). o ∷ xs) (s .kept-so) ∙ rw w);
         live-so = rw cut (m ∙ sym (left-live (laid .stands i h) leaves mark-few glob kept live) ∙ ap (liveBefore glob kept o) (s .live-so) ∙ rw w);
-        size-so = rw cut (z ∙ ap (λ (xs : List (List ℕ)). length (concat xs)) (sym k));
+        size-so = rw cut (z ∙ ap (λ (xs : List (List ℕ)). length (recordBytes xs)) (sym k));
         earlier = λ j l. s .earlier j (omega arith);
         marks-so = s .marks-so;
         small = omega (arith, s .small, kept-short (eqb (getD marks i 0) 1) e);

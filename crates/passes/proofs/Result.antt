@@ -20,7 +20,7 @@ use Rattle.ops.specs.Rows.{known, bodyLength}
 use Rattle.ops.specs.Ops.{kindOf, tcg, folding, Dialect}
 use Rattle.ops.proofs.Folding.{constants}
 use Rattle.ops.proofs.Lawful.{Lawful}
-use Rattle.block.specs.Records.{concat, isDeclaration, classesOf}
+use Rattle.block.specs.Records.{recordBytes, isDeclaration, classesOf}
 use Rattle.block.proofs.Lenient.{lenient, cutting, admits}
 use Rattle.block.proofs.Parts.{Parts, joined}
 use Rattle.passes.specs.Passes.{passOps, resultOf, passRefused, written, passChecked, passBy}
@@ -57,28 +57,28 @@ declaration-size {D = D} law r w d =
     let l : length r ≡ suc (bodyLength (D .rows) (kindOf r)) = eqb-true (length r) (suc (bodyLength (D .rows) (kindOf r))) (and-r (known (D .rows) (kindOf r)) _ w) in
     l ∙ ap (λ (n : ℕ). suc (bodyLength (D .rows) n)) k ∙ ap suc (law .table .declared-body)
 
-pub declarations-size : {D : Dialect} (law : Lawful D) (ds : List (List ℕ)) → AllWhole (D .rows) ds → AllDeclared ds → length (concat ds) ≡ 3 * length ds
+pub declarations-size : {D : Dialect} (law : Lawful D) (ds : List (List ℕ)) → AllWhole (D .rows) ds → AllDeclared ds → length (recordBytes ds) ≡ 3 * length ds
 declarations-size law [] w d = refl
 declarations-size law (r ∷ ds) w d =
-    omega (arith, length-append r (concat ds), declaration-size law r (w .0) (d .0), declarations-size law ds (w .1) (d .1))
+    omega (arith, length-append r (recordBytes ds), declaration-size law r (w .0) (d .0), declarations-size law ds (w .1) (d .1))
 
-pub ops-size : {D : Dialect} (law : Lawful D) (os : List (List ℕ)) → AllWhole (D .rows) os → length (concat os) ≤ 10 * length os
+pub ops-size : {D : Dialect} (law : Lawful D) (os : List (List ℕ)) → AllWhole (D .rows) os → length (recordBytes os) ≤ 10 * length os
 ops-size law [] w = omega arith
 ops-size {D = D} law (r ∷ os) w =
     let l : length r ≡ suc (bodyLength (D .rows) (kindOf r)) = eqb-true (length r) (suc (bodyLength (D .rows) (kindOf r))) (and-r (known (D .rows) (kindOf r)) _ (w .0)) in
-    omega (arith, length-append r (concat os), l, law .table .body-short (kindOf r), ops-size law os (w .1))
+    omega (arith, length-append r (recordBytes os), l, law .table .body-short (kindOf r), ops-size law os (w .1))
 
-pub concat-append : (xs ys : List (List ℕ)) → concat (xs ++ ys) ≡ concat xs ++ concat ys
+pub concat-append : (xs ys : List (List ℕ)) → recordBytes (xs ++ ys) ≡ recordBytes xs ++ recordBytes ys
 concat-append [] ys = refl
-concat-append (x ∷ xs) ys = ap (λ (q : List ℕ). x ++ q) (concat-append xs ys) ∙ sym (append-assoc x (concat xs) (concat ys))
+concat-append (x ∷ xs) ys = ap (λ (q : List ℕ). x ++ q) (concat-append xs ys) ∙ sym (append-assoc x (recordBytes xs) (recordBytes ys))
 
 -- at most 2,752 bytes
-pub parts-size : {D : Dialect} (law : Lawful D) (block : List ℕ) (ds os : List (List ℕ)) → Parts D block ds os → length (concat (ds ++ os)) ≤ 2752
+pub parts-size : {D : Dialect} (law : Lawful D) (block : List ℕ) (ds os : List (List ℕ)) → Parts D block ds os → length (recordBytes (ds ++ os)) ≤ 2752
 parts-size {D = D} law block ds os p =
     omega (
       arith,
       ap length (concat-append ds os),
-      length-append (concat ds) (concat os),
+      length-append (recordBytes ds) (recordBytes os),
       declarations-size law ds (p .wholes .0) (p .all-declared),
       ops-size law os (p .wholes .1),
       few-declared (D .rows) start ds (p .all-declared) (p .met) (omega arith),
@@ -87,7 +87,7 @@ parts-size {D = D} law block ds os p =
 
 -- what the pass makes of them
 pub kept-parts : {D : Dialect} (law : Lawful D) (block : List ℕ) (ds os : List (List ℕ)) → Parts D block ds os
-    → (checkBy (D .rows) (concat (ds ++ passOps D (classesOf ds) os)) ≡ Accepted) × Parts D (concat (ds ++ passOps D (classesOf ds) os)) ds (passOps D (classesOf ds) os)
+    → (checkBy (D .rows) (recordBytes (ds ++ passOps D (classesOf ds) os)) ≡ Accepted) × Parts D (recordBytes (ds ++ passOps D (classesOf ds) os)) ds (passOps D (classesOf ds) os)
 unfolding passOps
 kept-parts {D = D} law block ds os p =
     joined law ds (passOps D (classesOf ds) os) (p .wholes .0) (p .all-declared) (p .met)
@@ -95,7 +95,7 @@ kept-parts {D = D} law block ds os p =
     ((ops-preserved law (classesOf ds) os (p .in-scope)) .accepted)
 
 -- a block's result, from its parts
-pub result-of : {D : Dialect} (block : List ℕ) (ds os : List (List ℕ)) → Parts D block ds os → resultOf D block ≡ concat (ds ++ passOps D (classesOf ds) os)
+pub result-of : {D : Dialect} (block : List ℕ) (ds os : List (List ℕ)) → Parts D block ds os → resultOf D block ≡ recordBytes (ds ++ passOps D (classesOf ds) os)
 unfolding resultOf
 result-of block ds os p = rw (p .declared, p .ops)
 

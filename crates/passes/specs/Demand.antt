@@ -8,7 +8,7 @@ use Rattle.theory.specs.Prune.{AllUsed, liveAll}
 use Rattle.theory.specs.Fold.{nothing, baseRule, Still}
 use Rattle.ops.specs.Ops.{tcg, folding, Dialect}
 use Rattle.ops.specs.Kinds.{document01}
-use Rattle.block.specs.declared.Verdict.the-variants.{Accepted as NoRefusal}
+use Rattle.block.specs.declared.Verdict.the-variants.{Accepted}
 use Rattle.block.specs.Records.{recordsOf, declarations, opsFrom, classesOf}
 use Rattle.block.specs.Rules.{globalsIn, keptIn}
 use Rattle.block.specs.Checks.{checkBy}
@@ -19,8 +19,8 @@ use Rattle.passes.specs.declared.Written.the-variants.{Length}
 use Rattle.passes.specs.Passes.{resultOf, passBy}
 
 -- "A block is accepted if the check gives it no refusal."
-abbrev pub Accepted : Dialect → List ℕ → Type 0
-Accepted D block = checkBy (D .rows) block ≡ NoRefusal
+abbrev pub IsAccepted : Dialect → List ℕ → Type 0
+IsAccepted D block = checkBy (D .rows) block ≡ Accepted
 
 -- "Globals and memory fit it if nothing in row 11 applies to them."
 abbrev pub Fit : Dialect → List ℕ → List ℕ → List ℕ → Type 0
@@ -58,7 +58,7 @@ pub record Demand3 (D : Dialect) (block out : List ℕ) : Type 0 where
   pub sized : length result ≡ size
   pub small : size ≤ 2752
   -- "its result is accepted"
-  pub accepted : Accepted D result
+  pub accepted : IsAccepted D result
   -- "runs to the same exit or fault with the same globals and memory in no more ops (unless the source run meets an op without a stated result)"
   pub alike : (globals memory : List ℕ) → Fit D block globals memory → unstatedEnd ((runBy D block globals memory) .answer) ≡ false
       → Alike (runBy D block globals memory) (runBy D result globals memory)
@@ -70,7 +70,7 @@ pub record Demand3 (D : Dialect) (block out : List ℕ) : Type 0 where
 
 -- for every block that the check accepts and every output buffer with room
 abbrev pub DemandOf : Dialect → Type 0
-DemandOf D = (block out : List ℕ) → Accepted D block → Room (resultOf D block) out → Demand3 D block out
+DemandOf D = (block out : List ℕ) → IsAccepted D block → Room (resultOf D block) out → Demand3 D block out
 
 -- of document 01
 abbrev pub Demand : Type 0

@@ -10,7 +10,7 @@ use Rattle.theory.specs.Prune.{before, prune}
 use Rattle.ops.specs.Rows.{Role, roleIn, roleNo, outsIn, isPure, isClosing, isSetting, isJumping}
 use Rattle.ops.specs.Ops.{bytesAt, viewOf, tcg}
 use Rattle.ops.specs.Kinds.{rowOf, document01}
-use Rattle.block.specs.Records.{concat}
+use Rattle.block.specs.Records.{recordBytes}
 use Rattle.block.specs.Rules.{globalsIn, keptIn}
 use Rattle.block.specs.Scan.{recordAt}
 use Rattle.passes.specs.Laid.{opsAt, Leaves, keptFrom}
@@ -64,7 +64,7 @@ pub record Timed (events vs : List ℕ) (time : ℕ) (events′ : List ℕ) : Ty
 -- prune keeps the ops whose mark is below 2, as they were marked, and they have so many bytes
 pub record Keeps (ops : List (List ℕ)) (globals kept : Vars) (marks₀ marks : List ℕ) (size : ℕ) : Type 0 where
   pub kept-are : keptFrom 0 marks ops ≡ prune (tcg document01) globals kept ops
-  pub size-is : size ≡ length (concat (keptFrom 0 marks ops))
+  pub size-is : size ≡ length (recordBytes (keptFrom 0 marks ops))
   pub marks-are : (i : ℕ) → getD marks i 0 < 2 → getD marks i 0 ≡ getD marks₀ i 0
 
 -- ops that are kept, with what fold leaves of them

@@ -10,7 +10,7 @@ use Rattle.ops.specs.Ops.{tcg, folding, Dialect}
 use Rattle.ops.specs.Kinds.{document01}
 use Rattle.block.specs.declared.Verdict.{Verdict}
 use Rattle.block.specs.declared.Verdict.the-variants.{Accepted, Refused as CheckRefused}
-use Rattle.block.specs.Records.{recordsOf, concat, declarations, opsFrom, classesOf}
+use Rattle.block.specs.Records.{recordsOf, recordBytes, declarations, opsFrom, classesOf}
 use Rattle.block.specs.Rules.{globalsIn, keptIn}
 use Rattle.block.specs.Checks.{checkBy}
 use Rattle.passes.specs.declared.Written.{Written}
@@ -25,7 +25,7 @@ abbrev pub resultRecords : Dialect → List (List ℕ) → List (List ℕ)
 resultRecords D records = declarations records ++ passOps D (classesOf (declarations records)) (opsFrom records)
 
 unfoldable pub resultOf : Dialect → List ℕ → List ℕ
-resultOf D block = concat (resultRecords D (recordsOf (D .rows) block))
+resultOf D block = recordBytes (resultRecords D (recordsOf (D .rows) block))
 
 -- what the pass answers, and what it leaves in the lent buffer
 pub record Passed : Type 0 where

@@ -15,7 +15,7 @@ use Rattle.runs.specs.Runs.{ranAs, runOf}
 use Rattle.passes.specs.Demand.{Fit, Room, unstatedEnd, SameEnd}
 use Rattle.passes.specs.Passes.{resultOf, passOf}
 use Rattle.block.specs.declared.Verdict.{Verdict}
-use Rattle.block.specs.declared.Verdict.the-variants.{Accepted as NoRefusal}
+use Rattle.block.specs.declared.Verdict.the-variants.{Accepted}
 use Rattle.runs.specs.declared.Ending.{Ending}
 use Rattle.passes.specs.declared.Written.{Written}
 use Rattle.passes.specs.declared.Written.the-variants.{Length}
@@ -48,7 +48,7 @@ pub record Promise (block out : List ℕ) (answer : Written) (out′ : List ℕ)
   pub sized : length result ≡ size
   pub small : size ≤ 2752
   -- "its result is accepted"
-  pub accepted : (verdict : Verdict) → Checked result verdict → verdict ≡ NoRefusal
+  pub accepted : (verdict : Verdict) → Checked result verdict → verdict ≡ Accepted
   -- "runs to the same exit or fault with the same globals and memory in no more ops (unless the source run meets an op without a stated result)"
   pub alike : (globals memory : List ℕ) (ending ending′ : Ending) (globals₁ memory₁ globals₂ memory₂ : List ℕ) → Fit document01 block globals memory
       → Run block globals memory ending globals₁ memory₁ → Run result globals memory ending′ globals₂ memory₂
@@ -62,5 +62,5 @@ pub record Promise (block out : List ℕ) (answer : Written) (out′ : List ℕ)
 
 -- for every block that a call of the check accepted and every buffer with room, of every call of the pass
 abbrev pub Promised : Type 0
-Promised = (block out : List ℕ) (answer : Written) (out′ : List ℕ) → Checked block NoRefusal → Room (resultOf document01 block) out
+Promised = (block out : List ℕ) (answer : Written) (out′ : List ℕ) → Checked block Accepted → Room (resultOf document01 block) out
     → Optimised block out answer out′ → Promise block out answer out′

@@ -6,7 +6,7 @@ use Prim.Native.Nat.{ℕ}
 use lib.Dec.{ltb}
 use lib.ListN.{length}
 use Rattle.block.specs.Checks.{checkOf}
-use Rattle.block.specs.Records.{recordsOf, concat, declarations, opsFrom, classesOf}
+use Rattle.block.specs.Records.{recordsOf, recordBytes, declarations, opsFrom, classesOf}
 use Rattle.block.specs.Rules.{globalsIn, keptIn}
 use Rattle.block.specs.Scan.{codesIn}
 use Rattle.block.specs.declared.Verdict.the-variants.{Accepted}
@@ -28,9 +28,9 @@ pub record ClassesOf (declared classes : List ℕ) : Type 0 where
   pub kept-so : keptIn classes ≡ keptIn declared
 
 -- where its ops start and each of them stands, how many there are, and the classes of its variables
-pub record Ready (block places classes : List ℕ) (start ops : ℕ) : Type 0 where
+pub record ReadyToPass (block places classes : List ℕ) (start ops : ℕ) : Type 0 where
   pub accepted : checkOf block ≡ Accepted
-  pub start-is : start ≡ length (concat (declarations (recordsOf rowOf block)))
+  pub start-is : start ≡ length (recordBytes (declarations (recordsOf rowOf block)))
   pub first-is : placeOf block places ops 0 ≡ start
   pub laid : Laid block places ops
   pub ops-are : opsAt block places 0 ops ≡ opsFrom (recordsOf rowOf block)

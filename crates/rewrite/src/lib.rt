@@ -4,7 +4,7 @@ ghost use Prim.Native.Nat.{_≤_};
 ghost use lib.ListN.{length};
 ghost use Rattle.ops.specs.Shapes.{shapeTable};
 ghost use Rattle.passes.specs.Passes.{passOf};
-ghost use Rattle.passes.specs.Ready.{Ready};
+ghost use Rattle.passes.specs.Ready.{ReadyToPass};
 use emit::copy;
 use passes::Written;
 
@@ -20,7 +20,7 @@ pub fn write_result(
     constants: &mut [u64],
     out: &mut [u8],
 ) -> Written
-    requires { ⌜ Ready (now block) (now places) (now classes) start ops × (ops ≤ length (now marks)) × (ops ≤ length (now constants)) × (now shapes ≡ shapeTable) ⌝ }
+    requires { ⌜ ReadyToPass (now block) (now places) (now classes) start ops × (ops ≤ length (now marks)) × (ops ≤ length (now constants)) × (now shapes ≡ shapeTable) ⌝ }
     ensures { λ r. ⌜ (r ≡ (passOf (now (block .entry)) (now (out .entry))) .answer) × (now (out .exit) ≡ (passOf (now (block .entry)) (now (out .entry))) .out) ⌝ }
 {
     fold::fold(shapes, block, ops, places, marks, constants);

@@ -5,7 +5,7 @@ ghost use lib.ListN.{length};
 ghost use Rattle.ops.specs.Kinds.{kindTable, rowOf, document01};
 ghost use Rattle.block.specs.Records.{recordsOf, opsFrom};
 ghost use Rattle.runs.specs.Runs.{ranAs, runOf, runOps};
-ghost use Rattle.runs.specs.Steps.{Ready};
+ghost use Rattle.runs.specs.Steps.{ReadyToRun};
 use execute::execute;
 use kinds::table;
 use lending::copy_in;
@@ -25,7 +25,7 @@ fn run_ops(
     globals: &mut [u64],
     memory: &mut [u8],
 ) -> Ending
-    requires { ⌜ Ready (now block) (now places) (now labels) start ops × (length (now globals) ≤ 256) × (now kinds ≡ kindTable) ⌝ }
+    requires { ⌜ ReadyToRun (now block) (now places) (now labels) start ops × (length (now globals) ≤ 256) × (now kinds ≡ kindTable) ⌝ }
     ensures { λ r. ⌜ ranAs r (now (globals .exit)) (now (memory .exit)) ≡ runOps document01 (opsFrom (recordsOf rowOf (now (block .entry)))) (now (globals .entry)) (now (memory .entry)) ⌝ }
 {
     let mut values = [0u64; 256];

@@ -20,7 +20,7 @@ use Rattle.block.proofs.Scanned.{refuse-by}
 use Rattle.runs.proofs.Lending.{codes-fit}
 use Rattle.runs.specs.Runs.{fits, valuesFrom, ranAs, answerOf, ranOf, opsRun, runOps, runRefused, runChecked, runOf, runBy}
 use Rattle.runs.specs.Evaluates.{envOf}
-use Rattle.runs.specs.Steps.{stateOf, Ready, Executed, codesFit, lentOk}
+use Rattle.runs.specs.Steps.{stateOf, ReadyToRun, Executed, codesFit, lentOk}
 use Rattle.runs.specs.declared.Ending.{Ending}
 use Rattle.runs.specs.declared.Ending.the-variants.{Refused}
 
@@ -66,7 +66,7 @@ module _ {b places₀ base places labels : List ℕ} {rule place start n globals
     pub few-lent : (globals ≤ 256) × (length base ≡ 256)
     few-lent = let a = approved-by in (omega (arith, a .globals-are, global-few (classesOf declared), classes-length declared, a .variables, a .few), a .long-base)
 
-    pub ready-by : length places₀ ≡ 256 → Ready b places labels start ops
+    pub ready-by : length places₀ ≡ 256 → ReadyToRun b places labels start ops
     ready-by l = record { places₀ = places₀; base = base; n = n; globals = globals; approved = approved-by; long-places = l }
 
     module _ (lent memory : List ℕ) {t : Bool} (e : t ≡ lentOk base globals lent memory) where

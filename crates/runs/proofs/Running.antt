@@ -24,7 +24,7 @@ use Rattle.block.proofs.Parts.{parts}
 use Rattle.block.proofs.Places.{Standing, standing, spanOf, records-from, places-at}
 use Rattle.block.proofs.Steps.{record-length}
 use Rattle.runs.specs.Runs.{answerOf, opsRun}
-use Rattle.runs.specs.Steps.{stateOf, endOf, effectOf, afterState, Performs, nextAt, Ready, Executed}
+use Rattle.runs.specs.Steps.{stateOf, endOf, effectOf, afterState, Performs, nextAt, ReadyToRun, Executed}
 use Rattle.runs.proofs.Landing.{Lands, jump-lands}
 use Rattle.block.proofs.Checker.{checker, declaredIn, few-ops}
 use Rattle.block.specs.Rules.{start as seenFirst}
@@ -56,7 +56,7 @@ span-small b p (suc j) (o ∷ os) e l =
     let n : length o ≡ suc (bodyLength rowOf (getD b p 0)) = sym (ap length (s .record-here)) ∙ record-length rowOf b p (s .inside) (s .whole-here) in
     omega (arith, n, body-short (getD b p 0), span-small b (p + suc (bodyLength rowOf (getD b p 0))) j os (s .others) (omega arith))
 
-module _ {b places labels : List ℕ} {start ops : ℕ} (r : Ready b places labels start ops) where
+module _ {b places labels : List ℕ} {start ops : ℕ} (r : ReadyToRun b places labels start ops) where
   checked : checks (tcg document01) (checker document01) (declaredIn seenFirst (declarations (recordsOf rowOf b))) (opsOf b) ≡ true
   checked = (parts lawful b (r .approved .accepted)) .checked
 
@@ -86,7 +86,7 @@ pub record Running (b values₀ memory₀ values memory : List ℕ) (op place co
   pub here : recordsAt rowOf b place ≡ drop op (opsOf b)
   pub goes-on : opsRun document01 (opsOf b) (stateOf values₀ memory₀) ≡ sooner count (run (tcg document01) (opsOf b) fuel (drop op (opsOf b)) (stateOf values memory))
 
-pub running-start : {b places labels : List ℕ} {start ops : ℕ} → Ready b places labels start ops → (values memory : List ℕ) → Running b values memory values memory 0 start 0
+pub running-start : {b places labels : List ℕ} {start ops : ℕ} → ReadyToRun b places labels start ops → (values memory : List ℕ) → Running b values memory values memory 0 start 0
 running-start {b} r values memory =
     record {
       fuel = suc (length (opsOf b));
@@ -185,7 +185,7 @@ module _ {b values₀ memory₀ values memory : List ℕ} {op place count : ℕ}
         }
 
     -- a jump
-    module _ {places labels : List ℕ} {start ops : ℕ} (r : Ready b places labels start ops) {l : ℕ} (p : Performs (viewOf document01 (recordAt rowOf b place)) (nextAt b place) values memory values′ memory′ (JumpsTo l)) where
+    module _ {places labels : List ℕ} {start ops : ℕ} (r : ReadyToRun b places labels start ops) {l : ℕ} (p : Performs (viewOf document01 (recordAt rowOf b place)) (nextAt b place) values memory values′ memory′ (JumpsTo l)) where
       pub landing : Lands document01 (opsOf b) l (getD labels l 0) op
       landing =
           subst (λ (x : List ℕ). Lands document01 (opsOf b) l (getD x l 0) op) (sym (r .approved .labels-are))
@@ -209,13 +209,13 @@ module _ {b values₀ memory₀ values memory : List ℕ} {op place count : ℕ}
           }
 
 -- the same, as the loop finds it
-pub ends-past : {b values₀ memory₀ values memory places labels : List ℕ} {op place count start ops : ℕ} → Ready b places labels start ops
+pub ends-past : {b values₀ memory₀ values memory places labels : List ℕ} {op place count start ops : ℕ} → ReadyToRun b places labels start ops
     → Running b values₀ memory₀ values memory op place count → ops ≤ op → Executed b values₀ memory₀ values memory (NoResult ops count)
 ends-past r u h = fell-past u (count-of r) h
 
 -- a turn of the loop: the run stands at one of the ops
 pub record Turn (b values₀ memory₀ values memory places labels : List ℕ) (op place count start ops : ℕ) : Type 0 where
-  pub ready : Ready b places labels start ops
+  pub ready : ReadyToRun b places labels start ops
   pub running : Running b values₀ memory₀ values memory op place count
   pub more-ops : op < ops
 

@@ -70,7 +70,7 @@ pub record PerformsAlone (w : View ℕ (List ℕ) ℕ Fault) (next : ℕ) (value
   pub under : (m : List ℕ) → Performs w next values m values′ m outcome
 
 -- the scan has accepted the block, and kept where its ops and labels are
-pub record Ready (block places labels : List ℕ) (start ops : ℕ) : Type 0 where
+pub record ReadyToRun (block places labels : List ℕ) (start ops : ℕ) : Type 0 where
   pub places₀ : List ℕ
   pub base : List ℕ
   pub n : ℕ
