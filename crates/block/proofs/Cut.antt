@@ -1,8 +1,9 @@
 -- Records cut from bytes are whole, and whole records put together are cut into themselves. Assumes nothing.
-use mathlib.Core.Path.{_≡_, refl, ap, _∙_}
+use mathlib.Core.Path.{_≡_, refl, sym, ap, _∙_}
 use mathlib.Core.Bool.{Bool, true, false, cond, not, _&&_}
-use mathlib.Core.List.{List, [], _∷_, _++_}
-use Prim.Native.Nat.{ℕ, zero, suc, _≤_}
+use mathlib.Core.List.{List, [], _∷_, _++_, append-nil}
+use Prim.Native.Nat.{ℕ, zero, suc, _+_, _≤_}
+use native.Mathlib.Nat.{zero-add}
 use native.Mathlib.Omega.{arith}
 use lib.Dec.{eqb, ltb, eqb·zero-suc}
 use lib.ListN.{length, take, drop, length-append}
@@ -75,6 +76,14 @@ cut-records T ((k ∷ body) ∷ rs) (suc n) h l =
 pub cut-concat : (T : Table) (rs : List (List ℕ)) → AllWhole T rs → cutOf T (recordBytes rs) ≡ cut-clean rs
 unfolding cutOf
 cut-concat T rs h = cut-records T rs (length (recordBytes rs)) h (omega arith)
+
+-- the bytes of more records, or of one more
+pub bytes-both : (rs os : List (List ℕ)) → length (recordBytes (rs ++ os)) ≡ length (recordBytes rs) + length (recordBytes os)
+bytes-both [] os = sym (zero-add (length (recordBytes os)))
+bytes-both (x ∷ rs) os = omega (arith, length-append x (recordBytes (rs ++ os)), length-append x (recordBytes rs), bytes-both rs os)
+
+pub bytes-more : (rs : List (List ℕ)) (r : List ℕ) → length (recordBytes (rs ++ (r ∷ []))) ≡ length (recordBytes rs) + length r
+bytes-more rs r = bytes-both rs (r ∷ []) ∙ ap (λ (x : List ℕ). length (recordBytes rs) + length x) (append-nil r)
 
 -- the declarations and the records from the first op on
 pub split-records : (rs : List (List ℕ)) → declarations rs ++ opsFrom rs ≡ rs

@@ -18,11 +18,11 @@ use Rattle.ops.specs.Ops.{kindOf}
 use Rattle.block.specs.Checks.{asks, firstBroken, refusedOr, checkBy}
 use Rattle.block.specs.Records.{Cut, cons, cutOf, recordsOf, isDeclaration, classOf, typeOf, classesOf, declaredTypes, globalCount}
 use Rattle.block.specs.Rules.{Seen}
-use Rattle.block.specs.Scan.{Stands, codesIn, codeOf, Coded, codeFor, declarationOk, declaresGlobal, declaresOther, declaredRule, Stopped, DeclaredBy, refuses, reads-on}
+use Rattle.block.specs.Scan.{Stands, codesIn, codeOf, Coded, codeFor, declarationOk, declaresGlobal, declaresOther, declaredRule, Stopped, DeclaredBy}
 use Rattle.block.proofs.Codes.{coded-more}
-use Rattle.block.proofs.Cut.{all-append}
+use Rattle.block.proofs.Cut.{bytes-more, all-append}
 use Rattle.block.proofs.Views.{byte, kind-byte}
-use Rattle.block.proofs.Steps.{cut-record, at-short, at-record, at-start}
+use Rattle.block.proofs.Steps.{cut-record, record-length, at-short, at-record, at-start}
 use Rattle.block.specs.Rules.{allGlobal, rule3, declared, next}
 use Rattle.block.specs.Scan.{recordAt, checkAt, declaredSeen, Declaring}
 use Rattle.block.specs.declared.Verdict.the-variants.{Refused}
@@ -84,6 +84,7 @@ declaring-start T b vars lv =
       count = refl;
       globals-are = refl;
       place-is = refl;
+      spans = refl;
       reached = omega arith;
       few = omega arith;
       coded = record { codes-are = ap codesIn lv ∙ fun-ext (λ v. all 256 v ∙ sym (none v)); types-small = λ v. omega arith; inside = λ v h. refl };
@@ -214,6 +215,7 @@ module _ {T : Table} (law : LawfulTable T) {b vars : List ℕ} {p n globals : �
             count = length-append (d .before) (recordAt T b p ∷ []) ∙ ap (λ (m : ℕ). m + 1) (d .count);
             globals-are = e ∙ ap globalCount (sym classes-more);
             place-is = omega (arith, d .place-is);
+            spans = omega (arith, bytes-more (d .before) (recordAt T b p), d .spans, record-length T b p h within, body);
             reached = omega (arith, within, body);
             few = omega (arith, few-more);
             coded =
@@ -234,22 +236,6 @@ module _ {T : Table} (law : LawfulTable T) {b vars : List ℕ} {p n globals : �
       pub declaring-other : (getD b (p + 1) 0 ≡ 0 → ⊥) → Declaring T b (set vars n code) (p + 3) (n + 1) globals
       declaring-other z = more globals (d .globals-are ∙ sym (count-other classes (getD b (p + 1) 0) (ne-eqb (getD b (p + 1) 0) 0 z)))
 
--- the answers of the scan
-pub short-by : {T : Table} (law : LawfulTable T) {b vars : List ℕ} {p n globals : ℕ} → Declaring T b vars p n globals → p < length b → getD b p 0 ≡ 1 → length b - p < 3
-    → DeclaredBy T b vars 1 p n globals
-short-by law d h k l = refuses {rule = 1} (λ e. omega arith) (declaring-short law d h k l)
-
-module _ {T : Table} {b vars : List ℕ} {p n globals : ℕ} (d : Declaring T b vars p n globals) where
-  pub ended-by : length b ≤ p → DeclaredBy T b vars 0 p n globals
-  ended-by l = reads-on d (λ h. absurd (omega arith))
-
-  pub stopped-by : (getD b p 0 ≡ 1 → ⊥) → DeclaredBy T b vars 0 p n globals
-  stopped-by k = reads-on d (λ h. k)
-
-pub refused-by : {T : Table} (law : LawfulTable T) {b vars : List ℕ} {p n globals : ℕ} → Declaring T b vars p n globals → p < length b → getD b p 0 ≡ 1 → 3 ≤ length b - p
-    → declarationOk (getD b (p + 1) 0) (getD b (p + 2) 0) globals n ≡ false → DeclaredBy T b vars 3 p n globals
-refused-by law d h k l t = refuses {rule = 3} (λ q. omega arith) (declaring-refused law d h k l t)
-
 -- no room for one more: fewer than three bytes are left, or there are 64 variables
 pub no-room : (b : List ℕ) (p n globals : ℕ) → p ≡ 3 * n → (64 ≤ n) ⊎ (length b / 3 ≤ n) → Stopped b p n globals
 unfolding declarationOk
@@ -261,19 +247,24 @@ module _ {T : Table} (law : LawfulTable T) {b vars : List ℕ} {p n globals : �
   pub declared-by : {rule : ℕ} → rule ≡ declaredRule b p → DeclaredBy T b vars rule p n globals
   declared-by {rule} e = go (tell (leb (length b) p)) (tell (eqb (getD b p 0) 1)) (tell (ltb (length b - p) 3))
     where
+      -- none follows; or one is refused
+      ended : rule ≡ 0 → (p < length b → getD b p 0 ≡ 1 → ⊥) → DeclaredBy T b vars rule p n globals
+      ended q k = record { declaring = d; refused = λ z. absurd (z q); no-more = λ z. k }
+
+      refused : {m : ℕ} → rule ≡ m → (m ≡ 0 → ⊥) → Refused m p ≡ checkBy T b → DeclaredBy T b vars rule p n globals
+      refused q z r = record { declaring = d; refused = λ u. ap (λ (m : ℕ). Refused m p) q ∙ r; no-more = λ u. absurd (z (sym q ∙ u)) }
+
       go : (leb (length b) p ≡ true) ⊎ (leb (length b) p ≡ false) → (eqb (getD b p 0) 1 ≡ true) ⊎ (eqb (getD b p 0) 1 ≡ false) → (ltb (length b - p) 3 ≡ true) ⊎ (ltb (length b - p) 3 ≡ false)
           → DeclaredBy T b vars rule p n globals
-      go (inl x) y z = let q : rule ≡ 0 = e ∙ rw x in rw q (ended-by d (leb-true (length b) p x))
-      go (inr x) (inr y) z = let q : rule ≡ 0 = e ∙ rw (x, y) in rw q (stopped-by d (eqb-false (getD b p 0) 1 y))
+      go (inl x) y z = ended (e ∙ rw x) (λ h. absurd (omega (arith, h, leb-true (length b) p x)))
+      go (inr x) (inr y) z = ended (e ∙ rw (x, y)) (λ h. eqb-false (getD b p 0) 1 y)
       go (inr x) (inl y) (inl z) =
-          let q : rule ≡ 1 = e ∙ rw (x, y, z) in
-          rw q (short-by law d (leb-false (length b) p x) (eqb-true (getD b p 0) 1 y) (ltb-true (length b - p) 3 z))
+          refused (e ∙ rw (x, y, z)) (λ q. omega arith) (declaring-short law d (leb-false (length b) p x) (eqb-true (getD b p 0) 1 y) (ltb-true (length b - p) 3 z))
       go (inr x) (inl y) (inr z) =
-          let q : rule ≡ 3 = e ∙ rw (x, y, z) in
           let h = leb-false (length b) p x in
           let k = eqb-true (getD b p 0) 1 y in
           let l = ltb-false (length b - p) 3 z in
-          rw q (refused-by law d h k l (s h k l))
+          refused (e ∙ rw (x, y, z)) (λ q. omega arith) (declaring-refused law d h k l (s h k l))
 
 -- one more declaration, in the loop's terms
 module _ {T : Table} (law : LawfulTable T) {b vars : List ℕ} {n globals : ℕ} (d : Declaring T b vars (3 * n) n globals) (h : n < length b / 3) (k : getD b (3 * n) 0 ≡ 1) {r : Bool}

@@ -148,8 +148,8 @@ module _ (q : Op) {count : ℕ} (n : count ≡ outsIn (q .e) + insIn (q .e)) whe
     pub fit-by : {outs codes : ℕ} → outs ≡ outsIn (q .e) → codes ≡ typesIn (q .e) → r ≡ operandsFit (q .vars) outs codes (bytesAt (q .b) (q .p + 1) count) → r ≡ t → fit q ≡ t
     fit-by o c e a = rw (n, o, c) at (sym e ∙ a)
 
-    pub rest-by : r ≡ testOk (testIn (q .e)) (take (restIn (q .e)) (drop (q .p + 1 + count) (q .b))) → r ≡ t → restOk q ≡ t
-    rest-by e a = rw n at (sym e ∙ a)
+    pub rest-by : {m k : ℕ} → m ≡ testIn (q .e) → k ≡ restIn (q .e) → r ≡ testOk m (take k (drop (q .p + 1 + count) (q .b))) → r ≡ t → restOk q ≡ t
+    rest-by z y e a = rw (n, z, y) at (sym e ∙ a)
 
 pub free-by : (q : Op) {r t : Bool} → r ≡ free q → r ≡ t → free q ≡ t
 free-by q e a = sym e ∙ a

@@ -1,17 +1,18 @@
 -- The places of a block's records. Assumes nothing.
-use mathlib.Core.Path.{_≡_, refl, sym, ap, _∙_}
+use mathlib.Core.Path.{_≡_, refl, sym, ap, ap₂, _∙_}
 use mathlib.Core.Bool.{Bool, true, false}
-use mathlib.Core.List.{List, [], _∷_}
+use mathlib.Core.List.{List, [], _∷_, _++_}
 use Prim.Native.Nat.{ℕ, zero, suc, _+_, _%_, _≤_, _<_}
 use native.Mathlib.Omega.{arith}
 use lib.Dec.{ltb}
-use lib.ListN.{length, getD, drop, set, length-set}
+use lib.ListN.{length, getD, drop, set, length-set, length-append}
 use lib.Seq.{getD-set-same, getD-set-other}
 use borrow.Author.Tests.{ltb-true, ltb-false}
 use native.Mathlib.Nat.{add-zero}
 use Rattle.ops.specs.Rows.{known, bodyLength, Table}
-use Rattle.block.specs.Records.{Cut}
-use Rattle.block.specs.Scan.{recordAt, placesFrom, recordsAt}
+use Rattle.ops.specs.Ops.{rowAt, labelBy}
+use Rattle.block.specs.Records.{Cut, recordBytes}
+use Rattle.block.specs.Scan.{recordAt, placesFrom, labelledBy, labelsFrom, recordsAt}
 use Rattle.block.proofs.Steps.{cut-unknown, cut-short, cut-record, record-length, cut-end}
 
 -- a record stands at a place, and the others follow it
@@ -81,3 +82,23 @@ places-at (o ∷ os) p i P (suc j) l h =
     ap (λ (n : ℕ). getD (placesFrom (p + length o) (suc i) (set P i (p % 65536)) os) n 0) e
     ∙ places-at os (p + length o) (suc i) (set P i (p % 65536)) j (omega arith) (omega (arith, length-set P i (p % 65536)))
     ∙ ap (λ (n : ℕ). n % 65536) q
+
+-- one op more
+pub places-more : (os : List (List ℕ)) (o : List ℕ) (p i : ℕ) (P : List ℕ)
+    → placesFrom p i P (os ++ (o ∷ [])) ≡ set (placesFrom p i P os) (i + length os) ((p + length (recordBytes os)) % 65536)
+unfolding placesFrom
+places-more [] o p i P = rw (add-zero i, add-zero p)
+places-more (x ∷ os) o p i P =
+    let e : suc i + length os ≡ i + suc (length os) = omega arith in
+    let q : p + length x + length (recordBytes os) ≡ p + length (x ++ recordBytes os) = omega (arith, length-append x (recordBytes os)) in
+    places-more os o (p + length x) (suc i) (set P i (p % 65536))
+    ∙ ap₂ (λ (n m : ℕ). set (placesFrom (p + length x) (suc i) (set P i (p % 65536)) os) n (m % 65536)) e q
+
+pub labels-more : (T : Table) (os : List (List ℕ)) (o : List ℕ) (i : ℕ) (L : List ℕ)
+    → labelsFrom T i L (os ++ (o ∷ [])) ≡ labelledBy (rowAt T o) (labelBy (rowAt T o) o) (i + length os) (labelsFrom T i L os)
+unfolding labelsFrom
+labels-more T [] o i L = rw (add-zero i)
+labels-more T (x ∷ os) o i L =
+    let e : suc i + length os ≡ i + suc (length os) = omega arith in
+    labels-more T os o (suc i) (labelledBy (rowAt T x) (labelBy (rowAt T x) x) i L)
+    ∙ ap (λ (n : ℕ). labelledBy (rowAt T o) (labelBy (rowAt T o) o) n (labelsFrom T (suc i) (labelledBy (rowAt T x) (labelBy (rowAt T x) x) i L) os)) e

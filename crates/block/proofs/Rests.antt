@@ -19,6 +19,46 @@ abbrev pub Past : ℕ → ℕ → Type 0
 Past t zero = Unit {0}
 Past t (suc n) = Past t n × (t ≡ 1 + n → ⊥)
 
+-- the test of any bytes, by its number
+module _ (bytes : List ℕ) {t : ℕ} where
+  pub test-1 : t ≡ 1 → testOk t bytes ≡ labelOk (at bytes 0)
+  unfolding testOk
+  test-1 q = rw q
+
+  pub test-2 : t ≡ 2 → testOk t bytes ≡ condOk (at bytes 0)
+  unfolding testOk
+  test-2 q = rw q
+
+  pub test-3 : t ≡ 3 → testOk t bytes ≡ (condOk (at bytes 0) && labelOk (at bytes 1))
+  unfolding testOk
+  test-3 q = rw q
+
+  pub test-4 : t ≡ 4 → testOk t bytes ≡ flagsOk 32 false (at bytes 0)
+  unfolding testOk
+  test-4 q = rw q
+
+  pub test-5 : t ≡ 5 → testOk t bytes ≡ flagsOk 64 false (at bytes 0)
+  unfolding testOk
+  test-5 q = rw q
+
+  pub test-6 : t ≡ 6 → testOk t bytes ≡ flagsOk 32 true (at bytes 0)
+  unfolding testOk
+  test-6 q = rw q
+
+  pub test-7 : t ≡ 7 → testOk t bytes ≡ flagsOk 64 true (at bytes 0)
+  unfolding testOk
+  test-7 q = rw q
+
+  pub test-8 : t ≡ 8 → testOk t bytes ≡ ltb (lowFirst bytes 0 8) (2 ^ 32)
+  unfolding testOk
+  test-8 q = rw q
+
+  -- what a match on the numbers 1 to 8 leaves over
+  pub no-test : Past t 8 → true ≡ testOk t bytes
+  unfolding testOk
+  no-test ((((((((u, n1), n2), n3), n4), n5), n6), n7), n8) =
+      rw (ne-eqb t 1 n1, ne-eqb t 2 n2, ne-eqb t 3 n3, ne-eqb t 4 n4, ne-eqb t 5 n5, ne-eqb t 6 n6, ne-eqb t 7 n7, ne-eqb t 8 n8)
+
 -- an entry whose test asks for no more bytes than there are
 module _ (b : List ℕ) (p e : ℕ) (few : asksFor (testIn e) ≤ restIn e) where
   byte : (i : ℕ) → i < restIn e → at (take (restIn e) (drop p b)) i ≡ at b (p + i)
@@ -28,7 +68,7 @@ module _ (b : List ℕ) (p e : ℕ) (few : asksFor (testIn e) ≤ restIn e) wher
   first h = byte 0 h ∙ ap (at b) (add-zero p)
 
   -- a test by its number, and how many bytes it asks for
-  pub asked : {t : ℕ} → testIn e ≡ t → asksFor t ≤ restIn e
+  asked : {t : ℕ} → testIn e ≡ t → asksFor t ≤ restIn e
   asked q = subst (λ (n : ℕ). asksFor n ≤ restIn e) q few
 
   numbered : {t : ℕ} → testIn e ≡ t → testOk (testIn e) (take (restIn e) (drop p b)) ≡ testOk t (take (restIn e) (drop p b))
@@ -38,29 +78,9 @@ module _ (b : List ℕ) (p e : ℕ) (few : asksFor (testIn e) ≤ restIn e) wher
   unfolding testOk
   label-test q = numbered q ∙ ap labelOk (first (omega (arith, asked q)))
 
-  pub cond-test : testIn e ≡ 2 → testOk (testIn e) (take (restIn e) (drop p b)) ≡ condOk (at b p)
-  unfolding testOk
-  cond-test q = numbered q ∙ ap condOk (first (omega (arith, asked q)))
-
   pub branch-test : testIn e ≡ 3 → testOk (testIn e) (take (restIn e) (drop p b)) ≡ (condOk (at b p) && labelOk (at b (p + 1)))
   unfolding testOk
   branch-test q = numbered q ∙ ap₂ (λ (c l : ℕ). condOk c && labelOk l) (first (omega (arith, asked q))) (byte 1 (omega (arith, asked q)))
-
-  pub load32-test : testIn e ≡ 4 → testOk (testIn e) (take (restIn e) (drop p b)) ≡ flagsOk 32 false (at b p)
-  unfolding testOk
-  load32-test q = numbered q ∙ ap (flagsOk 32 false) (first (omega (arith, asked q)))
-
-  pub load64-test : testIn e ≡ 5 → testOk (testIn e) (take (restIn e) (drop p b)) ≡ flagsOk 64 false (at b p)
-  unfolding testOk
-  load64-test q = numbered q ∙ ap (flagsOk 64 false) (first (omega (arith, asked q)))
-
-  pub store32-test : testIn e ≡ 6 → testOk (testIn e) (take (restIn e) (drop p b)) ≡ flagsOk 32 true (at b p)
-  unfolding testOk
-  store32-test q = numbered q ∙ ap (flagsOk 32 true) (first (omega (arith, asked q)))
-
-  pub store64-test : testIn e ≡ 7 → testOk (testIn e) (take (restIn e) (drop p b)) ≡ flagsOk 64 true (at b p)
-  unfolding testOk
-  store64-test q = numbered q ∙ ap (flagsOk 64 true) (first (omega (arith, asked q)))
 
   pub constant-test : testIn e ≡ 8 → testOk (testIn e) (take (restIn e) (drop p b)) ≡ ltb (lowFirst b p 8) (2 ^ 32)
   unfolding testOk
@@ -68,9 +88,3 @@ module _ (b : List ℕ) (p e : ℕ) (few : asksFor (testIn e) ≤ restIn e) wher
       let room : 8 ≤ restIn e = asked q in
       numbered q
       ∙ ap (λ (x : ℕ). ltb x (2 ^ 32)) (low-same (take (restIn e) (drop p b)) b 0 p 8 (λ i l. ap (at (take (restIn e) (drop p b))) (zero-add i) ∙ byte i (omega arith)))
-
-  -- what a match on the numbers 1 to 8 leaves over
-  pub no-test : {t : ℕ} → testIn e ≡ t → Past t 8 → true ≡ testOk (testIn e) (take (restIn e) (drop p b))
-  unfolding testOk
-  no-test {t} q ((((((((u, n1), n2), n3), n4), n5), n6), n7), n8) =
-      rw (q, ne-eqb t 1 n1, ne-eqb t 2 n2, ne-eqb t 3 n3, ne-eqb t 4 n4, ne-eqb t 5 n5, ne-eqb t 6 n6, ne-eqb t 7 n7, ne-eqb t 8 n8)

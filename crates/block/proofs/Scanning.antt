@@ -2,13 +2,13 @@
 use mathlib.Core.Path.{_≡_, refl, sym, ap, ap₂, _∙_, subst}
 use mathlib.Core.Logic.{_⊎_, inl, inr}
 use mathlib.Core.Bool.{Bool, true, false, cond, not, _&&_, _||_}
-use mathlib.Core.List.{List, [], _∷_}
+use mathlib.Core.List.{List, [], _∷_, _++_, append-assoc}
 use Prim.Native.Nat.{ℕ, suc, _+_, _-_, _%_, _≤_, _<_}
 use native.Mathlib.Omega.{arith}
 use lib.Dec.{eqb, ltb, leb}
-use lib.ListN.{length, getD, drop, set, replicate}
+use lib.ListN.{length, getD, drop, set, replicate, length-append}
 use borrow.Author.Tests.{ltb-true, ltb-false, eqb-true, eqb-false, eq-eqb, ne-eqb, leb-false, le-leb, lt-leb, not-true}
-use native.Mathlib.Nat.{zero-add}
+use native.Mathlib.Nat.{zero-add, add-zero}
 use native.Mathlib.Numerals.{add-one}
 use Rattle.theory.specs.Sets.{Vars}
 use Rattle.theory.proofs.Sets.{tell, and-l, and-r}
@@ -18,6 +18,7 @@ use Rattle.ops.specs.Ops.{kindOf, rowAt, bytesAt, outsBy, insBy, labelBy}
 use Rattle.ops.specs.Plans.{exitRank}
 use Rattle.ops.proofs.Entry.{Digits}
 use Rattle.block.proofs.Codes.{coded-next, codes-closed, codes-open}
+use Rattle.block.proofs.Cut.{bytes-more}
 use Rattle.block.proofs.Declaring.{classes-length}
 use Rattle.block.proofs.OpRules.{Op, tests-alike, stopped-not, no-op, no-fit, op-fits}
 use Rattle.block.proofs.Views.{row-at, output-bytes, label-byte}
@@ -26,9 +27,10 @@ use Rattle.block.specs.Records.{Cut, cons, cutOf, isDeclaration, classOf
 use Rattle.block.specs.Rules.{Seen, allGlobal, allBelow, rule3, rule4, markedBy, rule9, rule10, allSet}
 use Rattle.block.specs.Rules.{rule7end, passed, next}
 use Rattle.block.specs.Scan.{recordAt, Stands, checkAt, codesIn, openAll, codesBy, marked, numbered, LabelledAs, declaredSeen, recordRule, opTests, operandsOk, entryRule, opStands, opOk}
-use Rattle.block.specs.Scan.{placesFrom, labelsFrom, recordsAt, ScannedBy, refuses-op, accepts-ops, Marks, Begins, Reading}
+use Rattle.block.specs.Scan.{labelledBy, placesFrom, labelsFrom, recordsAt, UpTo, ScannedBy, Marks, Begins, Reading}
 use Rattle.block.proofs.Accepts.{allMet, none-broken, numbered-rules}
 use Rattle.block.proofs.Fields.{kind-at, below-left}
+use Rattle.block.proofs.Places.{places-more, labels-more}
 use Rattle.block.proofs.MarkSets.{marked-none, numbered-none, labelled-not, target-not}
 use Rattle.block.proofs.Steps.{cut-record, record-length, at-unknown, at-short, at-record, cut-end, at-end}
 use Rattle.block.specs.declared.Verdict.the-variants.{Accepted, Refused}
@@ -178,10 +180,14 @@ module _ {T : Table} {b : List ℕ} {start : ℕ} {places₀ base vars labels ta
     refused-at : {rule : ℕ} → rule ≡ entryRule e b p ops vars labels (operandsOk e b p vars) → (rule ≡ 0 → ⊥) → ScannedBy T b start places₀ places labels rule p ops
     refused-at {rule} q z =
         let a : rule ≡ recordRule T (s .seen) b p = q ∙ sym entry-rule in
-        refuses-op z (sym (ne-answer (recordRule T (s .seen) b p) (λ u. z (a ∙ u)) ∙ ap (λ (m : ℕ). Refused m p) (sym a)) ∙ sym (at-place T (s .seen) b p h) ∙ s .goes-on)
+        record {
+          answers = ap (λ (m : ℕ). refusedOr m p Accepted) a ∙ same-refusal (recordRule T (s .seen) b p) (λ u. z (a ∙ u)) ∙ sym (at-place T (s .seen) b p h) ∙ s .goes-on;
+          up-to = s .up-to;
+          all-read = λ u. absurd (z u);
+        }
       where
-        ne-answer : (m : ℕ) → (m ≡ 0 → ⊥) → refusedOr m p (checkAt T (next T (s .seen) (recordAt T b p)) b (p + suc (bodyLength T (getD b p 0)))) ≡ Refused m p
-        ne-answer m u = rw (ne-eqb m 0 u)
+        same-refusal : (m : ℕ) → (m ≡ 0 → ⊥) → refusedOr m p Accepted ≡ refusedOr m p (checkAt T (next T (s .seen) (recordAt T b p)) b (p + suc (bodyLength T (getD b p 0))))
+        same-refusal m u = rw (ne-eqb m 0 u)
 
     module _ {stands : Bool} (o : stands ≡ opStands e b p) where
       pub stopped-at : {rule place n : ℕ} → stands ≡ false → (rule ≡ entryRule e b p ops vars labels false) × (place ≡ p) × (n ≡ ops) → ScannedBy T b start places₀ places labels rule place n
@@ -228,10 +234,8 @@ module _ {T : Table} {b : List ℕ} {start : ℕ} {places₀ base vars labels ta
   pub again-at : {m n : ℕ} → m ≡ bodyLength T (getD b p 0) → eqb n exitRank ≡ eqb (getD b p 0) 0x04 → (vars′ labels′ targets′ : List ℕ)
       → Marks T (recordAt T b p) ops base vars vars′ labels labels′ targets targets′
       → Reading T b start places₀ base vars′ labels′ targets′ (set places ops (p % 65536)) (p + (1 + m)) (ops + 1) n
-  unfolding placesFrom labelsFrom
   again-at {m} z exits vars′ labels′ targets′ w =
       let q : p + (1 + m) ≡ p + suc (bodyLength T (getD b p 0)) = omega (arith, z) in
-      let long : p + length (recordAt T b p) ≡ p + suc (bodyLength T (getD b p 0)) = omega (arith, long-here) in
       let row = rowAt T (recordAt T b p) in
       rw q
       (record {
@@ -247,19 +251,29 @@ module _ {T : Table} {b : List ℕ} {start : ℕ} {places₀ base vars labels ta
         targets-so = ap (λ (ts : Vars). markedBy (isJumping (row .role)) ts (labelBy row (recordAt T b p))) (s .targets-so) ∙ sym (w .targets-so);
         ops-so = ap suc (s .ops-so) ∙ sym (add-one ops);
         last-so = exits ∙ sym (ap (λ (k : ℕ). eqb k 0x04) (kind-at T b p (whole-here .within)));
-        count = s .count ∙ ap (λ (c : Cut). ops + length (c .records)) cut-here ∙ more ops (length (recordsAt T b (p + suc (bodyLength T (getD b p 0)))));
-        places-are =
-            s .places-are ∙ ap (λ (c : Cut). placesFrom p ops places (c .records)) cut-here
-            ∙ ap₂ (λ (x y : ℕ). placesFrom x y (set places ops (p % 65536)) (recordsAt T b (p + suc (bodyLength T (getD b p 0))))) long (sym (add-one ops));
-        labels-are =
-            s .labels-are ∙ ap (λ (c : Cut). labelsFrom T ops labels (c .records)) cut-here
-            ∙ ap₂ (λ (x : ℕ) (y : List ℕ). labelsFrom T x y (recordsAt T b (p + suc (bodyLength T (getD b p 0))))) (sym (add-one ops)) (sym (w .labelled .numbers-so));
+        up-to = further;
         first-op = λ x. absurd (omega arith);
         few = omega (arith, few-ops-here);
       })
     where
-      more : (a m : ℕ) → a + suc m ≡ a + 1 + m
-      more a m = omega arith
+      further : UpTo T b start places₀ (set places ops (p % 65536)) labels′ (p + suc (bodyLength T (getD b p 0))) (ops + 1)
+      further =
+          record {
+            read = s .up-to .read ++ (recordAt T b p ∷ []);
+            records-are =
+                s .up-to .records-are ∙ ap (λ (c : Cut). s .up-to .read ++ c .records) cut-here
+                ∙ sym (append-assoc (s .up-to .read) (recordAt T b p ∷ []) (recordsAt T b (p + suc (bodyLength T (getD b p 0)))));
+            spans = omega (arith, bytes-more (s .up-to .read) (recordAt T b p), s .up-to .spans, long-here);
+            count = length-append (s .up-to .read) (recordAt T b p ∷ []) ∙ ap (λ (n : ℕ). n + 1) (s .up-to .count);
+            places-are =
+                ap₂ (λ (P : List ℕ) (n : ℕ). set P n (p % 65536)) (s .up-to .places-are) (sym (zero-add (length (s .up-to .read)) ∙ s .up-to .count))
+                ∙ ap (λ (n : ℕ). set (placesFrom start 0 places₀ (s .up-to .read)) (0 + length (s .up-to .read)) (n % 65536)) (sym (s .up-to .spans))
+                ∙ sym (places-more (s .up-to .read) (recordAt T b p) start 0 places₀);
+            labels-are =
+                w .labelled .numbers-so
+                ∙ ap₂ (λ (n : ℕ) (ls : List ℕ). labelledBy (rowAt T (recordAt T b p)) (labelBy (rowAt T (recordAt T b p)) (recordAt T b p)) n ls) (sym (zero-add (length (s .up-to .read)) ∙ s .up-to .count)) (s .up-to .labels-are)
+                ∙ sym (labels-more T (s .up-to .read) (recordAt T b p) 0 (replicate 32 0));
+          }
 
 -- the end
 module _ {T : Table} {b : List ℕ} {start : ℕ} {places₀ base vars labels targets places : List ℕ} {p ops last : ℕ}
@@ -267,28 +281,27 @@ module _ {T : Table} {b : List ℕ} {start : ℕ} {places₀ base vars labels ta
   end-answer : refusedOr (firstBroken (endRules (s .seen))) p Accepted ≡ checkBy T b
   end-answer = sym (at-end T (s .seen) b p h) ∙ s .goes-on
 
+  rest : recordsAt T b p ≡ []
+  rest = ap (λ (c : Cut). c .records) (cut-end T b p h)
+
   pub scanning-10 : eqb last exitRank ≡ false → ScannedBy T b start places₀ places labels 10 p ops
   unfolding firstBroken rule10
-  scanning-10 q = refuses-op {rule = 10} (λ e. omega arith) (rw (sym (s .last-so) ∙ q) at end-answer)
+  scanning-10 q = record { answers = rw (sym (s .last-so) ∙ q) at end-answer; up-to = s .up-to; all-read = λ z. rest }
 
   module _ {r : Bool} (q : eqb last exitRank ≡ true) (e : r ≡ allSet (marked targets) (numbered labels) 32) where
     pub scanning-7 : r ≡ false → ScannedBy T b start places₀ places labels 7 p ops
     unfolding firstBroken rule10 rule7end
-    scanning-7 t = refuses-op {rule = 7} (λ z. omega arith) (rw (sym (s .last-so) ∙ q, s .targets-so, s .labels-so, sym e ∙ t) at end-answer)
+    scanning-7 t = record { answers = rw (sym (s .last-so) ∙ q, s .targets-so, s .labels-so, sym e ∙ t) at end-answer; up-to = s .up-to; all-read = λ z. rest }
 
     pub scanning-0 : r ≡ true → ScannedBy T b start places₀ places labels 0 p ops
-    unfolding firstBroken rule10 rule7end placesFrom labelsFrom
-    scanning-0 t =
-        let rest : recordsAt T b p ≡ [] = ap (λ (c : Cut). c .records) (cut-end T b p h) in
-        accepts-ops {place = p} {ops = ops} (sym (rw (sym (s .last-so) ∙ q, s .targets-so, s .labels-so, sym e ∙ t) at end-answer))
-        (omega (arith, s .count, ap length rest))
-        (sym (s .places-are ∙ ap (placesFrom p ops places) rest))
-        (sym (s .labels-are ∙ ap (labelsFrom T ops labels) rest))
+    unfolding firstBroken rule10 rule7end
+    scanning-0 t = record { answers = rw (sym (s .last-so) ∙ q, s .targets-so, s .labels-so, sym e ∙ t) at end-answer; up-to = s .up-to; all-read = λ z. rest }
 
 -- the start, after the declarations
 pub begins-start : {T : Table} {b base labels : List ℕ} {p : ℕ} (places₀ : List ℕ) → Begins T b base p → labels ≡ replicate 32 0
     → Reading T b p places₀ base base labels (replicate 32 0) places₀ p 0 0
-begins-start {T = T} {b = b} {p = p} places₀ g z =
+unfolding placesFrom labelsFrom
+begins-start {T = T} {b = b} {labels = labels} {p = p} places₀ g z =
     record {
       seen = declaredSeen (classesOf (g .after .before)) (declaredTypes (g .after .before));
       goes-on = g .after .goes-on;
@@ -299,12 +312,14 @@ begins-start {T = T} {b = b} {p = p} places₀ g z =
       targets-so = sym (marked-none 32 refl);
       ops-so = refl;
       last-so = refl;
-      count = sym (zero-add (length (recordsAt T b p)));
-      places-are = refl;
-      labels-are = ap (λ (ls : List ℕ). labelsFrom T 0 ls (recordsAt T b p)) (sym z);
+      up-to = at-first;
       first-op = λ e. g .no-more;
       few = omega arith;
     }
+
+  where
+    at-first : UpTo T b p places₀ places₀ labels p 0
+    at-first = record { read = []; records-are = refl; spans = add-zero p; count = refl; places-are = refl; labels-are = z }
 
 pub begins-inside : {T : Table} {b base : List ℕ} {p : ℕ} → Begins T b base p → p ≤ length b
 begins-inside g = g .after .reached

@@ -1,6 +1,7 @@
 -- The check: the first broken rule, by number and place. Assumes nothing.
 use Prim.Native.Nat.{ℕ, _+_}
 use mathlib.Core.Bool.{Bool, cond}
+use mathlib.Core.Path.{_≡_}
 use mathlib.Core.List.{List, [], _∷_}
 use lib.Dec.{eqb}
 use lib.ListN.{length}
@@ -50,3 +51,7 @@ checkBy T block = checkFrom T start 0 ((cutOf T block) .records) ((cutOf T block
 -- document 01's
 abbrev pub checkOf : List ℕ → Verdict
 checkOf = checkBy rowOf
+
+-- a call of the check that was lent this block answered this verdict
+abbrev pub Checked : List ℕ → Verdict → Type 0
+Checked block verdict = verdict ≡ checkOf block

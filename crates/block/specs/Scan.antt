@@ -14,8 +14,8 @@ use Rattle.ops.specs.Plans.{ask, lengthIn, outAskIn, firstAskIn, secondAskIn, f
 use Rattle.memory.specs.Bytes.{lowFirst}
 use Rattle.ops.specs.Rows.{Row, outsIn, insIn, restIn, testIn, roleIn, typesIn, rowIn, roleNo, isKnown, isClosing, isSetting, isJumping, testOk}
 use Rattle.ops.specs.Ops.{rowAt, bytesAt, outsBy, labelBy}
-use Rattle.block.specs.Checks.{Finding, asks, firstBroken, rulesOf, checkFrom, checkBy}
-use Rattle.block.specs.Records.{cutOf, recordsOf, isDeclaration, declarations, opsFrom, classesOf, declaredTypes, globalCount}
+use Rattle.block.specs.Checks.{Finding, asks, firstBroken, rulesOf, refusedOr, checkFrom, checkBy}
+use Rattle.block.specs.Records.{cutOf, recordsOf, recordBytes, isDeclaration, declarations, opsFrom, classesOf, declaredTypes, globalCount}
 use Rattle.block.specs.Rules.{Seen, start, keptIn, labelFree, markedBy, allSet}
 use Rattle.block.specs.declared.Verdict.{Verdict}
 use Rattle.block.specs.declared.Verdict.the-variants.{Accepted, Refused}
@@ -131,6 +131,7 @@ pub record Declaring (T : Table) (block vars : List ℕ) (place n globals : ℕ)
   pub count : length before ≡ n
   pub globals-are : globals ≡ globalCount (classesOf before)
   pub place-is : place ≡ 3 * n
+  pub spans : length (recordBytes before) ≡ place
   pub reached : place ≤ length block
   pub few : n ≤ 64
   pub coded : Coded vars (classesOf before) (declaredTypes before) empty
@@ -164,10 +165,11 @@ Stopped block place n globals =
 abbrev pub declaredRule : List ℕ → ℕ → ℕ
 declaredRule block place = cond (leb (length block) place) 0 (cond (not (eqb (getD block place 0) 1)) 0 (cond (ltb (length block - place) 3) 1 3))
 
--- what the scan of the declarations answers: a refusal; or the place of the first record that is none
-pub data DeclaredBy (T : Table) (block vars : List ℕ) : ℕ → ℕ → ℕ → ℕ → Type 0 where
-  refuses : {rule place n globals : ℕ} → (rule ≡ 0 → ⊥) → Refused rule place ≡ checkBy T block → DeclaredBy T block vars rule place n globals
-  reads-on : {place n globals : ℕ} → Declaring T block vars place n globals → (place < length block → getD block place 0 ≡ 1 → ⊥) → DeclaredBy T block vars 0 place n globals
+-- what the scan of the declarations answers: those up to the place have been read; there one is refused, or none follows
+pub record DeclaredBy (T : Table) (block vars : List ℕ) (rule place n globals : ℕ) : Type 0 where
+  pub declaring : Declaring T block vars place n globals
+  pub refused : (rule ≡ 0 → ⊥) → Refused rule place ≡ checkBy T block
+  pub no-more : rule ≡ 0 → place < length block → getD block place 0 ≡ 1 → ⊥
 
 -- the rule that the record at a place breaks, 2 and 1 first; 0 if none
 unfoldable pub recordRule : Table → Seen → List ℕ → ℕ → ℕ
@@ -265,11 +267,20 @@ labelsFrom T i labels (o ∷ os) = labelsFrom T (suc i) (labelledBy (rowAt T o) 
 abbrev pub recordsAt : Table → List ℕ → ℕ → List (List ℕ)
 recordsAt T block place = (cutOf T (drop place block)) .records
 
--- what the scan of the ops from a place on answers: a refusal; or that the block is accepted, how many ops there are, and where
-pub data ScannedBy (T : Table) (block : List ℕ) (start : ℕ) (places₀ places labels : List ℕ) : ℕ → ℕ → ℕ → Type 0 where
-  refuses-op : {rule place ops : ℕ} → (rule ≡ 0 → ⊥) → Refused rule place ≡ checkBy T block → ScannedBy T block start places₀ places labels rule place ops
-  accepts-ops : {place ops : ℕ} → checkBy T block ≡ Accepted → ops ≡ length (recordsAt T block start) → places ≡ placesFrom start 0 places₀ (recordsAt T block start)
-      → labels ≡ labelsFrom T 0 (replicate labelCount 0) (recordsAt T block start) → ScannedBy T block start places₀ places labels 0 place ops
+-- the ops from start up to a place: how many there are, and that the arrays hold where each of them and each label is
+pub record UpTo (T : Table) (block : List ℕ) (start : ℕ) (places₀ places labels : List ℕ) (place ops : ℕ) : Type 0 where
+  pub read : List (List ℕ)
+  pub records-are : recordsAt T block start ≡ read ++ recordsAt T block place
+  pub spans : start + length (recordBytes read) ≡ place
+  pub count : length read ≡ ops
+  pub places-are : places ≡ placesFrom start 0 places₀ read
+  pub labels-are : labels ≡ labelsFrom T 0 (replicate labelCount 0) read
+
+-- what the scan of the ops answers: the check's answer, 0 for accepted, and the ops up to its place
+pub record ScannedBy (T : Table) (block : List ℕ) (start : ℕ) (places₀ places labels : List ℕ) (rule place ops : ℕ) : Type 0 where
+  pub answers : refusedOr rule place Accepted ≡ checkBy T block
+  pub up-to : UpTo T block start places₀ places labels place ops
+  pub all-read : rule ≡ 0 → recordsAt T block place ≡ []
 
 -- the rule that is broken at the end, after an op that is exit_tb or not; 0 if none
 abbrev pub endRule : Bool → List ℕ → List ℕ → ℕ
@@ -307,9 +318,7 @@ pub record Reading (T : Table) (b : List ℕ) (start : ℕ) (places₀ base vars
   pub targets-so : seen .targets ≡ marked targets
   pub ops-so : seen .ops ≡ ops
   pub last-so : eqb last exitRank ≡ eqb (seen .last) 0x04
-  pub count : length (recordsAt T b start) ≡ ops + length (recordsAt T b p)
-  pub places-are : placesFrom start 0 places₀ (recordsAt T b start) ≡ placesFrom p ops places (recordsAt T b p)
-  pub labels-are : labelsFrom T 0 (replicate labelCount 0) (recordsAt T b start) ≡ labelsFrom T ops labels (recordsAt T b p)
+  pub up-to : UpTo T b start places₀ places labels p ops
   pub first-op : ops ≡ 0 → p < length b → getD b p 0 ≡ 1 → ⊥
   pub few : ops ≤ 256
 
@@ -327,6 +336,20 @@ pub record Approved (T : Table) (block places₀ base places labels : List ℕ) 
   pub places-are : places ≡ placesFrom start 0 places₀ (opsFrom (recordsOf T block))
   pub labels-are : labels ≡ labelsFrom T 0 (replicate labelCount 0) (opsFrom (recordsOf T block))
 
-pub data Scanned (T : Table) (block places₀ base places labels : List ℕ) : ℕ → ℕ → ℕ → ℕ → ℕ → ℕ → Type 0 where
-  rejected : {rule place start n globals ops : ℕ} → (rule ≡ 0 → ⊥) → Refused rule place ≡ checkBy T block → Scanned T block places₀ base places labels rule place start n globals ops
-  approved : {place start n globals ops : ℕ} → Approved T block places₀ base places labels start n globals ops → Scanned T block places₀ base places labels 0 place start n globals ops
+-- what the scan of a block answers: the check's answer, 0 for accepted; the declarations and ops before its place, and what the arrays hold of them
+pub record Scanned (T : Table) (block places₀ base places labels : List ℕ) (rule place start n globals ops : ℕ) : Type 0 where
+  pub answers : refusedOr rule place Accepted ≡ checkBy T block
+  pub before : List (List ℕ)
+  pub records-are : recordsOf T block ≡ before ++ recordsAt T block place
+  pub all-read : rule ≡ 0 → recordsAt T block place ≡ []
+  pub place-is : place ≡ length (recordBytes before)
+  pub variables : length (declarations before) ≡ n
+  pub coded : Coded base (classesOf (declarations before)) (declaredTypes (declarations before)) empty
+  pub long-base : length base ≡ 256
+  pub globals-are : globals ≡ globalCount (classesOf (declarations before))
+  pub few : n ≤ 64
+  pub start-is : start ≡ 3 * n
+  pub ops-at : recordsAt T block start ≡ opsFrom before ++ recordsAt T block place
+  pub count-is : ops ≡ length (opsFrom before)
+  pub places-are : places ≡ placesFrom start 0 places₀ (opsFrom before)
+  pub labels-are : labels ≡ labelsFrom T 0 (replicate labelCount 0) (opsFrom before)

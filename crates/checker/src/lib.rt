@@ -1,11 +1,10 @@
 // The check of a block.
-ghost use mathlib.Core.Path.{_≡_};
-ghost use Rattle.block.specs.Checks.{checkOf};
+ghost use Rattle.block.specs.Checks.{Checked};
 use block::Verdict;
 
 // Whether a block meets every rule; if not, the first rule that is broken and its place.
 pub fn check(block: &[u8]) -> Verdict
-    ensures { λ r. ⌜ r ≡ checkOf (now (block .entry)) ⌝ }
+    ensures { λ r. ⌜ Checked (now (block .entry)) r ⌝ }
 {
     let mut base = [15u8; 256];
     let mut places = [0u16; 256];

@@ -11,17 +11,15 @@ ghost use Rattle.ops.specs.Rows.{computing, roleOf};
 ghost use Rattle.ops.specs.Ops.{folding};
 ghost use Rattle.ops.specs.Kinds.{rowOf, document01, moviKind};
 ghost use Rattle.ops.specs.Shapes.{shapeTable, typeAs, shapeAt};
-ghost use Rattle.block.specs.Records.{recordBytes};
 ghost use Rattle.block.specs.Scan.{recordAt, Stands};
-ghost use Rattle.passes.specs.Knows.{foldedOps};
-ghost use Rattle.passes.specs.Laid.{opsAt, placeOf, Laid, editOf, keptFrom};
-ghost use Rattle.passes.specs.Live.{Marked};
-use memory::put_low;
+ghost use Rattle.passes.specs.Laid.{placeOf, Laid, editOf};
+ghost use Rattle.passes.specs.Live.{Marked, emitted};
+use memory::to_little_endian;
 use shapes::is_narrow;
 use shapes::shape;
 
 // The bytes of block from a place on, copied.
-pub fn copy(block: &[u8], from: usize, n: usize, out: &mut [u8], to: usize)
+fn copy(block: &[u8], from: usize, n: usize, out: &mut [u8], to: usize)
     requires { ⌜ (from + n ≤ length (now block)) × (to + n ≤ length (now out)) ⌝ }
     ensures { λ _. ⌜ now (out .exit) ≡ sets (now (out .entry)) to (take n (drop from (now (block .entry)))) ⌝ }
 {
@@ -39,7 +37,7 @@ fn put_movi(out: &mut [u8], to: usize, kind: u8, d: u8, value: u64)
 {
     out[to] = kind;
     out[to + 1] = d;
-    put_low(out, to + 2, 8, value);
+    copy(&to_little_endian(value), 0, 8, out, to + 2);
 }
 
 // The kind of the movi that takes an op's place: its output's type comes first.
@@ -101,23 +99,22 @@ fn put_edit(
     to + n
 }
 
-// The kept ops, from start on in out, where the first op of the block starts too.
+// The bytes of the block before its first op, and the kept ops.
 pub fn emit(
     shapes: &[u16; 256],
     block: &[u8],
-    start: usize,
     ops: usize,
     places: &[u16],
     marks: &[u8],
     constants: &[u64],
     out: &mut [u8],
 )
-    requires { ⌜ Laid (now block) (now places) ops × Marked (now block) (now places) (now marks) (now constants) ops × (placeOf (now block) (now places) ops 0 ≡ start) × (start ≤ length (now block)) × (ops ≤ length (now places)) × (ops ≤ length (now marks)) × (ops ≤ length (now constants)) × (now shapes ≡ shapeTable) × (start + length (recordBytes (keptFrom 0 (now marks) (foldedOps (opsAt (now block) (now places) 0 ops)))) ≤ length (now out)) ⌝ }
-    ensures { λ _. ⌜ now (out .exit) ≡ sets (now (out .entry)) start (recordBytes (keptFrom 0 (now (marks .entry)) (foldedOps (opsAt (now (block .entry)) (now (places .entry)) 0 ops)))) ⌝ }
+    requires { ⌜ Laid (now block) (now places) ops × Marked (now block) (now places) (now marks) (now constants) ops × (placeOf (now block) (now places) ops 0 ≤ length (now block)) × (ops ≤ length (now places)) × (ops ≤ length (now marks)) × (ops ≤ length (now constants)) × (now shapes ≡ shapeTable) × (length (emitted (now block) (now places) (now marks) ops) ≤ length (now out)) ⌝ }
+    ensures { λ _. ⌜ now (out .exit) ≡ sets (now (out .entry)) 0 (emitted (now (block .entry)) (now (places .entry)) (now (marks .entry)) ops) ⌝ }
 {
     let end = block.len();
-    let mut from = start;
-    let mut to = start;
+    let mut from: usize = 0;
+    let mut to: usize = 0;
     let mut i: usize = 0;
     while i < ops {
         let mark = marks[i];

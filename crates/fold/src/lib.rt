@@ -14,7 +14,7 @@ ghost use Rattle.block.specs.Scan.{Stands, marked};
 ghost use Rattle.passes.specs.Knows.{knownOf, everyIn, StatesKnown, Stays, Folds, Folded};
 ghost use Rattle.passes.specs.Laid.{Laid};
 use marks::put;
-use memory::low_first;
+use memory::from_little_endian;
 use ops::CONSTANT;
 use ops::LOADS;
 use shapes::ins;
@@ -90,7 +90,9 @@ fn pass_over(s: u16, block: &[u8], at: usize, known: &mut [u8; 256], values: &mu
 {
     let r = role(s);
     if r == CONSTANT {
-        learn(known, values, block[at + 1], low_first(block, at + 2, 8));
+        let p = at + 2;
+        let end = at + 10;
+        learn(known, values, block[at + 1], from_little_endian(&block[p..end]));
         return;
     }
     if r < LOADS {

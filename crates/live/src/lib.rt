@@ -1,29 +1,27 @@
 // Liveness across an op, read backward. What is live is held as times (`liveOf`), so that an op changes the times of
 // its operands alone, and those of whole classes where a basic block ends or memory is accessed.
 ghost use mathlib.Core.Path.{_≡_};
-ghost use mathlib.Core.Bool.{cond, _||_};
+ghost use mathlib.Core.Bool.{cond, false, _||_};
 ghost use Prim.Native.Nat.{_+_, _%_, _≤_, _<_};
 ghost use lib.ListN.{length, getD};
-ghost use Rattle.theory.specs.Prune.{dead};
 ghost use Rattle.ops.specs.Rows.{outsIn, roleOf, computing};
-ghost use Rattle.ops.specs.Kinds.{rowOf, document01};
-ghost use Rattle.ops.specs.Ops.{bytesAt, viewOf};
+ghost use Rattle.ops.specs.Kinds.{rowOf};
+ghost use Rattle.ops.specs.Ops.{bytesAt};
 ghost use Rattle.ops.specs.Plans.{entryAt};
-ghost use Rattle.ops.specs.Shapes.{setsAs, jumpsAs, shapeAt};
-ghost use Rattle.block.specs.Scan.{recordAt, Stands};
+ghost use Rattle.ops.specs.Shapes.{pureAs, setsAs, jumpsAs, shapeAt};
+ghost use Rattle.block.specs.Scan.{Stands};
 ghost use Rattle.passes.specs.Live.{beforeAt, liveAs, liveOf, Turns, Timed};
 use marks::put_number;
-use ops::CONSTANT;
 use ops::LOADS;
-use ops::STORES;
 use shapes::ins;
 use shapes::is_jumping;
+use shapes::is_pure;
 use shapes::is_setting;
 use shapes::outs;
 use shapes::role;
 
 // Whether a variable is live: the later of its own event and its class's is odd.
-fn is_live(events: &[u16; 256], floors: &[u16; 4], classes: &[u8; 256], v: u8) -> bool
+pub fn is_live(events: &[u16; 256], floors: &[u16; 4], classes: &[u8; 256], v: u8) -> bool
     ensures { λ r. ⌜ r ≡ liveOf (now (events .entry)) (now (floors .entry)) (now (classes .entry)) v ⌝ }
 {
     let own = events[v as usize];
@@ -74,7 +72,7 @@ fn local_time(s: u16, time: u16) -> u16
     time
 }
 
-// What is live before an op that is kept, but for its inputs, from what is live after it. Loads and stores show all
+// What is live before an op that is not pure, but for its inputs, from what is live after it. Loads and stores show all
 // globals; where a basic block ends, the variables that outlive it are live, and where the block is left, the globals.
 fn live_but_inputs(
     s: u16,
@@ -84,18 +82,14 @@ fn live_but_inputs(
     events: &mut [u16; 256],
     floors: &mut [u16; 4],
 )
-    requires { ⌜ Stands rowOf (now block) at (getD (now block) at 0) × (s ≡ shapeAt (now block) at) × (time % 2 ≡ 0) × (time < 65535) ⌝ }
+    requires { ⌜ Stands rowOf (now block) at (getD (now block) at 0) × (s ≡ shapeAt (now block) at) × (time % 2 ≡ 0) × (time < 65535) × (pureAs s ≡ false) ⌝ }
     ensures { λ _. ⌜ Turns (now (events .entry)) (now (floors .entry)) time (beforeAt (entryAt (now (block .entry)) at) (now (block .entry)) at) (now (events .exit)) (now (floors .exit)) ⌝ }
 {
-    let r = role(s);
-    if r < LOADS {
+    if role(s) < LOADS {
         *floors = [time + 1, local_time(s, time), time, 0];
         return;
     }
     end_outputs(s, block, at, time, events);
-    if STORES < r {
-        return;
-    }
     *floors = [time + 1, floors[1], floors[2], 0];
 }
 
@@ -112,7 +106,7 @@ pub fn live_before(
     requires { ⌜ Stands rowOf (now block) at (getD (now block) at 0) × (s ≡ shapeAt (now block) at) × (time % 2 ≡ 0) × (time < 65535) × (mark ≡ 1 → roleOf rowOf (getD (now block) at 0) ≡ computing) ⌝ }
     ensures { λ _. ⌜ Turns (now (events .entry)) (now (floors .entry)) time (liveAs mark (now (block .entry)) at) (now (events .exit)) (now (floors .exit)) ⌝ }
 {
-    if CONSTANT <= role(s) {
+    if is_pure(s) {
         put_number(events, block[at + 1], time);
         if mark == 1 {
             return;
@@ -122,22 +116,4 @@ pub fn live_before(
     }
     live_but_inputs(s, block, at, time, events, floors);
     wake(block, at + 1 + outs(s), ins(s), time + 1, events);
-}
-
-// Whether an op is pure and its output is not live after it.
-pub fn dead_op(
-    s: u16,
-    block: &[u8],
-    at: usize,
-    events: &[u16; 256],
-    floors: &[u16; 4],
-    classes: &[u8; 256],
-) -> bool
-    requires { ⌜ Stands rowOf (now block) at (getD (now block) at 0) × (s ≡ shapeAt (now block) at) ⌝ }
-    ensures { λ r. ⌜ r ≡ dead (viewOf document01 (recordAt rowOf (now (block .entry)) at)) (liveOf (now (events .entry)) (now (floors .entry)) (now (classes .entry))) ⌝ }
-{
-    if role(s) < CONSTANT {
-        return false;
-    }
-    !is_live(events, floors, classes, block[at + 1])
 }

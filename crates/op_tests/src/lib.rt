@@ -1,16 +1,13 @@
-// The tests of one op, and the rule that it breaks where one fails.
+// The fast test of one op.
 ghost use mathlib.Core.Path.{_≡_};
-ghost use mathlib.Core.Bool.{false, _&&_};
-ghost use Prim.Native.Nat.{_+_, _-_, _≤_, _<_};
+ghost use mathlib.Core.Bool.{_&&_};
+ghost use Prim.Native.Nat.{_+_, _-_, _^_, _≤_, _<_};
+ghost use lib.Dec.{ltb};
 ghost use lib.ListN.{length, getD};
-ghost use Rattle.ops.specs.Rows.{outsIn, insIn, restIn, testIn, asksFor};
+ghost use Rattle.memory.specs.Bytes.{lowFirst};
 ghost use Rattle.ops.specs.Plans.{lengthBy, lengthIn, firstAskIn, rankOf, entryAt};
-ghost use Rattle.block.specs.Checks.{firstBroken};
-ghost use Rattle.block.specs.Scan.{opTests, entryRule, Placed, codeAt, meets, threeFit, refusalTable, labelFits, moreOk, opPasses};
-use kinds::body_length;
-use kinds::is_known;
-use kinds::operand_count;
-use kinds::types;
+ghost use Rattle.block.specs.Scan.{Placed, codeAt, meets, threeFit, refusalTable, labelFits, moreOk, opPasses};
+use memory::from_little_endian;
 use ops::LABELS;
 use ops::MAX_OPS;
 use plans::byte_ask;
@@ -24,15 +21,10 @@ use plans::plan;
 use plans::second_ask;
 use plans::second_at;
 use plans::straight;
-use rules::all_declared;
-use rules::all_typed;
 use rules::byte_ok;
 use rules::code;
-use rules::constant_ok;
 use rules::is_set;
-use rules::label_free;
 use rules::meets;
-use rules::rest_ok;
 
 // The output and the first two inputs of an op with this plan may be used so.
 fn three_fit(h: u64, block: &[u8], at: usize, vars: &[u8; 256]) -> bool
@@ -62,6 +54,15 @@ fn label_ok(h: u64, block: &[u8], at: usize, labels: &[u16; 32]) -> bool
 {
     let l = block[at + length(h) - 1];
     (l < LABELS) & !is_set(labels, l)
+}
+
+// A constant, the eight bytes from a place on, is below 2^32.
+fn constant_ok(block: &[u8], p: usize) -> bool
+    requires { ⌜ p + 8 ≤ length (now block) ⌝ }
+    ensures { λ r. ⌜ r ≡ ltb (lowFirst (now (block .entry)) p 8) (2 ^ 32) ⌝ }
+{
+    let end = p + 8;
+    from_little_endian(&block[p..end]) < 0x1_0000_0000
 }
 
 // What else its plan asks.
@@ -108,59 +109,4 @@ pub fn op_ok(
         return true;
     }
     more_ok(h, block, at, vars, labels)
-}
-
-// The rule from 9 on that it breaks, where the fast test fails: 8 if no other. e is the entry of its kind.
-fn broken_rule(
-    e: u32,
-    block: &[u8],
-    at: usize,
-    ops: usize,
-    vars: &[u8; 256],
-    labels: &[u16; 32],
-) -> u8
-    requires { ⌜ (at + (outsIn e + insIn e + restIn e) < length (now block)) × (asksFor (testIn e) ≤ restIn e) ⌝ }
-    ensures { λ r. ⌜ r ≡ firstBroken (opTests e (now (block .entry)) at ops (now (vars .entry)) (now (labels .entry)) false) ⌝ }
-{
-    if MAX_OPS <= ops {
-        return 9;
-    }
-    let count = operand_count(e);
-    if !all_declared(block, at + 1, count, vars) {
-        return 4;
-    }
-    if !all_typed(block, at + 1, count, types(e), vars) {
-        return 5;
-    }
-    if !rest_ok(e, block, at + 1 + count) {
-        return 6;
-    }
-    if !label_free(e, block, at, labels) {
-        return 7;
-    }
-    8
-}
-
-// The rule that the record at a place breaks, after ops ops, where a test fails.
-pub fn record_rule(
-    e: u32,
-    block: &[u8],
-    at: usize,
-    ops: usize,
-    vars: &[u8; 256],
-    labels: &[u16; 32],
-) -> u8
-    requires { ⌜ (at < length (now block)) × (asksFor (testIn e) ≤ restIn e) ⌝ }
-    ensures { λ r. ⌜ r ≡ entryRule e (now (block .entry)) at ops (now (vars .entry)) (now (labels .entry)) false ⌝ }
-{
-    if !is_known(e) {
-        return 2;
-    }
-    if block.len() - at <= body_length(e) {
-        return 1;
-    }
-    if block[at] == 1 {
-        return 3;
-    }
-    broken_rule(e, block, at, ops, vars, labels)
 }

@@ -34,7 +34,10 @@ restAs s = s / 256 % 16
 abbrev pub roleAs : ℕ → ℕ
 roleAs s = s / 4096
 
--- the op computes; it sets a label; it may jump to one
+-- the op is pure; it computes; it sets a label; it may jump to one
+abbrev pub pureAs : ℕ → Bool
+pureAs s = ltb 7 (roleAs s)
+
 abbrev pub computesAs : ℕ → Bool
 computesAs s = ltb 8 (roleAs s)
 

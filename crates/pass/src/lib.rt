@@ -5,7 +5,7 @@ ghost use Prim.Native.Nat.{ℕ, _≤_};
 ghost use lib.Dec.{ltb};
 ghost use lib.ListN.{getD};
 ghost use Rattle.ops.specs.Shapes.{shapeTable};
-ghost use Rattle.passes.specs.Passes.{passOf};
+ghost use Rattle.passes.specs.Passes.{Optimised};
 ghost use Rattle.passes.specs.Ready.{classBy, classIn, ReadyToPass};
 use passes::Written;
 use rewrite::write_result;
@@ -48,7 +48,7 @@ fn write_short(
     out: &mut [u8],
 ) -> Written
     requires { ⌜ ReadyToPass (now block) (now places) (now classes) start ops × (ops ≤ 64) × (now shapes ≡ shapeTable) ⌝ }
-    ensures { λ r. ⌜ (r ≡ (passOf (now (block .entry)) (now (out .entry))) .answer) × (now (out .exit) ≡ (passOf (now (block .entry)) (now (out .entry))) .out) ⌝ }
+    ensures { λ r. ⌜ Optimised (now (block .entry)) (now (out .entry)) r (now (out .exit)) ⌝ }
 {
     let mut marks = [0u8; 64];
     let mut constants = [0u64; 64];
@@ -76,7 +76,7 @@ fn write_long(
     out: &mut [u8],
 ) -> Written
     requires { ⌜ ReadyToPass (now block) (now places) (now classes) start ops × (now shapes ≡ shapeTable) ⌝ }
-    ensures { λ r. ⌜ (r ≡ (passOf (now (block .entry)) (now (out .entry))) .answer) × (now (out .exit) ≡ (passOf (now (block .entry)) (now (out .entry))) .out) ⌝ }
+    ensures { λ r. ⌜ Optimised (now (block .entry)) (now (out .entry)) r (now (out .exit)) ⌝ }
 {
     let mut marks = [0u8; 256];
     let mut constants = [0u64; 256];
@@ -95,7 +95,7 @@ fn write_long(
 
 // The pass of a block: its result's length, the result in out; or the rule that is broken.
 pub fn pass(block: &[u8], out: &mut [u8]) -> Written
-    ensures { λ r. ⌜ (r ≡ (passOf (now (block .entry)) (now (out .entry))) .answer) × (now (out .exit) ≡ (passOf (now (block .entry)) (now (out .entry))) .out) ⌝ }
+    ensures { λ r. ⌜ Optimised (now (block .entry)) (now (out .entry)) r (now (out .exit)) ⌝ }
 {
     let mut base = [15u8; 256];
     let mut places = [0u16; 256];

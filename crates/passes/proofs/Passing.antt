@@ -6,7 +6,7 @@ use Prim.Native.Nat.{ℕ, _+_, _*_, _≤_, _<_}
 use native.Mathlib.Omega.{arith}
 use lib.Dec.{ltb}
 use lib.ListN.{length, getD, take, drop, length-append}
-use lib.Seq.{take-at, sets, length-sets, sets-eq}
+use lib.Seq.{take-at, sets, sets-eq}
 use borrow.Author.Tests.{lt-leb}
 use native.Mathlib.Nat.{zero-add}
 use Rattle.theory.specs.Prune.{prune}
@@ -16,22 +16,22 @@ use Rattle.ops.specs.Kinds.{rowOf, document01}
 use Rattle.block.specs.Checks.{checkOf, checkBy}
 use Rattle.block.specs.Records.{cutOf, recordsOf, recordBytes, declarations, opsFrom, classesOf}
 use Rattle.block.specs.Rules.{start as unread, globalsIn, keptIn}
-use Rattle.block.specs.Scan.{Approved, Scanned, rejected, approved}
+use Rattle.block.specs.Scan.{Approved, Scanned}
 use Rattle.block.proofs.Accepts.{check-accepts}
 use Rattle.block.proofs.Checker.{declaredIn, few-ops}
 use Rattle.block.proofs.Cut.{split-records}
 use Rattle.block.proofs.Declaring.{classes-length}
 use Rattle.block.proofs.Meaning.{cut-together}
 use Rattle.block.proofs.Parts.{Parts, parts}
+use Rattle.block.proofs.Scanned.{approve}
 use Rattle.passes.specs.Knows.{foldedOps}
 use Rattle.passes.specs.Laid.{opsAt, keptFrom}
-use Rattle.passes.specs.Live.{Keeps}
+use Rattle.passes.specs.Live.{Keeps, emitted}
 use Rattle.passes.specs.Passes.{passOps, resultOf, Passed, passRefused, written, passChecked, passOf, passBy}
 use Rattle.passes.specs.Ready.{classIn, ClassesOf, ReadyToPass}
 use Rattle.passes.proofs.Classes.{globals-first, classes-so}
 use Rattle.passes.proofs.Placing.{scan-laid, scan-ops, scan-first}
 use Rattle.passes.proofs.Result.{declarations-size, ops-size, concat-append, parts-size, kept-parts, result-of, pass-answers}
-use Rattle.passes.proofs.Stores.{sets-append}
 use Rattle.block.specs.declared.Verdict.the-variants.{Accepted, Refused as CheckRefused}
 use Rattle.passes.specs.declared.Written.the-variants.{Refused, Length}
 use Rattle.ops.proofs.Document01.{lawful}
@@ -103,19 +103,20 @@ module _ {block places classes : List ℕ} {start ops : ℕ} (r : ReadyToPass bl
     pass-short {out} l =
         let e = no-room out (omega (arith, result-size, l)) in (sym (ap (λ (p : Passed). p .answer) e), sym (ap (λ (p : Passed). p .out) e))
 
-    -- the declarations are stored, then the kept ops
-    module _ (out : List ℕ) {out₁ : List ℕ} (l : start + size ≤ length out) (e : out₁ ≡ sets out 0 (take start (drop 0 block))) where
-      pub ops-fit : start + length (recordBytes (keptFrom 0 marks (foldedOps (opsAt block places 0 ops)))) ≤ length out₁
-      ops-fit = omega (arith, ap length e, length-sets out 0 (take start (drop 0 block)), l, k .size-is)
+    -- the declarations and the kept ops are stored
+    emitted-is : emitted block places marks ops ≡ resultOf document01 block
+    emitted-is = ap (λ (n : ℕ). take n block ++ left) (r .first-is) ∙ ap (λ (x : List ℕ). x ++ left) declared-bytes ∙ sym result-is
 
-      stored : {out₂ : List ℕ} → out₂ ≡ sets out₁ start left → out₂ ≡ resultOf document01 block ++ drop (length (resultOf document01 block)) out
+    module _ (out : List ℕ) (l : start + size ≤ length out) where
+      pub all-fit : length (emitted block places marks ops) ≤ length out
+      all-fit = omega (arith, ap length emitted-is, result-size, l)
+
+      stored : {out′ : List ℕ} → out′ ≡ sets out 0 (emitted block places marks ops) → out′ ≡ resultOf document01 block ++ drop (length (resultOf document01 block)) out
       stored q =
-          q ∙ ap₂ (λ (x : List ℕ) (m : ℕ). sets x m left) (e ∙ ap (sets out 0) declared-bytes) (r .start-is ∙ sym (zero-add (length (recordBytes ds))))
-          ∙ sym (sets-append out 0 (recordBytes ds) left) ∙ ap (sets out 0) (sym result-is) ∙ sets-eq (resultOf document01 block) out 0 (omega (arith, l, result-size))
+          q ∙ ap (sets out 0) emitted-is ∙ sets-eq (resultOf document01 block) out 0 (omega (arith, l, result-size))
           ∙ ap (λ (m : ℕ). resultOf document01 block ++ drop m out) (zero-add (length (resultOf document01 block)))
 
-      pub pass-stores : {out₂ : List ℕ} → out₂ ≡ sets out₁ start (recordBytes (keptFrom 0 marks (foldedOps (opsAt block places 0 ops))))
-          → (Length (start + size) ≡ (passOf block out) .answer) × (out₂ ≡ (passOf block out) .out)
+      pub pass-stores : {out′ : List ℕ} → out′ ≡ sets out 0 (emitted block places marks ops) → (Length (start + size) ≡ (passOf block out) .answer) × (out′ ≡ (passOf block out) .out)
       pass-stores q =
           let a = pass-answers document01 block out (r .accepted) (omega (arith, l, result-size)) in
           (ap Length result-size ∙ sym (ap (λ (p : Passed). p .answer) a), stored q ∙ sym (ap (λ (p : Passed). p .out) a))
@@ -165,16 +166,14 @@ module _ {block places₀ base places labels : List ℕ} {start n globals ops : 
   few : n ≤ 256
   few = omega (arith, a .few)
 
--- of an accepted block, and of a refused one
+-- of an accepted block
 module _ {block places₀ base places labels : List ℕ} {start n globals ops : ℕ} where
   pub ready-by : {rule place : ℕ} → Scanned rowOf block places₀ base places labels rule place start n globals ops → rule ≡ 0 → length places₀ ≡ 256 → (of : List ℕ)
       → ((v : ℕ) → getD of v 2 ≡ cond (ltb v n) (classIn base globals v) 2) → ReadyToPass block places of start ops
-  ready-by (rejected z q) e l of c = absurd (z e)
-  ready-by (approved a) e l of c = ready a l of c
+  ready-by s e l of c = ready (approve s e) l of c
 
   pub few-by : {rule place : ℕ} → Scanned rowOf block places₀ base places labels rule place start n globals ops → rule ≡ 0 → n ≤ 256
-  few-by (rejected z q) e = absurd (z e)
-  few-by (approved a) e = few a
+  few-by s e = few (approve s e)
 
 refused-pass : (block out : List ℕ) (number place : ℕ) → CheckRefused number place ≡ checkOf block → passOf block out ≡ passRefused number place out
 unfolding passBy passChecked

@@ -4,10 +4,11 @@ use mathlib.Core.List.{List, [], _∷_, _++_, append-assoc, append-nil}
 use Prim.Native.Nat.{ℕ, zero, suc, _+_, _-_, _/_, _%_, _≤_, _<_}
 use native.Mathlib.Omega.{arith}
 use lib.ListN.{length, getD, take, drop, set, length-drop, length-append}
-use lib.Seq.{length-take-le, sets, length-sets, take-suc, getD-drop, take-add, drop-drop}
+use lib.Seq.{length-take-le, take-all, sets, length-sets, take-suc, getD-drop, take-add, drop-drop}
 use native.Mathlib.Nat.{add-zero, le-antisymm}
 use native.Mathlib.Numerals.{add-one}
-use Rattle.memory.specs.Bytes.{putLow, bytesOf}
+use Rattle.memory.specs.Bytes.{bytesOf}
+use Rattle.memory.proofs.Numbers.{length-bytes}
 
 pub sets-append : (l : List ℕ) (i : ℕ) (xs ys : List ℕ) → sets l i (xs ++ ys) ≡ sets (sets l i xs) (i + length xs) ys
 sets-append l i [] ys = ap (λ (n : ℕ). sets l n ys) (sym (add-zero i))
@@ -41,17 +42,16 @@ copied-next {b} {out₀} {out} {from} {to} {j} c h =
 pub copied-ends : {b out₀ out : List ℕ} {from to j n : ℕ} → Copied b out₀ out from to j → j ≤ n → n ≤ j → out ≡ sets out₀ to (take n (drop from b))
 copied-ends {b} {out₀} {out} {from} {to} {j} c l h = let e : j ≡ _ = le-antisymm l h in c .so ∙ ap (λ (m : ℕ). sets out₀ to (take m (drop from b))) e
 
--- the low bytes of a number are stored as its bytes
-low-sets : (n : ℕ) (m : List ℕ) (p x : ℕ) → putLow m p n x ≡ sets m p (bytesOf n x)
-unfolding putLow bytesOf
-low-sets zero m p x = refl
-low-sets (suc n) m p x = low-sets n (set m p (x % 256)) (p + 1) (x / 256) ∙ ap (λ (q : ℕ). sets (set m p (x % 256)) q (bytesOf n (x / 256))) (add-one p)
-
-pub movi-sets : (out : List ℕ) {out′ : List ℕ} (to kind d x : ℕ) → out′ ≡ putLow (set (set out to kind) (to + 1) d) (to + 2) 8 x → out′ ≡ sets out to (kind ∷ d ∷ bytesOf 8 x)
-movi-sets out to kind d x e =
+-- a movi: its kind, its output, and the bytes of its number
+pub movi-sets : (out : List ℕ) {out′ bytes : List ℕ} (to kind d x : ℕ) → bytes ≡ bytesOf 8 x → out′ ≡ sets (set (set out to kind) (to + 1) d) (to + 2) (take 8 (drop 0 bytes))
+    → out′ ≡ sets out to (kind ∷ d ∷ bytesOf 8 x)
+movi-sets out to kind d x z e =
     let q : to + 2 ≡ suc (suc to) = omega arith in
-    e ∙ low-sets 8 (set (set out to kind) (to + 1) d) (to + 2) x
+    e ∙ ap (λ (y : List ℕ). sets (set (set out to kind) (to + 1) d) (to + 2) (take 8 y)) z ∙ ap (sets (set (set out to kind) (to + 1) d) (to + 2)) (all-eight x)
     ∙ ap₂ (λ (a c : ℕ). sets (set (set out to kind) a d) c (bytesOf 8 x)) (add-one to) q
+  where
+    all-eight : (x : ℕ) → take 8 (bytesOf 8 x) ≡ bytesOf 8 x
+    all-eight x = take-all 8 (bytesOf 8 x) (omega (arith, length-bytes 8 x))
 
 -- records copied in runs: some bytes are stored, those of b between two places wait, more are to come, and all of them will stand from start on
 pub record Copying (b out₀ out : List ℕ) (start from at to : ℕ) (all more : List ℕ) : Type 0 where

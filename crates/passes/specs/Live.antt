@@ -1,10 +1,10 @@
 -- Liveness and what prune keeps, as the code's sets and arrays hold them. Assumes nothing.
 use mathlib.Core.Path.{_≡_}
 use mathlib.Core.Bool.{cond, _||_}
-use mathlib.Core.List.{List, [], _∷_}
+use mathlib.Core.List.{List, [], _∷_, _++_}
 use Prim.Native.Nat.{ℕ, _+_, _%_, _≤_, _<_}
 use lib.Dec.{eqb, ltb}
-use lib.ListN.{length, getD}
+use lib.ListN.{length, getD, take}
 use Rattle.theory.specs.Sets.{Vars, has, without, both}
 use Rattle.theory.specs.Prune.{before, prune}
 use Rattle.ops.specs.Rows.{Role, roleIn, roleNo, outsIn, isPure, isClosing, isSetting, isJumping}
@@ -13,7 +13,7 @@ use Rattle.ops.specs.Kinds.{rowOf, document01}
 use Rattle.block.specs.Records.{recordBytes}
 use Rattle.block.specs.Rules.{globalsIn, keptIn}
 use Rattle.block.specs.Scan.{recordAt}
-use Rattle.passes.specs.Laid.{opsAt, Leaves, keptFrom}
+use Rattle.passes.specs.Laid.{opsAt, placeOf, Leaves, keptFrom}
 use Rattle.passes.specs.Knows.{foldedOps}
 
 -- what is live before an op, from what is live after it
@@ -70,3 +70,7 @@ pub record Keeps (ops : List (List ℕ)) (globals kept : Vars) (marks₀ marks :
 -- ops that are kept, with what fold leaves of them
 pub record Marked (block places marks constants : List ℕ) (ops : ℕ) : Type 0 where
   pub left : (i : ℕ) → i < ops → getD marks i 0 < 2 → Leaves block (getD places i 0) (getD marks i 0) (getD constants i 0) (getD (foldedOps (opsAt block places 0 ops)) i [])
+
+-- the bytes before the first op, and the ops that are kept
+abbrev pub emitted : List ℕ → List ℕ → List ℕ → ℕ → List ℕ
+emitted block places marks ops = take (placeOf block places ops 0) block ++ recordBytes (keptFrom 0 marks (foldedOps (opsAt block places 0 ops)))

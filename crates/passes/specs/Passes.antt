@@ -1,6 +1,7 @@
 -- The pass: its answer, and the bytes that it leaves in the output buffer. Assumes nothing.
 use Prim.Native.Nat.{ℕ}
 use mathlib.Core.Bool.{cond}
+use mathlib.Core.Path.{_≡_}
 use mathlib.Core.List.{List, _++_}
 use lib.Dec.{leb}
 use lib.ListN.{length, drop}
@@ -50,3 +51,7 @@ passBy D block out = passChecked (resultOf D block) out (checkBy (D .rows) block
 -- document 01's
 abbrev pub passOf : List ℕ → List ℕ → Passed
 passOf = passBy document01
+
+-- a call of the pass that was lent this block and the buffer out gave this answer and left out′
+abbrev pub Optimised : List ℕ → List ℕ → Written → List ℕ → Type 0
+Optimised block out answer out′ = (answer ≡ (passOf block out) .answer) × (out′ ≡ (passOf block out) .out)

@@ -8,26 +8,17 @@ use Rattle.theory.specs.Fold.{nothing, baseRule, Still}
 use Rattle.theory.specs.Prune.{AllUsed, liveAll}
 use Rattle.ops.specs.Ops.{tcg, folding}
 use Rattle.ops.specs.Kinds.{rowOf, document01}
-use Rattle.block.specs.Checks.{checkOf}
+use Rattle.block.specs.Checks.{Checked}
 use Rattle.block.specs.Records.{recordsOf, declarations, opsFrom, classesOf}
 use Rattle.block.specs.Rules.{globalsIn, keptIn}
 use Rattle.runs.specs.Runs.{ranAs, runOf}
 use Rattle.passes.specs.Demand.{Fit, Room, unstatedEnd, SameEnd}
-use Rattle.passes.specs.Passes.{resultOf, passOf}
+use Rattle.passes.specs.Passes.{resultOf, Optimised}
 use Rattle.block.specs.declared.Verdict.{Verdict}
 use Rattle.block.specs.declared.Verdict.the-variants.{Accepted}
 use Rattle.runs.specs.declared.Ending.{Ending}
 use Rattle.passes.specs.declared.Written.{Written}
 use Rattle.passes.specs.declared.Written.the-variants.{Length}
-
--- a call of the check answered this verdict
-pub record Checked (block : List ℕ) (verdict : Verdict) : Type 0 where
-  pub answered : verdict ≡ checkOf block
-
--- a call of the pass that was lent the buffer out gave this answer and left out′
-pub record Optimised (block out : List ℕ) (answer : Written) (out′ : List ℕ) : Type 0 where
-  pub answered : answer ≡ (passOf block out) .answer
-  pub left : out′ ≡ (passOf block out) .out
 
 -- a call of the run that was lent globals and memory ended so and left globals′ and memory′
 pub record Run (block globals memory : List ℕ) (ending : Ending) (globals′ memory′ : List ℕ) : Type 0 where

@@ -3,15 +3,38 @@ ghost use mathlib.Core.Path.{_≡_};
 ghost use mathlib.Core.Bool.{cond};
 ghost use Prim.Native.Nat.{_-_, _≤_};
 ghost use lib.Dec.{eqb};
-ghost use lib.ListN.{length};
-ghost use Rattle.ops.specs.Shapes.{shapeTable};
+ghost use lib.ListN.{length, getD};
+ghost use Rattle.theory.specs.Prune.{dead};
+ghost use Rattle.ops.specs.Ops.{viewOf};
+ghost use Rattle.ops.specs.Kinds.{rowOf, document01};
+ghost use Rattle.ops.specs.Shapes.{shapeTable, shapeAt};
 ghost use Rattle.block.specs.Rules.{globalsIn, keptIn};
+ghost use Rattle.block.specs.Scan.{recordAt, Stands};
 ghost use Rattle.passes.specs.Knows.{foldedOps, Noted};
 ghost use Rattle.passes.specs.Laid.{opsAt, Laid};
-ghost use Rattle.passes.specs.Live.{Classed, Keeps};
-use live::dead_op;
+ghost use Rattle.passes.specs.Live.{liveOf, Classed, Keeps};
+use live::is_live;
 use live::live_before;
+use shapes::is_pure;
 use shapes::shape;
+
+// Whether an op is pure and its output is not live after it.
+fn dead_op(
+    s: u16,
+    block: &[u8],
+    at: usize,
+    events: &[u16; 256],
+    floors: &[u16; 4],
+    classes: &[u8; 256],
+) -> bool
+    requires { ⌜ Stands rowOf (now block) at (getD (now block) at 0) × (s ≡ shapeAt (now block) at) ⌝ }
+    ensures { λ r. ⌜ r ≡ dead (viewOf document01 (recordAt rowOf (now (block .entry)) at)) (liveOf (now (events .entry)) (now (floors .entry)) (now (classes .entry))) ⌝ }
+{
+    if !is_pure(s) {
+        return false;
+    }
+    !is_live(events, floors, classes, block[at + 1])
+}
 
 // The length of what fold leaves of the op from a place to the next.
 fn length_left(mark: u8, at: usize, next: usize) -> usize

@@ -3,9 +3,8 @@ ghost use mathlib.Core.Path.{_≡_};
 ghost use Prim.Native.Nat.{_≤_};
 ghost use lib.ListN.{length};
 ghost use Rattle.ops.specs.Shapes.{shapeTable};
-ghost use Rattle.passes.specs.Passes.{passOf};
+ghost use Rattle.passes.specs.Passes.{Optimised};
 ghost use Rattle.passes.specs.Ready.{ReadyToPass};
-use emit::copy;
 use passes::Written;
 
 // The pass of an accepted block, with room for the marks and the constants of its ops.
@@ -21,7 +20,7 @@ pub fn write_result(
     out: &mut [u8],
 ) -> Written
     requires { ⌜ ReadyToPass (now block) (now places) (now classes) start ops × (ops ≤ length (now marks)) × (ops ≤ length (now constants)) × (now shapes ≡ shapeTable) ⌝ }
-    ensures { λ r. ⌜ (r ≡ (passOf (now (block .entry)) (now (out .entry))) .answer) × (now (out .exit) ≡ (passOf (now (block .entry)) (now (out .entry))) .out) ⌝ }
+    ensures { λ r. ⌜ Optimised (now (block .entry)) (now (out .entry)) r (now (out .exit)) ⌝ }
 {
     fold::fold(shapes, block, ops, places, marks, constants);
     let size = start + prune::prune(shapes, block, ops, places, classes, marks);
@@ -31,7 +30,6 @@ pub fn write_result(
             place: 0,
         };
     }
-    copy(block, 0, start, out, 0);
-    emit::emit(shapes, block, start, ops, places, marks, constants, out);
+    emit::emit(shapes, block, ops, places, marks, constants, out);
     Written::Length(size)
 }

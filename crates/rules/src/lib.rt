@@ -1,23 +1,30 @@
-// The rules of one op, each by itself. e is the entry of its kind.
+// The rules of one op, each by itself, and the first that it breaks. e is the entry of its kind.
 ghost use mathlib.Core.Path.{_≡_};
-ghost use mathlib.Core.Bool.{true, not, _&&_, _||_};
-ghost use Prim.Native.Nat.{_+_, _%_, _^_, _≤_, _<_};
+ghost use mathlib.Core.Bool.{true, false, not, _&&_, _||_};
+ghost use Prim.Native.Nat.{_+_, _%_, _≤_, _<_};
 ghost use lib.Bits.{bitAnd};
-ghost use lib.Dec.{eqb, ltb};
-ghost use lib.ListN.{length, getD, take, drop};
-ghost use Rattle.memory.specs.Bytes.{lowFirst};
-ghost use Rattle.ops.specs.Rows.{outsIn, insIn, restIn, testIn, rowIn, condOk, labelOk, asksFor, testOk};
+ghost use lib.Dec.{eqb};
+ghost use lib.ListN.{length, getD};
+ghost use Rattle.ops.specs.Limits.{labelCount};
+ghost use Rattle.ops.specs.Rows.{outsIn, insIn, restIn, rowIn, condOk, labelOk, testOk};
 ghost use Rattle.ops.specs.Ops.{bytesAt};
-ghost use Rattle.block.specs.Rules.{labelFree, allSet};
 ghost use Rattle.ops.specs.Plans.{ask};
-ghost use Rattle.block.specs.Scan.{codesIn, declaredAll, meets, operandsFit, marked, numbered};
+ghost use Rattle.block.specs.Checks.{firstBroken};
+ghost use Rattle.block.specs.Rules.{labelFree, allSet};
+ghost use Rattle.block.specs.Scan.{codesIn, declaredAll, meets, operandsFit, marked, numbered, opTests, entryRule};
 use kinds::body_length;
 use kinds::is_jumping;
+use kinds::is_known;
 use kinds::is_setting;
+use kinds::operand_count;
+use kinds::rest;
 use kinds::test;
+use kinds::types;
+use memory::byte_at;
 use memory::flags_ok;
-use memory::low_first;
+use memory::from_little_endian;
 use ops::LABELS;
+use ops::MAX_OPS;
 
 pub mod refusals;
 
@@ -30,7 +37,7 @@ pub fn code(vars: &[u8; 256], v: u8) -> u8
 }
 
 // Rule 4: each of count variables named from p on is declared.
-pub fn all_declared(block: &[u8], p: usize, count: usize, vars: &[u8; 256]) -> bool
+fn all_declared(block: &[u8], p: usize, count: usize, vars: &[u8; 256]) -> bool
     requires { ⌜ p + count ≤ length (now block) ⌝ }
     ensures { λ r. ⌜ r ≡ declaredAll (now (vars .entry)) (bytesAt (now (block .entry)) p count) ⌝ }
 {
@@ -59,7 +66,7 @@ fn type_ask(codes: u32) -> u32
 }
 
 // Rule 5: each of count variables named from p on has its type, two bits of codes.
-pub fn all_typed(block: &[u8], p: usize, count: usize, codes: u32, vars: &[u8; 256]) -> bool
+fn all_typed(block: &[u8], p: usize, count: usize, codes: u32, vars: &[u8; 256]) -> bool
     requires { ⌜ p + count ≤ length (now block) ⌝ }
     ensures { λ r. ⌜ r ≡ operandsFit (now (vars .entry)) count codes (bytesAt (now (block .entry)) p count) ⌝ }
 {
@@ -75,35 +82,25 @@ pub fn all_typed(block: &[u8], p: usize, count: usize, codes: u32, vars: &[u8; 2
     true
 }
 
-// A constant is below 2^32.
-pub fn constant_ok(block: &[u8], p: usize) -> bool
-    requires { ⌜ p + 8 ≤ length (now block) ⌝ }
-    ensures { λ r. ⌜ r ≡ ltb (lowFirst (now (block .entry)) p 8) (2 ^ 32) ⌝ }
-{
-    low_first(block, p, 8) < 0x1_0000_0000
-}
-
 fn branch_ok(c: u8, l: u8) -> bool
     ensures { λ r. ⌜ r ≡ (condOk c && labelOk l) ⌝ }
 {
     c <= 9 && l < LABELS
 }
 
-// Rule 6: the bytes from p on, which follow the operands, by the number of their test.
-pub fn rest_ok(e: u32, block: &[u8], p: usize) -> bool
-    requires { ⌜ (p + restIn e ≤ length (now block)) × (asksFor (testIn e) ≤ restIn e) ⌝ }
-    ensures { λ r. ⌜ r ≡ testOk (testIn e) (take (restIn e) (drop p (now (block .entry)))) ⌝ }
+// Rule 6: the bytes that follow the operands, by the number of their test.
+fn rest_ok(t: u32, bytes: &[u8]) -> bool
+    ensures { λ r. ⌜ r ≡ testOk t (now (bytes .entry)) ⌝ }
 {
-    let t = test(e);
     match t {
-        1 => block[p] < LABELS,
-        2 => block[p] <= 9,
-        3 => branch_ok(block[p], block[p + 1]),
-        4 => flags_ok(block[p], false, false),
-        5 => flags_ok(block[p], true, false),
-        6 => flags_ok(block[p], false, true),
-        7 => flags_ok(block[p], true, true),
-        8 => constant_ok(block, p),
+        1 => byte_at(bytes, 0) < LABELS,
+        2 => byte_at(bytes, 0) <= 9,
+        3 => branch_ok(byte_at(bytes, 0), byte_at(bytes, 1)),
+        4 => flags_ok(byte_at(bytes, 0), false, false),
+        5 => flags_ok(byte_at(bytes, 0), true, false),
+        6 => flags_ok(byte_at(bytes, 0), false, true),
+        7 => flags_ok(byte_at(bytes, 0), true, true),
+        8 => from_little_endian(bytes) < 0x1_0000_0000,
         _ => true,
     }
 }
@@ -134,7 +131,7 @@ pub fn is_set(labels: &[u16; 32], l: u8) -> bool
 }
 
 // Rule 7: the label of the op that starts at a place, its last byte, is not set yet.
-pub fn label_free(e: u32, block: &[u8], at: usize, labels: &[u16; 32]) -> bool
+fn label_free(e: u32, block: &[u8], at: usize, labels: &[u16; 32]) -> bool
     requires { ⌜ at + (outsIn e + insIn e + restIn e) < length (now block) ⌝ }
     ensures { λ r. ⌜ r ≡ labelFree (rowIn e) (numbered (now (labels .entry))) (getD (now (block .entry)) (at + (outsIn e + insIn e + restIn e)) 0) ⌝ }
 {
@@ -151,12 +148,11 @@ fn settled(target: u8, number: u16) -> bool
     target != 1 || number != 0
 }
 
-// Rule 7 at the end: each label below n that is jumped to is set.
-pub fn all_set(targets: &[u8; 32], labels: &[u16; 32], n: usize) -> bool
-    requires { ⌜ n ≤ 32 ⌝ }
-    ensures { λ r. ⌜ r ≡ allSet (marked (now (targets .entry))) (numbered (now (labels .entry))) n ⌝ }
+// Rule 7 at the end: each label that is jumped to is set.
+pub fn all_set(targets: &[u8; 32], labels: &[u16; 32]) -> bool
+    ensures { λ r. ⌜ r ≡ allSet (marked (now (targets .entry))) (numbered (now (labels .entry))) labelCount ⌝ }
 {
-    let mut i = n;
+    let mut i = LABELS as usize;
     while 0 < i {
         i -= 1;
         if !settled(targets[i], labels[i]) {
@@ -164,4 +160,63 @@ pub fn all_set(targets: &[u8; 32], labels: &[u16; 32], n: usize) -> bool
         }
     }
     true
+}
+
+// The rule from 9 on that it breaks, where the fast test fails: 8 if no other. e is the entry of its kind.
+fn broken_rule(
+    e: u32,
+    block: &[u8],
+    at: usize,
+    ops: usize,
+    vars: &[u8; 256],
+    labels: &[u16; 32],
+) -> u8
+    requires { ⌜ at + (outsIn e + insIn e + restIn e) < length (now block) ⌝ }
+    ensures { λ r. ⌜ r ≡ firstBroken (opTests e (now (block .entry)) at ops (now (vars .entry)) (now (labels .entry)) false) ⌝ }
+{
+    if MAX_OPS <= ops {
+        return 9;
+    }
+    let count = operand_count(e);
+    if !all_declared(block, at + 1, count, vars) {
+        return 4;
+    }
+    if !all_typed(block, at + 1, count, types(e), vars) {
+        return 5;
+    }
+    let p = at + 1 + count;
+    let end = p + rest(e);
+    if !rest_ok(test(e), &block[p..end]) {
+        return 6;
+    }
+    if !label_free(e, block, at, labels) {
+        return 7;
+    }
+    8
+}
+
+// The rule that the record at a place breaks, after ops ops, where a test fails.
+pub fn record_rule(
+    e: u32,
+    block: &[u8],
+    at: usize,
+    ops: usize,
+    vars: &[u8; 256],
+    labels: &[u16; 32],
+) -> u8
+    ensures { λ r. ⌜ r ≡ entryRule e (now (block .entry)) at ops (now (vars .entry)) (now (labels .entry)) false ⌝ }
+{
+    if !is_known(e) {
+        return 2;
+    }
+    if block.len() <= at {
+        return 1;
+    }
+    if block.len() - at <= body_length(e) {
+        return 1;
+    }
+    if block[at] == 1 {
+        return 3;
+    }
+    broken_rule(e, block, at, ops, vars, labels)
 }

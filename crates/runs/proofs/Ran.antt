@@ -14,9 +14,9 @@ use Rattle.ops.specs.Limits.{maxMemory}
 use Rattle.ops.specs.Ops.{tcg}
 use Rattle.ops.specs.Kinds.{rowOf, document01}
 use Rattle.block.specs.Records.{recordsOf, declarations, opsFrom, classesOf, globalCount}
-use Rattle.block.specs.Scan.{Approved, Scanned, rejected, approved}
+use Rattle.block.specs.Scan.{Approved, Scanned}
 use Rattle.block.proofs.Declaring.{classes-length, types-length}
-use Rattle.block.proofs.Scanned.{refuse-by}
+use Rattle.block.proofs.Scanned.{refuse-by, approve}
 use Rattle.runs.proofs.Lending.{codes-fit}
 use Rattle.runs.specs.Runs.{fits, valuesFrom, ranAs, answerOf, ranOf, opsRun, runOps, runRefused, runChecked, runOf, runBy}
 use Rattle.runs.specs.Evaluates.{envOf}
@@ -54,11 +54,7 @@ module _ {b places₀ base places labels : List ℕ} {rule place start n globals
 
   module _ (z : rule ≡ 0) where
     approved-by : Approved rowOf b places₀ base places labels start n globals ops
-    approved-by = go s z
-      where
-        go : {rule : ℕ} → Scanned rowOf b places₀ base places labels rule place start n globals ops → rule ≡ 0 → Approved rowOf b places₀ base places labels start n globals ops
-        go (rejected k q) e = absurd (k e)
-        go (approved a) e = a
+    approved-by = approve s z
 
     abbrev declared : List (List ℕ)
     declared = declarations (recordsOf rowOf b)

@@ -12,12 +12,11 @@ use declarations::scan_declarations;
 use kinds::entry;
 use op_marks::mark_op;
 use op_tests::op_ok;
-use op_tests::record_rule;
-use ops::LABELS;
 use plans::EXIT;
 use plans::rank;
 use plans::record_length;
 use rules::all_set;
+use rules::record_rule;
 use rules::refusals;
 
 // What the scan of the ops finds: the rule that is broken and its place, or 0 and how many ops there are.
@@ -48,7 +47,7 @@ fn end_rule(last: u8, targets: &[u8; 32], labels: &[u16; 32]) -> u8
     if last != EXIT {
         return 10;
     }
-    if !all_set(targets, labels, LABELS as usize) {
+    if !all_set(targets, labels) {
         return 7;
     }
     0

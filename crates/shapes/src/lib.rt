@@ -2,11 +2,12 @@
 ghost use mathlib.Core.Path.{_≡_};
 ghost use lib.Dec.{eqb};
 ghost use lib.ListN.{getD};
-ghost use Rattle.ops.specs.Shapes.{shapeTable, outsAs, typeAs, insAs, restAs, roleAs, computesAs, setsAs, jumpsAs};
+ghost use Rattle.ops.specs.Shapes.{shapeTable, outsAs, typeAs, insAs, restAs, roleAs, pureAs, computesAs, setsAs, jumpsAs};
 use ops::BRANCHES;
 use ops::CONSTANT;
 use ops::JUMPS_TO;
 use ops::SETS_LABEL;
+use ops::STORES;
 
 // A shape, in bits from the lowest: 2 for the outputs; 2 for the type of the first operand, 1 for 64 bits; 4 for the inputs; 4 for the bytes after the operands; 4 for
 // the number of the role.
@@ -313,6 +314,12 @@ pub fn role(s: u16) -> u32
     ensures { λ r. ⌜ r ≡ roleAs s ⌝ }
 {
     (s / 4096) as u32
+}
+
+pub fn is_pure(s: u16) -> bool
+    ensures { λ r. ⌜ r ≡ pureAs s ⌝ }
+{
+    STORES < role(s)
 }
 
 pub fn is_computing(s: u16) -> bool

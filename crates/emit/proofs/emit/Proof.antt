@@ -13,22 +13,22 @@ use Rattle.emit.proofs.emit.Statement.{statement}
 use Rattle.emit.proofs.emit.Tie as tie
 
 abbrev Inv-loop : tie.InvT-loop
-Inv-loop shapes block start ops places marks constants out₀ end from₀ to₀ i₀ out from to i = (i ≤ ops) × EmittingSo block places marks out₀ out ops start from to i
+Inv-loop shapes block ops places marks constants out₀ end from₀ to₀ i₀ out from to i = (i ≤ ops) × EmittingSo block places marks out₀ out ops from to i
 
 abbrev μ-loop : tie.MeasureT-loop
-μ-loop shapes block start ops places marks constants out₀ end from₀ to₀ i₀ out from to i = ops - i
+μ-loop shapes block ops places marks constants out₀ end from₀ to₀ i₀ out from to i = ops - i
 
 loop-holds : tie.Need-loop-holds Inv-loop μ-loop
-loop-holds c = (omega arith, emitting-start (c .before .before .before .before .before .pre .2) (c .before .before .before .before .before .pre .3))
+loop-holds c = (omega arith, emitting-start (c .before .before .before .before .before .pre .2))
 
 shared-slice-read-mark : tie.Need-shared-slice-read-mark Inv-loop μ-loop
-shared-slice-read-mark c = omega (arith, c .before .before .before .before .before .before .before .before .pre .5, c .before .loop-test .taken)
+shared-slice-read-mark c = omega (arith, c .before .before .before .before .before .before .before .before .pre .4, c .before .loop-test .taken)
 
 mul-at : tie.Need-mul-at Inv-loop μ-loop
 mul-at c = search needs
 
 shared-slice-read-at : tie.Need-shared-slice-read-at Inv-loop μ-loop
-shared-slice-read-at c = omega (arith, c .before .before .before .before .before .before .before .before .before .before .pre .4, c .before .before .before .loop-test .taken)
+shared-slice-read-at c = omega (arith, c .before .before .before .before .before .before .before .before .before .before .pre .3, c .before .before .before .loop-test .taken)
 
 cast-at : tie.Need-cast-at Inv-loop μ-loop
 cast-at c = omega (arith, c .shared-slice-known6 .given (c .before .before .before .before .loop .i))
@@ -40,10 +40,10 @@ shape-requires : tie.Need-shape-requires Inv-loop μ-loop
 shape-requires c κs = search needs
 
 mul-put-edit : tie.Need-mul-put-edit Inv-loop μ-loop
-mul-put-edit c = omega (arith, c .before .before .before .before .before .before .before .before .before .before .before .before .pre .6, c .before .before .before .before .before .loop-test .taken)
+mul-put-edit c = omega (arith, c .before .before .before .before .before .before .before .before .before .before .before .before .pre .5, c .before .before .before .before .before .loop-test .taken)
 
 shared-slice-read-put-edit : tie.Need-shared-slice-read-put-edit Inv-loop μ-loop
-shared-slice-read-put-edit c = omega (arith, c .before .before .before .before .before .before .before .before .before .before .before .before .before .pre .6, c .before .before .before .before .before .before .loop-test .taken)
+shared-slice-read-put-edit c = omega (arith, c .before .before .before .before .before .before .before .before .before .before .before .before .before .pre .5, c .before .before .before .before .before .before .loop-test .taken)
 
 put-edit-requires : tie.Need-put-edit-requires Inv-loop μ-loop
 put-edit-requires c κs =
@@ -52,9 +52,9 @@ put-edit-requires c κs =
     let more = c .before .before .before .before .before .before .before .loop-test .taken in (
       pre .0 .stands (loop .i) more,
       edit-computes (pre .0) (pre .1) (loop .inv .1) more,
-      shape-of _ (c .before .before .shape .ensures) (pre .7),
+      shape-of _ (c .before .before .shape .ensures) (pre .6),
       (here (pre .0) (pre .1) (loop .inv .1) more) .ordered,
-      edit-room (pre .0) (pre .1) (loop .inv .1) more (marked-some (c .before .before .before .before .before .if1 .taken)) (pre .8),
+      edit-room (pre .0) (pre .1) (loop .inv .1) more (marked-some (c .before .before .before .before .before .if1 .taken)) (pre .7),
     )
 
 add-place-at : tie.Need-add-place-at Inv-loop μ-loop
@@ -82,11 +82,11 @@ loop-again c =
     )
 
 sub-copy : tie.Need-sub-copy Inv-loop μ-loop
-sub-copy c = (run-fits (c .before .before .before .before .before .before .before .pre .0) (c .before .before .before .before .before .before .before .pre .1) (c .before .loop .inv .1) (c .loop-test .left) (c .before .before .before .before .before .before .before .pre .8)) .0
+sub-copy c = (run-fits (c .before .before .before .before .before .before .before .pre .0) (c .before .before .before .before .before .before .before .pre .1) (c .before .loop .inv .1) (c .loop-test .left) (c .before .before .before .before .before .before .before .pre .7)) .0
 
 copy-requires : tie.Need-copy-requires Inv-loop μ-loop
 copy-requires c κs =
-    let fits = run-fits (c .before .before .before .before .before .before .before .before .pre .0) (c .before .before .before .before .before .before .before .before .pre .1) (c .before .before .loop .inv .1) (c .before .loop-test .left) (c .before .before .before .before .before .before .before .before .pre .8) in
+    let fits = run-fits (c .before .before .before .before .before .before .before .before .pre .0) (c .before .before .before .before .before .before .before .before .pre .1) (c .before .before .loop .inv .1) (c .before .loop-test .left) (c .before .before .before .before .before .before .before .before .pre .7) in
     (omega (arith, fits .0), fits .1)
 
 same-length : tie.Need-same-length Inv-loop μ-loop

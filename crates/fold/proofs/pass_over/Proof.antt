@@ -1,7 +1,9 @@
 -- What is known after an op that stays, by the number of its role. Assumes nothing.
 use mathlib.Core.Path.{_≡_, refl}
+use Prim.Native.Nat.{_+_}
 use native.Mathlib.Omega.{arith}
 use lib.ListN.{getD}
+use Rattle.memory.proofs.Numbers.{low-slice}
 use Rattle.ops.specs.Rows.{constant, roleOf}
 use Rattle.ops.specs.Kinds.{rowOf}
 use Rattle.ops.proofs.Shapes.{outs-as, role-as}
@@ -27,19 +29,19 @@ add-learn c = search needs
 shared-slice-read-learn : tie.Need-shared-slice-read-learn
 shared-slice-read-learn c = inside (c .before .before .before .before .before .before .pre .0) (constant-so (c .before .before .before .before) (c .before .before .before .if1 .taken)) 1 (omega arith)
 
-add-low-first : tie.Need-add-low-first
-add-low-first c = search needs
-
-low-first-requires : tie.Need-low-first-requires
-low-first-requires c κs = (omega (arith, inside (c .before .before .before .before .before .before .pre .0) (constant-so (c .before .before .before .before) (c .before .before .before .if1 .taken)) 9 (omega arith)), omega arith)
+part-end : tie.Need-part-from-little-endian-end
+part-end c = omega (arith, inside (c .before .before .before .before .before .before .pre .0) (constant-so (c .before .before .before .before) (c .before .before .before .if1 .taken)) 9 (omega arith))
 
 learn-requires : tie.Need-learn-requires
 learn-requires c κs = search needs
 
 returns : tie.Need-returns
 returns c =
-    let start = c .before .before .before .before .before .before .before .before in
-    over-constant (start .pre .0) refl (role-as _ (start .pre .1) (c .before .before .before .before .before .before .role .ensures)) (marked (start .args .known .now)) (start .args .values .now) (c .before .before .before .before .before .if1 .taken) (c .before .low-first .ensures .0) (c .learn .ensures)
+    let k = c .before .before .before .before .before .before in
+    let start = k .before .before .before in
+    let a = start .args in
+    over-constant (start .pre .0) refl (role-as _ (start .pre .1) (k .before .role .ensures)) (marked (a .known .now)) (a .values .now) (k .if1 .taken)
+    (low-slice (a .block .now) (a .at + 2) (a .at + 10) (c .before .from-little-endian .ensures) (omega arith)) (c .learn .ensures)
 
 returns-2 : tie.Need-returns-2
 returns-2 c =
@@ -77,10 +79,14 @@ pass-over-spec =
     tie.close
     (tie.spec
     role-requires
+    (λ c. search needs)
+    (λ c. search needs)
     add-learn
     shared-slice-read-learn
-    add-low-first
-    low-first-requires
+    (λ c. search needs)
+    (λ c. search needs)
+    part-end
+    (λ c κs. search needs)
     learn-requires
     returns
     returns-2

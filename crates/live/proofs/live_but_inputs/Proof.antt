@@ -1,8 +1,11 @@
 -- What is live before an op but for its inputs, by the number of its role. Assumes nothing.
+use native.Mathlib.Omega.{arith}
+use borrow.Author.Tests.{ltb-false}
 use borrow.Author.Needs.{needs}
 use Rattle.ops.specs.Plans.{entryAt}
+use Rattle.ops.specs.Shapes.{roleAs}
 use Rattle.ops.proofs.Shapes.{role-as, labels-as}
-use Rattle.passes.proofs.Events.{turn-ends, turn-pure, turn-access}
+use Rattle.passes.proofs.Events.{turn-ends, turn-access}
 use Rattle.live.proofs.live_but_inputs.Statement.{statement}
 use Rattle.live.proofs.live_but_inputs.Tie as tie
 
@@ -24,12 +27,6 @@ returns c =
 end-outputs-requires : tie.Need-end-outputs-requires
 end-outputs-requires c κs = search needs
 
-returns-2 : tie.Need-returns-2
-returns-2 c =
-    let s = c .before .before .before .before .before .before in
-    let a = s .args in
-    turn-pure (entryAt (a .block .now) (a .at)) (a .time) (a .block .now) (a .at) (a .events .now) (a .floors .now) (role-as _ (s .pre .1) (c .before .before .before .before .role .ensures)) (s .pre .2) _ (c .before .end-outputs .ensures) (c .if2 .taken)
-
 add-t13 : tie.Need-add-t13
 add-t13 c = search needs
 
@@ -39,11 +36,13 @@ element-copy-out-t16 c = search needs
 element-copy-out-t19 : tie.Need-element-copy-out-t19
 element-copy-out-t19 c = search needs
 
-returns-3 : tie.Need-returns-3
-returns-3 c =
-    let s = c .before .before .before .before .before .before .before .before .before in
+returns-2 : tie.Need-returns-2
+returns-2 c =
+    let e = c .before .before .before .before .before in
+    let s = e .before .before .before in
     let a = s .args in
-    turn-access (entryAt (a .block .now) (a .at)) (a .time) (a .block .now) (a .at) (a .events .now) (a .floors .now) (role-as _ (s .pre .1) (c .before .before .before .before .before .before .before .role .ensures)) (s .pre .2) _ (c .before .before .before .before .end-outputs .ensures) (c .before .before .before .before .before .before .if1 .left) (c .before .before .before .if2 .left)
+    turn-access (entryAt (a .block .now) (a .at)) (a .time) (a .block .now) (a .at) (a .events .now) (a .floors .now) (role-as _ (s .pre .1) (e .before .role .ensures)) (s .pre .2) _ (c .before .before .before .end-outputs .ensures) (e .if1 .left)
+    (omega (arith, e .before .role .ensures, ltb-false 7 (roleAs (a .s)) (s .pre .4)))
 
 pub live-but-inputs-spec : {M : Type 1} → statement M
 live-but-inputs-spec =
@@ -54,8 +53,7 @@ live-but-inputs-spec =
     local-time-requires
     returns
     end-outputs-requires
-    returns-2
     add-t13
     element-copy-out-t16
     element-copy-out-t19
-    returns-3)
+    returns-2)

@@ -1,10 +1,20 @@
 -- The pass of an accepted block: fold, prune, and the result if there is room. Assumes nothing.
 use native.Mathlib.Omega.{arith}
 use borrow.Author.Needs.{needs}
-use Rattle.passes.proofs.Passing.{declared-fit, few-here, size-small, pass-short, ops-fit, pass-stores}
+use Rattle.passes.proofs.Passing.{declared-fit, few-here, size-small, pass-short, all-fit, pass-stores}
 use Rattle.passes.proofs.Pruning.{kept-marked}
 use Rattle.rewrite.proofs.write_result.Statement.{statement}
 use Rattle.rewrite.proofs.write_result.Tie as tie
+
+-- where fold, prune and the test for room have been answered, those before
+abbrev start : tie.After-fold → tie.Start
+start k = k .before .before .before .before .before .before .before .before
+
+abbrev folded : tie.After-prune → tie.After-fold
+folded k = k .before .before .before .before .before .before .before
+
+abbrev pruned : tie.Else1 → tie.After-prune
+pruned k = k .before .before .before
 
 fold-requires : tie.Need-fold-requires
 fold-requires c κs =
@@ -12,64 +22,42 @@ fold-requires c κs =
 
 prune-requires : tie.Need-prune-requires
 prune-requires c κs =
-    let pre = c .before .before .before .before .before .before .before .before .before .before .before .before .before .before .pre in
-    (pre .0 .laid, record { constants = _; folded = c .before .before .before .before .before .before .fold .ensures }, pre .0 .classes-are .few, few-here (pre .0), omega (arith, few-here (pre .0)), omega (arith, pre .1, c .before .before .before .before .before .marks .given), pre .3)
+    let f = c .before .before .before .before .before .before in
+    let pre = start f .pre in
+    (pre .0 .laid, record { constants = _; folded = f .fold .ensures }, pre .0 .classes-are .few, few-here (pre .0), omega (arith, few-here (pre .0)), omega (arith, pre .1, c .before .before .before .before .before .marks .given), pre .3)
 
 add-size : tie.Need-add-size
-add-size c = omega (arith, size-small (c .before .before .before .before .before .before .before .before .before .before .before .before .before .before .before .before .before .pre .0) (c .before .before .prune .ensures))
-
-same-length : tie.Need-same-length
-same-length c = search needs
-
-same-length-2 : tie.Need-same-length-2
-same-length-2 c = search needs
+add-size c = let p = c .before .before in omega (arith, size-small (start (folded p) .pre .0) (p .prune .ensures))
 
 returns : tie.Need-returns
-returns c = pass-short (c .before .before .before .before .before .before .before .before .before .before .before .before .before .before .before .before .before .before .pre .0) (c .before .before .before .prune .ensures) (c .if1 .taken)
-
-copy-requires : tie.Need-copy-requires
-copy-requires c κs = (omega (arith, declared-fit (c .before .before .before .before .before .before .before .before .before .before .before .before .before .before .before .before .before .before .before .pre .0)), omega (arith, c .before .if1 .left))
+returns c = let p = c .before .before .before in pass-short (start (folded p) .pre .0) (p .prune .ensures) (c .if1 .taken)
 
 emit-requires : tie.Need-emit-requires
 emit-requires c κs =
-    let start = c .before .before .before .before .before .before .before .before .before .before .before .before .before .before .before .before .before .before .before .before .before .before .before .before .before .before in
-    let r = start .pre .0 in (
+    let e = c .before .before .before .before in
+    let p = pruned e in
+    let f = folded p in
+    let pre = start f .pre in
+    let r = pre .0 in (
       r .laid,
-      kept-marked (c .before .before .before .before .before .before .before .before .before .before .before .before .before .before .before .before .before .before .fold .ensures) (c .before .before .before .before .before .before .before .before .before .before .before .prune .ensures),
-      r .first-is,
-      declared-fit r,
+      kept-marked (f .fold .ensures) (p .prune .ensures),
+      omega (arith, r .first-is, declared-fit r),
       omega (arith, few-here r),
-      omega (arith, start .pre .1, c .before .before .before .before .before .before .before .before .before .before .before .before .before .before .before .before .before .marks .given, c .before .before .before .before .before .before .before .before .before .before .marks2 .given),
-      omega (arith, start .pre .2, c .before .before .before .before .before .before .before .before .before .before .before .before .before .before .before .constants .given),
-      start .pre .3,
-      ops-fit r (c .before .before .before .before .before .before .before .before .before .before .before .prune .ensures) (start .args .out .now) (c .before .before .before .before .before .before .before .before .if1 .left) (c .before .before .before .before .before .before .copy .ensures),
+      omega (arith, pre .1, p .before .before .before .before .before .before .marks .given, e .before .before .marks2 .given),
+      omega (arith, pre .2, p .before .before .before .before .constants .given),
+      pre .3,
+      all-fit r (p .prune .ensures) (start f .args .out .now) (e .if1 .left),
     )
 
-same-length-3 : tie.Need-same-length-3
-same-length-3 c = search needs
-
-same-length-4 : tie.Need-same-length-4
-same-length-4 c = search needs
-
-same-length-5 : tie.Need-same-length-5
-same-length-5 c = search needs
-
 returns-2 : tie.Need-returns-2
-returns-2 c = pass-stores (c .before .before .before .before .before .before .before .before .before .before .before .before .before .before .before .before .before .before .before .before .before .before .before .before .before .before .before .before .before .pre .0) (c .before .before .before .before .before .before .before .before .before .before .before .before .before .before .prune .ensures) (c .before .before .before .before .before .before .before .before .before .before .before .before .before .before .before .before .before .before .before .before .before .before .before .before .before .before .before .before .before .args .out .now) (c .before .before .before .before .before .before .before .before .before .before .before .if1 .left) (c .before .before .before .before .before .before .before .before .before .copy .ensures) (c .before .before .emit .ensures)
+returns-2 c =
+    let m = c .before .before in
+    let e = m .before .before .before .before .before in
+    let p = pruned e in
+    let s = start (folded p) in
+    pass-stores (s .pre .0) (p .prune .ensures) (s .args .out .now) (e .if1 .left) (m .emit .ensures)
 
 pub write-result-spec : {M : Type 1} → statement M
 write-result-spec =
     tie.close
-    (tie.spec
-    fold-requires
-    prune-requires
-    add-size
-    same-length
-    same-length-2
-    returns
-    copy-requires
-    emit-requires
-    same-length-3
-    same-length-4
-    same-length-5
-    returns-2)
+    (tie.spec fold-requires prune-requires add-size (λ c. search needs) (λ c. search needs) returns emit-requires (λ c. search needs) (λ c. search needs) (λ c. search needs) returns-2)

@@ -4,15 +4,16 @@ use Prim.Native.Nat.{_≤_}
 use native.Mathlib.Omega.{arith}
 use borrow.Author.Tests.{not-true, not-false}
 use borrow.Author.Needs.{needs}
+use Rattle.ops.specs.Limits.{labelCount}
 use Rattle.block.proofs.MarkSets.{SetBelow, set-start, set-next, set-stops, set-ends}
 use Rattle.rules.proofs.all_set.Statement.{statement}
 use Rattle.rules.proofs.all_set.Tie as tie
 
 abbrev Inv-loop : tie.InvT-loop
-Inv-loop targets labels n i₀ i = (i ≤ n) × SetBelow targets labels n i
+Inv-loop targets labels i₀ i = (i ≤ labelCount) × SetBelow targets labels labelCount i
 
 abbrev μ-loop : tie.MeasureT-loop
-μ-loop targets labels n i₀ i = i
+μ-loop targets labels i₀ i = i
 
 loop-holds : tie.Need-loop-holds Inv-loop μ-loop
 loop-holds c = (omega arith, set-start _ _ _)
@@ -52,6 +53,7 @@ all-set-spec =
     (tie.spec
     Inv-loop
     μ-loop
+    (λ c. search needs)
     loop-holds
     sub-i
     element-copy-out-settled

@@ -16,4 +16,4 @@ returns-3 : tie.Need-returns-3
 returns-3 c = rw (eq-eqb _ exitRank (c .before .before .if1 .left), sym (c .before .all-set .ensures) ∙ not-false _ (c .if2 .left))
 
 pub end-rule-spec : {M : Type 1} → statement M
-end-rule-spec = tie.close (tie.spec returns (λ c. search needs) (λ c κs. search needs) returns-2 returns-3)
+end-rule-spec = tie.close (tie.spec returns (λ c κs. search needs) returns-2 returns-3)

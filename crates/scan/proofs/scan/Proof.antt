@@ -7,7 +7,7 @@ use Rattle.scan.proofs.scan.Statement.{statement}
 use Rattle.scan.proofs.scan.Tie as tie
 
 returns : tie.Need-returns
-returns c = scan-refused _ _ _ (c .before .scan-declarations .ensures rowOf table-lawful) (c .if1 .taken)
+returns c = scan-refused _ _ (c .before .scan-declarations .ensures rowOf table-lawful) (c .if1 .taken) (c .before .before .before .before .pre .1)
 
 scan-ops-requires : tie.Need-scan-ops-requires
 scan-ops-requires c κs =

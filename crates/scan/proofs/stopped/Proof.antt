@@ -6,7 +6,6 @@ use Prim.Native.Nat.{ℕ}
 use lib.ListN.{getD}
 use borrow.Author.Needs.{needs}
 use Rattle.ops.specs.Kinds.{kindTable}
-use Rattle.ops.proofs.Table.{asks-few}
 use Rattle.block.specs.Scan.{entryRule}
 use Rattle.scan.proofs.stopped.Statement.{statement}
 use Rattle.scan.proofs.stopped.Tie as tie
@@ -17,15 +16,10 @@ entered ks k q z = q ∙ ap (λ (ks : List ℕ). getD ks k 0) z
 its : (k : tie.After-entry) → let a = k .before .before .before .before .before .args in k .entry .result ≡ getD kindTable (getD (a .block .now) (a .at) 0) 0
 its k = let a = k .before .before .before .before .before .args in entered (k .before .before .before .table .result) (getD (a .block .now) (a .at) 0) (k .entry .ensures) (k .before .before .before .table .ensures)
 
-record-rule-requires : tie.Need-record-rule-requires
-record-rule-requires c κs =
-    let s = c .before .before .before .before .before in
-    (s .pre, asks-few (getD (s .args .block .now) (s .args .at) 0) (its c))
-
 returns : tie.Need-returns
 returns c =
     let s = c .before .before .before .before .before .before in
     (c .record-rule .ensures ∙ ap (λ (e : ℕ). entryRule e (s .args .block .now) (s .args .at) (s .args .ops) (s .args .vars .now) (s .args .labels .now) false) (its (c .before)), refl, refl)
 
 pub stopped-spec : {M : Type 1} → statement M
-stopped-spec = tie.close (tie.spec (λ c κs. search needs) (λ c. search needs) (λ c κs. search needs) record-rule-requires returns)
+stopped-spec = tie.close (tie.spec (λ c κs. search needs) (λ c. search needs) (λ c κs. search needs) (λ c κs. search needs) returns)
