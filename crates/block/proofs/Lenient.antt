@@ -17,10 +17,11 @@ use Rattle.theory.proofs.Rule.{Puts, same, folds, puts}
 use Rattle.theory.proofs.Sets.{and-l, and-r, and-i, clash}
 use Rattle.ops.specs.Rows.{Role, roleOf, isPure, isSetting, isJumping, at, Table}
 use Rattle.ops.specs.Rows.{known, bodyLength}
-use Rattle.ops.specs.Ops.{leave, kindOf, rowAt, insBy, labelBy, viewFor, viewOf, tcg, folding, Dialect}
+use Rattle.ops.specs.Ops.{leave, kindOf, rowAt, insBy, labelBy, viewFor, viewOf, tcg, Dialect}
 use Rattle.ops.proofs.Traits.{pure-at, pure-quiet}
 use Rattle.ops.proofs.Folding.{states, constant-for, const-view, constants}
 use Rattle.ops.proofs.Lawful.{Constant, Lawful}
+use Rattle.ops.specs.Folds.{folding, moviOf}
 use Rattle.block.specs.Checks.{endRules}
 use Rattle.block.specs.Records.{isDeclaration}
 use Rattle.block.specs.Rules.{Seen, allBelow, operandsOf, rule4, haveTypes, rule5, rule6, markedBy, rule7, rule9, rule10}
@@ -195,7 +196,7 @@ admitted law x k o y same h = (h, record { classes = refl; types = refl; labels 
 admitted {D = D} law x k o y (folds xs vs t a g) h =
     let o′ = folding D .const o (headOr 0 vs) in
     let s = states law o xs vs t g in
-    let c′ = D .constant (s .type) (at o 1) (s .value) in
+    let c′ = moviOf (s .type) (at o 1) (s .value) in
     let q : o′ ≡ c′ = constant-for law o xs vs t g s in
     let c : pure (viewOf D o) ≡ true = ap pure (computes-calc (viewOf D o) xs vs g) in
     let l = calc-labels D (x .labels) (x .targets) o c in

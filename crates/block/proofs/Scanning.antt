@@ -316,7 +316,6 @@ begins-start {T = T} {b = b} {labels = labels} {p = p} places₀ g z =
       first-op = λ e. g .no-more;
       few = omega arith;
     }
-
   where
     at-first : UpTo T b p places₀ places₀ labels p 0
     at-first = record { read = []; records-are = refl; spans = add-zero p; count = refl; places-are = refl; labels-are = z }

@@ -5,7 +5,7 @@ use mathlib.Core.Bool.{Bool, true, not, _&&_, _||_, Bool·beq}
 use lib.Dec.{eqb}
 use Rattle.ops.specs.Kinds.{rowOf, between}
 use Rattle.ops.specs.Rows.{known, bodyLength, outputCount, pureKind}
-use Rattle.ops.specs.Ops.{foldableRow}
+use Rattle.ops.specs.Folds.{foldableRow}
 
 -- a range of kinds from 10 on, in either width
 abbrev pub either : ℕ → ℕ → ℕ → Bool

@@ -92,7 +92,12 @@ fn pass_over(s: u16, block: &[u8], at: usize, known: &mut [u8; 256], values: &mu
     if r == CONSTANT {
         let p = at + 2;
         let end = at + 10;
-        learn(known, values, block[at + 1], from_little_endian(&block[p..end]));
+        learn(
+            known,
+            values,
+            block[at + 1],
+            from_little_endian(&block[p..end]),
+        );
         return;
     }
     if r < LOADS {

@@ -18,14 +18,15 @@ use Rattle.memory.proofs.Numbers.{low-bytes, length-bytes}
 use Rattle.ops.specs.Limits.{labelCount}
 use Rattle.ops.specs.Rows.{Role, setsLabel, jumpsTo, branches, constant, roleNo, Row, numberOf, bitsOf, typesOf, tableOf, bodyOf}
 use Rattle.ops.specs.Rows.{isKnown, isSetting, isJumping, at, condOk, labelOk, testOk}
-use Rattle.ops.specs.Ops.{kindOf, rowAt, outsBy, insBy, restBy, labelBy, atTypes, evalOf, viewFor, viewOf, foldableRow}
-use Rattle.ops.specs.Kinds.{kindTable, rowOf, one, computedOf, statesOf, moviKind, moviOf, document01}
+use Rattle.ops.specs.Ops.{kindOf, rowAt, outsBy, insBy, restBy, labelBy, atTypes, evalOf, viewFor, viewOf}
+use Rattle.ops.specs.Kinds.{kindTable, rowOf, one, computedOf, statesOf, document01}
 use Rattle.ops.proofs.Table.{typeAt, rowWith, row-of, asks-few, body-short, same-number}
 use Rattle.ops.proofs.Inputs.{no-movi, evaluated}
 use Rattle.ops.proofs.Fits.{folded-fits, out-small}
 use Rattle.ops.specs.Lawful.{LawfulTable}
 use Rattle.ops.proofs.Lawful.{Constant, States, Lawful}
 use Rattle.ops.proofs.Folding.{single}
+use Rattle.ops.specs.Folds.{foldableRow, moviKind, moviOf}
 
 -- rule 6 asks that a label be below 32
 module _ (o : List ℕ) where

@@ -21,10 +21,11 @@ use Rattle.word.proofs.Tests.{cond-told, cond-all}
 use Rattle.ops.specs.Eval.{convertOf, unaryOf, logicOf, divideOf, shiftOf, setcondOf, movcondOf}
 use Rattle.ops.specs.Rows.{bitsOf, roleNo, typesOf, at, tableOf}
 use Rattle.ops.specs.Kinds.{kindTable, rowOf, between, wideOf, computedOf}
-use Rattle.ops.specs.Ops.{atTypes, foldableRow}
+use Rattle.ops.specs.Ops.{atTypes}
 use Rattle.theory.proofs.Views.{no-some}
 use Rattle.ops.proofs.Ranges.{everyFrom, ranged}
 use Rattle.ops.proofs.Inputs.{within, outside, folds-small}
+use Rattle.ops.specs.Folds.{foldableRow}
 
 -- a stated number fits the width
 abbrev Below : ℕ → Option ℕ → Type 0

@@ -15,9 +15,10 @@ use Rattle.ops.specs.Eval.{convertOf}
 use Rattle.ops.specs.Evaluate.{foldedOf}
 use Rattle.ops.specs.Rows.{bitsOf, at}
 use Rattle.ops.specs.Kinds.{rowOf, wideOf, computedOf}
-use Rattle.ops.specs.Ops.{atTypes, foldableRow}
+use Rattle.ops.specs.Ops.{atTypes}
 use Rattle.ops.proofs.Inputs.{within, outside, folds-alike, foldable-kinds}
 use Rattle.ops.proofs.Fits.{allAre, inType, ins-are, extending, narrow, wide}
+use Rattle.ops.specs.Folds.{foldableRow}
 
 -- values read at one type
 read-at : (t : ℕ) (ts vs : List ℕ) → allAre t ts ≡ true → (i : ℕ) → i < length ts → at (atTypes ts vs) i ≡ at vs i % 2 ^ bitsOf t

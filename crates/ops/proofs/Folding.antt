@@ -12,8 +12,9 @@ use Rattle.theory.specs.Machine.{calc, computes as stated, outputs, headOr}
 use Rattle.theory.proofs.Rule.{Constants}
 use Rattle.theory.proofs.Sets.{and-l, and-r, clash}
 use Rattle.ops.specs.Rows.{Role, unknown, declares, setsLabel, jumpsTo, exits, branches, loads, stores, constant, computing, Row, isComputing, at}
-use Rattle.ops.specs.Ops.{kindOf, rowAt, bytesAt, outsBy, insBy, restBy, Dialect, evalOf, viewFor, viewOf, tcg, foldableRow, folding}
+use Rattle.ops.specs.Ops.{kindOf, rowAt, bytesAt, outsBy, insBy, restBy, Dialect, evalOf, viewFor, viewOf, tcg}
 use Rattle.ops.proofs.Lawful.{States, Lawful}
+use Rattle.ops.specs.Folds.{foldableRow, folding, moviOf}
 
 -- a row that may fold: one output, and a pure op's view
 pub single : (row : Row) → foldableRow row ≡ true → row .outs ≡ at (row .outs) 0 ∷ []
@@ -45,7 +46,7 @@ module _ {D : Dialect} (law : Lawful D) (o xs vs : List ℕ) (t : foldableRow (r
   states = law .folds (kindOf o) t (restBy (rowAt (D .rows) o) o) xs vs (sym (ap (λ w. stated w xs) (folds-view D o t)) ∙ g)
 
   -- what is put in the op's place
-  pub constant-for : (s : States D (rowAt (D .rows) o) vs) → folding D .const o (headOr 0 vs) ≡ D .constant (s .type) (at o 1) (s .value)
+  pub constant-for : (s : States D (rowAt (D .rows) o) vs) → folding D .const o (headOr 0 vs) ≡ moviOf (s .type) (at o 1) (s .value)
   constant-for s = rw (s .one-out, s .one-value)
 
   one-out : outputs (viewOf D o) ≡ at o 1 ∷ []

@@ -19,8 +19,8 @@ use Rattle.ops.specs.Rows.{Role, constant, numberOf, roleNo, bitsOf, typ
 use Rattle.ops.specs.Evaluate.{foldedOf}
 use Rattle.ops.specs.Kinds.{kindTable, rowOf, between, one, wideOf, computedOf, statesOf, document01}
 use Rattle.ops.specs.Rows.{roleOf}
-use Rattle.ops.specs.Ops.{bytesAt, atTypes, evalOf, foldableRow}
-use Rattle.ops.specs.Kinds.{moviKind}
+use Rattle.ops.specs.Ops.{bytesAt, atTypes, evalOf}
+use Rattle.ops.specs.Folds.{foldableRow, moviKind}
 use Rattle.ops.proofs.Ranges.{everyFrom, ranged, agreed}
 use Rattle.ops.proofs.Table.{unknown-beyond}
 

@@ -7,8 +7,9 @@ use Prim.Native.Nat.{ℕ, suc}
 use lib.ListN.{length}
 use Rattle.theory.specs.Machine.{calc}
 use Rattle.ops.specs.Rows.{Row, known, bodyLength, testOk}
-use Rattle.ops.specs.Ops.{kindOf, rowAt, outsBy, insBy, restBy, Dialect, evalOf, viewOf, foldableRow}
+use Rattle.ops.specs.Ops.{kindOf, rowAt, outsBy, insBy, restBy, Dialect, evalOf, viewOf}
 use Rattle.ops.specs.Lawful.{LawfulTable}
+use Rattle.ops.specs.Folds.{foldableRow, moviOf}
 
 -- m is a constant of the type t, with the output d and the value x: what it does, and what the check finds in it
 pub record Constant (D : Dialect) (t d x : ℕ) (m : List ℕ) : Type 0 where
@@ -27,10 +28,10 @@ pub record States (D : Dialect) (row : Row) (vs : List ℕ) : Type 0 where
   pub value : ℕ
   pub one-out : row .outs ≡ type ∷ []
   pub one-value : vs ≡ value ∷ []
-  pub constant-of : (d : ℕ) → Constant D type d value (D .constant type d value)
+  pub constant-of : (d : ℕ) → Constant D type d value (moviOf type d value)
 
 pub record Lawful (D : Dialect) : Type 0 where
   pub table : LawfulTable (D .rows)
   -- an op that may fold states such a value, and a constant does not fold
   pub folds : (k : ℕ) → foldableRow (D .rows k) ≡ true → (bytes xs vs : List ℕ) → evalOf D k bytes xs ≡ some vs → States D (D .rows k) vs
-  pub fixed : (t d x : ℕ) → foldableRow (rowAt (D .rows) (D .constant t d x)) ≡ false
+  pub fixed : (t d x : ℕ) → foldableRow (rowAt (D .rows) (moviOf t d x)) ≡ false

@@ -8,15 +8,15 @@ use Rattle.word.specs.Word.{addW, subW, mulW, negW, notW, andcW, orcW, eqvW, na
 use Rattle.word.specs.Word.{byDivisor, bySigned, byCount}
 use Rattle.word.specs.Condition.{condW}
 
--- "05, 06, 07: ext_i32_i64, extu_i32_i64, trunc_i64_i32"
+-- 05, 06, 07: "ext_i32_i64, extu_i32_i64, trunc_i64_i32: d, a"
 unfoldable pub convertOf : ℕ → ℕ → Option ℕ
 convertOf k a = cond (eqb k 0x05) (some (extendW 32 64 a)) (cond (eqb k 0x06) (some a) (some (a % 2 ^ 32)))
 
--- "11, 12, 13: mov, neg, not"
+-- 11, 12, 13: "mov, neg, not: d, a"
 unfoldable pub unaryOf : ℕ → ℕ → ℕ → Option ℕ
 unaryOf w k a = cond (eqb k 0x11) (some a) (cond (eqb k 0x12) (some (negW w a)) (some (notW w a)))
 
--- "14 to 1E: add, sub, mul, and, or, xor, andc, orc, eqv, nand, nor"
+-- 14 to 1E: "add, sub, mul, and, or, xor, andc, orc, eqv, nand, nor: d, a, b"
 unfoldable pub logicOf : ℕ → ℕ → ℕ → ℕ → Option ℕ
 logicOf w k a b =
     cond (eqb k 0x14) (some (addW w a b))
@@ -31,7 +31,7 @@ logicOf w k a b =
     (cond (eqb k 0x1D) (some (nandW w a b))
     (some (norW w a b)))))))))))
 
--- "1F to 22: divs, divu, rems, remu"
+-- 1F to 22: "divs, divu, rems, remu (in 000: div, divu, rem, remu): d, a, b"
 unfoldable pub divideOf : ℕ → ℕ → ℕ → ℕ → Option ℕ
 divideOf w k a b =
     cond (eqb k 0x1F) (bySigned w a b (divsW w a b))
@@ -39,7 +39,7 @@ divideOf w k a b =
     (cond (eqb k 0x21) (bySigned w a b (remsW w a b))
     (byDivisor b (a % b))))
 
--- "23 to 27: shl, shr, sar, rotl, rotr"
+-- 23 to 27: "shl, shr, sar, rotl, rotr: d, a, b"
 unfoldable pub shiftOf : ℕ → ℕ → ℕ → ℕ → Option ℕ
 shiftOf w k a b =
     cond (eqb k 0x23) (byCount w b (shlW w a b))
@@ -48,10 +48,10 @@ shiftOf w k a b =
     (cond (eqb k 0x26) (byCount w b (rotlW w a b))
     (byCount w b (rotrW w a b)))))
 
--- "28: setcond": 1 where the condition holds, else 0
+-- 28: "setcond: d, a, b, cond", 1 where the condition holds, else 0
 unfoldable pub setcondOf : ℕ → ℕ → ℕ → ℕ → Option ℕ
 setcondOf w c a b = some (cond (condW w c a b) 1 0)
 
--- "29: movcond: d, c1, c2, v1, v2": v1 where the condition holds of c1 and c2, else v2
+-- 29: "movcond: d, c1, c2, v1, v2, cond", v1 where the condition holds of c1 and c2, else v2
 unfoldable pub movcondOf : ℕ → ℕ → ℕ → ℕ → ℕ → ℕ → Option ℕ
 movcondOf w c c1 c2 v1 v2 = some (cond (condW w c c1 c2) v1 v2)

@@ -4,7 +4,8 @@ use mathlib.Core.Bool.{cond}
 use mathlib.Core.Option.{Option, none}
 use mathlib.Core.List.{List, [], _∷_}
 use Rattle.ops.specs.Kinds.{rowOf, computedOf}
-use Rattle.ops.specs.Ops.{atTypes, foldableRow}
+use Rattle.ops.specs.Ops.{atTypes}
+use Rattle.ops.specs.Folds.{foldableRow}
 
 -- from the bytes after the operands and four values, of which an op reads as many as it has inputs; none for every other kind
 unfoldable pub foldedOf : ℕ → List ℕ → ℕ → ℕ → ℕ → ℕ → Option ℕ

@@ -7,7 +7,7 @@ use lib.Dec.{eqb, leb}
 use lib.ListN.{replicate}
 use Rattle.theory.specs.Machine.{Touch, faults, gives}
 use Rattle.word.specs.Condition.{condW}
-use Rattle.memory.specs.Bytes.{lowFirst, bytesOf}
+use Rattle.memory.specs.Bytes.{lowFirst}
 use Rattle.memory.specs.Access.{loadAt, storeAt}
 use Rattle.memory.specs.Answer.{accessWidth}
 use Rattle.ops.specs.Eval.{convertOf, unaryOf, logicOf, divideOf, shiftOf, setcondOf, movcondOf}
@@ -117,13 +117,6 @@ storeOf k bytes m vs = let p = at vs 1 in let f = at bytes 0 in afterStore p f (
 unfoldable pub holdsOf : ℕ → List ℕ → List ℕ → Bool
 holdsOf k bytes vs = condW (opWidth k) (at bytes 0) (at vs 0) (at vs 1)
 
--- "a movi of the output's width"
-abbrev pub moviKind : ℕ → ℕ
-moviKind type = cond (eqb type 0) 0x10 0x90
-
-abbrev pub moviOf : ℕ → ℕ → ℕ → List ℕ
-moviOf type d x = moviKind type ∷ d ∷ bytesOf 8 x
-
 -- document 01's ops
 abbrev pub document01 : Dialect
-document01 = record { rows = rowOf; states = statesOf; loadOf = loadOf; storeOf = storeOf; holdsOf = holdsOf; constant = moviOf }
+document01 = record { rows = rowOf; states = statesOf; loadOf = loadOf; storeOf = storeOf; holdsOf = holdsOf }

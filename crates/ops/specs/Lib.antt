@@ -2,6 +2,7 @@ pub mod Limits
 pub mod Rows
 pub mod Eval
 pub mod Ops
+pub mod Folds
 pub mod Lawful
 pub mod Kinds
 pub mod Plans

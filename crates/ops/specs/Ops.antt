@@ -1,13 +1,11 @@
 -- A record is the list of its bytes, the kind first; what it does in a dialect, and the language of ops. Assumes nothing.
 use Prim.Native.Nat.{ℕ, zero, suc, _+_, _%_, _^_}
-use mathlib.Core.Bool.{Bool, _&&_}
+use mathlib.Core.Bool.{Bool}
 use mathlib.Core.Option.{Option}
 use mathlib.Core.List.{List, [], _∷_}
-use lib.Dec.{eqb}
 use lib.ListN.{length, drop}
 use Rattle.theory.specs.Machine.{always, when, to, out, View, calc, access, label, flow, Touch, Lang, headOr}
-use Rattle.theory.specs.Fold.{Folding}
-use Rattle.ops.specs.Rows.{Role, unknown, declares, setsLabel, jumpsTo, exits, branches, loads, stores, constant, computing, Row, Table, bitsOf, bodyOf, isComputing, at}
+use Rattle.ops.specs.Rows.{Role, unknown, declares, setsLabel, jumpsTo, exits, branches, loads, stores, constant, computing, Row, Table, bitsOf, bodyOf, at}
 
 abbrev pub kindOf : List ℕ → ℕ
 kindOf r = at r 0
@@ -49,14 +47,13 @@ abbrev pub faultOf : Bool → ℕ → ℕ → Fault
 faultOf store address flags = record { store = store; address = address; flags = flags }
 
 -- a dialect: its rows; what a pure op of a kind states, from the bytes after its operands and its inputs' values; what its loads and stores
--- do to the memory; when a condition holds; and the constant of a type, with its output and its value
+-- do to the memory; and when a condition holds
 pub record Dialect : Type 0 where
   pub rows : Table
   pub states : ℕ → List ℕ → List ℕ → Option (List ℕ)
   pub loadOf : ℕ → List ℕ → List ℕ → List ℕ → Touch ℕ (List ℕ) Fault
   pub storeOf : ℕ → List ℕ → List ℕ → List ℕ → Touch ℕ (List ℕ) Fault
   pub holdsOf : ℕ → List ℕ → List ℕ → Bool
-  pub constant : ℕ → ℕ → ℕ → List ℕ
 
 unfoldable pub evalOf : Dialect → ℕ → List ℕ → List ℕ → Option (List ℕ)
 evalOf D k bytes vs = D .states k bytes (atTypes ((D .rows k) .ins) vs)
@@ -84,12 +81,3 @@ viewOf D r = let row = rowAt (D .rows) r in viewFor D (row .role) row r
 -- the language of ops: an op is its record, values are numbers, the memory a list of bytes
 abbrev pub tcg : Dialect → Lang
 tcg D = record { Op = List ℕ; Val = ℕ; Mem = List ℕ; Out = ℕ; Flt = Fault; zeroV = 0; view = viewOf D }
-
--- an op that may fold: a pure op that reads something; one output
-abbrev pub foldableRow : Row → Bool
-foldableRow row = isComputing (row .role) && eqb (length (row .outs)) 1
-
--- fold puts the constant of the output's type
-abbrev pub folding : (D : Dialect) → Folding (tcg D)
-folding D =
-    record { foldable = λ r. foldableRow (rowAt (D .rows) r); const = λ r x. D .constant (headOr 0 ((rowAt (D .rows) r) .outs)) (at r 1) x }

@@ -12,8 +12,7 @@ use Rattle.memory.proofs.Numbers.{length-bytes}
 use Rattle.ops.specs.Rows.{computing, Row, outsIn, typesIn, typesOf}
 use Rattle.ops.specs.Kinds.{kindTable, rowOf, document01}
 use Rattle.ops.specs.Rows.{roleOf}
-use Rattle.ops.specs.Ops.{foldableRow, folding}
-use Rattle.ops.specs.Kinds.{moviKind}
+use Rattle.ops.specs.Folds.{foldableRow, folding, moviKind}
 use Rattle.ops.proofs.Entry.{digits}
 use Rattle.ops.proofs.Table.{row-of}
 use Rattle.block.specs.Scan.{recordAt, Stands}

@@ -15,11 +15,12 @@ use Rattle.theory.specs.Machine.{headOr}
 use Rattle.theory.specs.Sets.{Vars, empty}
 use Rattle.theory.proofs.Rule.{Puts, same, folds, puts}
 use Rattle.theory.proofs.Sets.{tell}
-use Rattle.ops.specs.Ops.{viewOf, tcg, folding}
+use Rattle.ops.specs.Ops.{viewOf, tcg}
 use Rattle.ops.specs.Rows.{known}
 use Rattle.ops.specs.Kinds.{rowOf, document01}
 use Rattle.ops.proofs.Document01.{lawful}
 use Rattle.ops.proofs.Folding.{constants}
+use Rattle.ops.specs.Folds.{folding}
 use Rattle.block.specs.Scan.{recordAt}
 use Rattle.passes.specs.Laid.{opsAt, Constant, Leaves}
 use Rattle.passes.specs.Knows.{knownOf, leftBy, Folds, foldedOps, Folded}

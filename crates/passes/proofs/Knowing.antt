@@ -19,7 +19,7 @@ use Rattle.memory.specs.Bytes.{lowFirst}
 use Rattle.ops.specs.Rows.{constant, computing, roleNo, Row, outsIn, insIn, roleIn, numberOf, isPure, isComputing, isClosing, at}
 use Rattle.ops.specs.Kinds.{kindTable, rowOf, document01}
 use Rattle.ops.specs.Rows.{roleOf}
-use Rattle.ops.specs.Ops.{rowAt, bytesAt, Fault, viewOf, tcg, foldableRow, folding}
+use Rattle.ops.specs.Ops.{rowAt, bytesAt, Fault, viewOf, tcg}
 use Rattle.ops.proofs.Entry.{digits}
 use Rattle.ops.proofs.Folding.{const-view, computing-role}
 use Rattle.ops.proofs.Traits.{closes-at, pure-at, outputs-at}
@@ -31,6 +31,7 @@ use Rattle.runs.specs.Evaluates.{Computed, inputsAt, statesAt, valuesOf, envOf}
 use Rattle.runs.proofs.Roles.{role-by}
 use Rattle.ops.proofs.Table.{number-of}
 use Rattle.ops.proofs.Document01.{lawful}
+use Rattle.ops.specs.Folds.{foldableRow, folding}
 use Rattle.passes.specs.Knows.{knownOf, everyIn, statedBy, StatesKnown, Stays, Folds}
 use Rattle.passes.specs.Laid.{Constant}
 use Rattle.passes.proofs.Before.{its-role, its-outputs}

@@ -17,9 +17,10 @@ use Rattle.theory.proofs.Law.{Lawful as LawfulRule}
 use Rattle.theory.proofs.Rule.{base-lawful}
 use Rattle.theory.proofs.Sets.{and-r}
 use Rattle.ops.specs.Rows.{known, bodyLength}
-use Rattle.ops.specs.Ops.{kindOf, tcg, folding, Dialect}
+use Rattle.ops.specs.Ops.{kindOf, tcg, Dialect}
 use Rattle.ops.proofs.Folding.{constants}
 use Rattle.ops.proofs.Lawful.{Lawful}
+use Rattle.ops.specs.Folds.{folding}
 use Rattle.block.specs.Records.{recordBytes, isDeclaration, classesOf}
 use Rattle.block.proofs.Lenient.{lenient, cutting, admits}
 use Rattle.block.proofs.Parts.{Parts, joined}

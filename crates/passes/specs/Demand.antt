@@ -1,4 +1,5 @@
 -- Demand 3, of what the check, the run and the pass answer. Proved in proofs/Demand.antt. Assumes nothing.
+-- The words in quotation marks are the demand's, and document 01's on what they mean.
 use Prim.Native.Nat.{ℕ, _≤_}
 use mathlib.Core.Path.{_≡_}
 use mathlib.Core.Bool.{Bool, true, false}
@@ -6,8 +7,9 @@ use mathlib.Core.List.{List, _++_}
 use lib.ListN.{length, drop}
 use Rattle.theory.specs.Prune.{AllUsed, liveAll}
 use Rattle.theory.specs.Fold.{nothing, baseRule, Still}
-use Rattle.ops.specs.Ops.{tcg, folding, Dialect}
+use Rattle.ops.specs.Ops.{tcg, Dialect}
 use Rattle.ops.specs.Kinds.{document01}
+use Rattle.ops.specs.Folds.{folding}
 use Rattle.block.specs.declared.Verdict.the-variants.{Accepted}
 use Rattle.block.specs.Records.{recordsOf, declarations, opsFrom, classesOf}
 use Rattle.block.specs.Rules.{globalsIn, keptIn}

@@ -8,8 +8,9 @@ use lib.ListN.{getD}
 use Rattle.theory.specs.Machine.{inputs, computes, reads}
 use Rattle.theory.specs.Sets.{Vars}
 use Rattle.theory.specs.Fold.{Known, nothing, put, on, learned, fold, baseRule, bindO, allKnown}
-use Rattle.ops.specs.Ops.{rowAt, viewOf, tcg, foldableRow, folding}
+use Rattle.ops.specs.Ops.{rowAt, viewOf, tcg}
 use Rattle.ops.specs.Kinds.{rowOf, document01}
+use Rattle.ops.specs.Folds.{foldableRow, folding}
 use Rattle.block.specs.Scan.{recordAt}
 use Rattle.runs.specs.Evaluates.{valuesOf}
 use Rattle.passes.specs.Laid.{opsAt, Constant, Leaves}

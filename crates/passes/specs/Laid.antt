@@ -8,8 +8,9 @@ use lib.Dec.{eqb, ltb}
 use lib.ListN.{length, getD}
 use Rattle.theory.specs.Machine.{calc}
 use Rattle.ops.specs.Rows.{bodyLength, roleOf, computing}
-use Rattle.ops.specs.Ops.{viewOf, folding}
+use Rattle.ops.specs.Ops.{viewOf}
 use Rattle.ops.specs.Kinds.{rowOf, document01}
+use Rattle.ops.specs.Folds.{folding}
 use Rattle.block.specs.Scan.{recordAt, Stands}
 
 -- n ops, the first of them at the i-th place

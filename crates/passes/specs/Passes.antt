@@ -7,8 +7,9 @@ use lib.Dec.{leb}
 use lib.ListN.{length, drop}
 use Rattle.theory.specs.Machine.{Prog}
 use Rattle.theory.specs.Fold.{baseRule, pass}
-use Rattle.ops.specs.Ops.{tcg, folding, Dialect}
+use Rattle.ops.specs.Ops.{tcg, Dialect}
 use Rattle.ops.specs.Kinds.{document01}
+use Rattle.ops.specs.Folds.{folding}
 use Rattle.block.specs.declared.Verdict.{Verdict}
 use Rattle.block.specs.declared.Verdict.the-variants.{Accepted, Refused as CheckRefused}
 use Rattle.block.specs.Records.{recordsOf, recordBytes, declarations, opsFrom, classesOf}

@@ -1,4 +1,5 @@
 -- Demand 3, of the answers of calls as the contracts of the check, the run and the pass give them. Proved in proofs/Promise.antt. Assumes nothing.
+-- The words in quotation marks are the demand's, and document 01's on what they mean.
 use mathlib.Core.Path.{_≡_}
 use mathlib.Core.Bool.{false}
 use mathlib.Core.List.{List}
@@ -6,8 +7,9 @@ use Prim.Native.Nat.{ℕ, _≤_}
 use lib.ListN.{length, take, drop}
 use Rattle.theory.specs.Fold.{nothing, baseRule, Still}
 use Rattle.theory.specs.Prune.{AllUsed, liveAll}
-use Rattle.ops.specs.Ops.{tcg, folding}
+use Rattle.ops.specs.Ops.{tcg}
 use Rattle.ops.specs.Kinds.{rowOf, document01}
+use Rattle.ops.specs.Folds.{folding}
 use Rattle.block.specs.Checks.{Checked}
 use Rattle.block.specs.Records.{recordsOf, declarations, opsFrom, classesOf}
 use Rattle.block.specs.Rules.{globalsIn, keptIn}

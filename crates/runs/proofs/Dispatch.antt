@@ -11,7 +11,7 @@ use borrow.Author.Tests.{ltb-true, ne-eqb}
 use Rattle.theory.proofs.Sets.{and-l, and-r, clash}
 use Rattle.ops.specs.Rows.{Role, setsLabel, jumpsTo, exits, branches, loads, stores, constant, computing, roleNo, tableOf, isComputing, numberOf, roleOf, bodyLength}
 use Rattle.ops.specs.Kinds.{between, kindTable, rowOf}
-use Rattle.ops.specs.Ops.{foldableRow}
+use Rattle.ops.specs.Folds.{foldableRow}
 use Rattle.ops.proofs.Inputs.{outside, foldable-kinds}
 use Rattle.ops.proofs.Ranges.{everyFrom, ranged}
 use Rattle.ops.proofs.Table.{number-of, row-of, same-number}

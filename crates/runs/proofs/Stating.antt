@@ -14,10 +14,11 @@ use Rattle.ops.specs.Evaluate.{foldedOf}
 use Rattle.ops.specs.Rows.{Role, computing, outsIn, insIn, restIn, isComputing, at}
 use Rattle.ops.specs.Kinds.{kindTable, rowOf, one, document01}
 use Rattle.ops.specs.Rows.{operandCount}
-use Rattle.ops.specs.Ops.{evalOf, foldableRow}
+use Rattle.ops.specs.Ops.{evalOf}
 use Rattle.ops.proofs.Entry.{Digits, digits}
 use Rattle.ops.proofs.Inputs.{folded-inputs}
 use Rattle.ops.proofs.Table.{row-of}
+use Rattle.ops.specs.Folds.{foldableRow}
 use Rattle.runs.specs.Evaluates.{Computed, inputsAt, statesAt, valuesOf, envOf}
 use Rattle.word.specs.declared.Stated.{Stated}
 

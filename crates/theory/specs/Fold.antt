@@ -40,8 +40,8 @@ gain [] f = given (f [])
 gain (i ∷ is) f = []
 
 module _ {Val Mem Out Flt : Type 0} where
-  -- what is known after an op. "It knows the values written by movi or by folded ops in this basic block. The output of any op that is
-  -- neither becomes unknown. Nothing is known at the start or after set_label, br, brcond or exit_tb."
+  -- what is known after an op. "It knows the values written by movi or by folded ops in this basic block." "The output of any op that is
+  -- neither a movi nor so folded becomes unknown. Nothing is known at the start or after set_label, br, brcond or exit_tb."
   abbrev pub learned : Known Val → View Val Mem Out Flt → Known Val
   learned k w = cond (closes w) nothing (writes none k (outputs w) (gain (inputs w) (computes w)))
 
@@ -93,7 +93,7 @@ bindO f none = none
 bindO f (some vs) = f vs
 
 module _ (L : Lang) (fo : Folding L) where
-  -- "An op whose inputs are all known and whose result is stated becomes a movi of the output's width."
+  -- "An op of kinds 05 to 07 or 11 to 29 (either width) whose inputs are all known and whose result is stated becomes a movi of the output's width."
   abbrev pub tried : L .Op → Option (List (L .Val)) → Rewrite (L .Op)
   tried o none = put o
   tried o (some vs) = put (fo .const o (headOr (L .zeroV) vs))
