@@ -5,6 +5,7 @@
 #   make demo       the incident, run
 #   make test       all tests but the proofs and their must-fail edits
 #   make test-c     the tests of the C kit
+#   make test-exported   docs/EXPORTED.md is as tests/exported prints it, and no exported function lacks a must-fail edit
 #   make compare    the comparison with the second interpreter; compare/run --help for longer ones
 #   make seeded     the comparison must find each fault of compare/faults
 #   make fuzz       the same comparison by libFuzzer (clang); fuzz/run SECONDS for longer
@@ -36,8 +37,8 @@ TOOL = $(wildcard tool/*.c)
 DEMO = $(wildcard demo/*.c) tool/input.c
 VALGRIND = valgrind -q --error-exitcode=9 --leak-check=full --show-leak-kinds=all --errors-for-leak-kinds=all
 
-.PHONY: all archive tool demo test test-c test-calls test-tool test-demo test-install compare seeded fuzz bench \
-    valgrind install uninstall clean-kit
+.PHONY: all archive tool demo test test-exported test-c test-calls test-tool test-demo test-install compare seeded fuzz \
+    bench valgrind install uninstall clean-kit
 .DELETE_ON_ERROR:
 
 all: archive tool $(KIT)/incident
@@ -69,7 +70,10 @@ $(KIT):
 demo: $(KIT)/incident
 	@$(KIT)/incident samples/incident.hex
 
-test: test-c compare seeded
+test: test-exported test-c compare seeded
+
+test-exported:
+	tests/exported --check
 
 test-c: test-calls test-tool test-demo test-install
 

@@ -123,7 +123,7 @@ static inline uint64_t ngulo_run_nullable(const uint8_t *block, size_t block_len
                      globals_length, memory_length == 0 ? &no_memory : memory, memory_length, report);
 }
 
-/* An answer taken apart. */
+/* An answer taken apart, as crates/ngulo/specs/Apart.antt reads every answer back (proved). */
 
 /* 1 if the call was refused, else 0. */
 static inline int ngulo_is_refused(uint64_t answer)

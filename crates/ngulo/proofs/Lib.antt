@@ -1,1 +1,3 @@
 pub mod Small
+pub mod Flags
+pub mod Apart
