@@ -9,6 +9,7 @@ use lib.Dec.{eqb, ltb, leb, eqb·zero-suc, eqb·suc-suc}
 use lib.ListN.{length, getD, drop, set, replicate, length-set, length-append}
 use borrow.Author.Tests.{ltb-true, ltb-false, lt-ltb, leb-true, leb-false, le-ltb, eqb-true, eqb-false, eq-eqb, ne-eqb}
 use native.Mathlib.Numerals.{add-one}
+use native.Mathlib.Nat.{add-zero, zero-add}
 use Rattle.theory.specs.Prune.{before}
 use Rattle.theory.specs.Sets.{empty}
 use Rattle.theory.proofs.Sets.{and-l, and-r, tell, clash}
@@ -18,7 +19,7 @@ use Rattle.ops.specs.Ops.{kindOf}
 use Rattle.block.specs.Checks.{asks, firstBroken, refusedOr, checkBy}
 use Rattle.block.specs.Records.{Cut, cons, cutOf, recordsOf, isDeclaration, classOf, typeOf, classesOf, declaredTypes, globalCount}
 use Rattle.block.specs.Rules.{Seen}
-use Rattle.block.specs.Scan.{Stands, codesIn, codeOf, Coded, codeFor, declarationOk, declaresGlobal, declaresOther, declaredRule, Stopped, DeclaredBy}
+use Rattle.block.specs.Scan.{Stands, codesIn, codeOf, Coded, codeFor, codesFrom, declarationOk, declaresGlobal, declaresOther, declaredRule, Stopped, DeclaredBy}
 use Rattle.block.proofs.Codes.{coded-more}
 use Rattle.block.proofs.Cut.{bytes-more, all-append}
 use Rattle.block.proofs.Views.{byte, kind-byte}
@@ -74,8 +75,9 @@ pub classes-length : (ds : List (List ℕ)) → length (classesOf ds) ≡ length
 classes-length [] = refl
 classes-length (d ∷ ds) = ap suc (classes-length ds)
 
-pub declaring-start : (T : Table) (b vars : List ℕ) → vars ≡ replicate 256 15 → Declaring T b vars 0 0 0
-declaring-start T b vars lv =
+pub declaring-start : (T : Table) (b vars : List ℕ) → Declaring T b vars vars 0 0 0
+unfolding codesFrom
+declaring-start T b vars =
     record {
       before = [];
       goes-on = sym (at-start T b);
@@ -87,8 +89,9 @@ declaring-start T b vars lv =
       spans = refl;
       reached = omega arith;
       few = omega arith;
-      coded = record { codes-are = ap codesIn lv ∙ fun-ext (λ v. all 256 v ∙ sym (none v)); types-small = λ v. omega arith; inside = λ v h. refl };
-      long-vars = ap length lv;
+      vars-are = refl;
+      coded = λ z. record { codes-are = ap codesIn z ∙ fun-ext (λ v. all 256 v ∙ sym (none v)); types-small = λ v. omega arith; inside = λ v h. refl };
+      long-vars = refl;
     }
   where
     none : (v : ℕ) → codeOf [] [] empty v ≡ 15
@@ -99,7 +102,16 @@ declaring-start T b vars lv =
     all (suc m) zero = refl
     all (suc m) (suc v) = all m v
 
-module _ {T : Table} (law : LawfulTable T) {b vars : List ℕ} {p n globals : ℕ} (d : Declaring T b vars p n globals) (h : p < length b) (k : getD b p 0 ≡ 1) where
+-- the byte of one variable more
+codes-append : (ds : List (List ℕ)) (d : List ℕ) (i : ℕ) (vars : List ℕ) → codesFrom i vars (ds ++ (d ∷ [])) ≡ set (codesFrom i vars ds) (i + length ds) (codeFor (classOf d) (typeOf d))
+unfolding codesFrom
+codes-append [] d i vars = rw (add-zero i)
+codes-append (x ∷ ds) d i vars =
+    let e : suc i + length ds ≡ i + suc (length ds) = omega arith in
+    codes-append ds d (suc i) (set vars i (codeFor (classOf x) (typeOf x)))
+    ∙ ap (λ (n : ℕ). set (codesFrom (suc i) (set vars i (codeFor (classOf x) (typeOf x))) ds) n (codeFor (classOf d) (typeOf d))) e
+
+module _ {T : Table} (law : LawfulTable T) {b vars₀ vars : List ℕ} {p n globals : ℕ} (d : Declaring T b vars₀ vars p n globals) (h : p < length b) (k : getD b p 0 ≡ 1) where
   abbrev classes : List ℕ
   classes = classesOf (d .before)
 
@@ -205,7 +217,7 @@ module _ {T : Table} (law : LawfulTable T) {b vars : List ℕ} {p n globals : �
           d .records-are ∙ ap (λ (x : Cut). d .before ++ x .records) c
           ∙ sym (append-assoc (d .before) (recordAt T b p ∷ []) ((cutOf T (drop (p + 3) b)) .records))
 
-      more : (g : ℕ) → g ≡ globalCount (classes ++ (getD b (p + 1) 0 ∷ [])) → Declaring T b (set vars n code) (p + 3) (n + 1) g
+      more : (g : ℕ) → g ≡ globalCount (classes ++ (getD b (p + 1) 0 ∷ [])) → Declaring T b vars₀ (set vars n code) (p + 3) (n + 1) g
       more g e =
           record {
             before = more-before;
@@ -218,22 +230,26 @@ module _ {T : Table} (law : LawfulTable T) {b vars : List ℕ} {p n globals : �
             spans = omega (arith, bytes-more (d .before) (recordAt T b p), d .spans, record-length T b p h within, body);
             reached = omega (arith, within, body);
             few = omega (arith, few-more);
-            coded =
+            vars-are =
+                ap₂ (λ (vs : List ℕ) (m : ℕ). set vs m code) (d .vars-are) (sym (zero-add (length (d .before)) ∙ d .count))
+                ∙ ap₂ (λ (c t : ℕ). set (codesFrom 0 vars₀ (d .before)) (0 + length (d .before)) (codeFor c t)) (sym class) (sym type)
+                ∙ sym (codes-append (d .before) (recordAt T b p) 0 vars₀);
+            coded = λ z.
                 subst (λ (cs : List ℕ). Coded (set vars n code) cs (declaredTypes more-before) empty) (sym classes-more)
                 (subst (λ (ts : List ℕ). Coded (set vars n code) (classes ++ (getD b (p + 1) 0 ∷ [])) ts empty) (sym types-more)
-                (coded-more (d .coded) lc lt (omega (arith, few-more, d .long-vars)) (getD b (p + 1) 0) (getD b (p + 2) 0) (omega (arith, type-low))));
+                (coded-more (d .coded z) lc lt (omega (arith, few-more, d .long-vars, ap length z)) (getD b (p + 1) 0) (getD b (p + 2) 0) (omega (arith, type-low))));
             long-vars = length-set vars n code ∙ d .long-vars;
           }
 
       -- a global
-      pub declaring-global : getD b (p + 1) 0 ≡ 0 → Declaring T b (set vars n code) (p + 3) (n + 1) (globals + 1)
+      pub declaring-global : getD b (p + 1) 0 ≡ 0 → Declaring T b vars₀ (set vars n code) (p + 3) (n + 1) (globals + 1)
       declaring-global z =
           let all : allGlobal classes ≡ true = sym (count-all classes) ∙ ap₂ eqb (sym (d .globals-are)) lc ∙ (rw (eq-eqb (getD b (p + 1) 0) 0 z) at global-test) in
           more (globals + 1)
           (add-one globals ∙ ap suc (d .globals-are) ∙ sym (count-more classes all) ∙ ap (λ (c : ℕ). globalCount (classes ++ (c ∷ []))) (sym z))
 
       -- a temporary
-      pub declaring-other : (getD b (p + 1) 0 ≡ 0 → ⊥) → Declaring T b (set vars n code) (p + 3) (n + 1) globals
+      pub declaring-other : (getD b (p + 1) 0 ≡ 0 → ⊥) → Declaring T b vars₀ (set vars n code) (p + 3) (n + 1) globals
       declaring-other z = more globals (d .globals-are ∙ sym (count-other classes (getD b (p + 1) 0) (ne-eqb (getD b (p + 1) 0) 0 z)))
 
 -- no room for one more: fewer than three bytes are left, or there are 64 variables
@@ -243,19 +259,19 @@ no-room b p n globals e (inl l) h k w = rw (le-ltb n 64 l) (sym (last-false (leb
 no-room b p n globals e (inr l) h k w = absurd (omega arith)
 
 -- the answer at the place where they end
-module _ {T : Table} (law : LawfulTable T) {b vars : List ℕ} {p n globals : ℕ} (d : Declaring T b vars p n globals) (s : Stopped b p n globals) where
-  pub declared-by : {rule : ℕ} → rule ≡ declaredRule b p → DeclaredBy T b vars rule p n globals
+module _ {T : Table} (law : LawfulTable T) {b vars₀ vars : List ℕ} {p n globals : ℕ} (d : Declaring T b vars₀ vars p n globals) (s : Stopped b p n globals) where
+  pub declared-by : {rule : ℕ} → rule ≡ declaredRule b p → DeclaredBy T b vars₀ vars rule p n globals
   declared-by {rule} e = go (tell (leb (length b) p)) (tell (eqb (getD b p 0) 1)) (tell (ltb (length b - p) 3))
     where
       -- none follows; or one is refused
-      ended : rule ≡ 0 → (p < length b → getD b p 0 ≡ 1 → ⊥) → DeclaredBy T b vars rule p n globals
+      ended : rule ≡ 0 → (p < length b → getD b p 0 ≡ 1 → ⊥) → DeclaredBy T b vars₀ vars rule p n globals
       ended q k = record { declaring = d; refused = λ z. absurd (z q); no-more = λ z. k }
 
-      refused : {m : ℕ} → rule ≡ m → (m ≡ 0 → ⊥) → Refused m p ≡ checkBy T b → DeclaredBy T b vars rule p n globals
+      refused : {m : ℕ} → rule ≡ m → (m ≡ 0 → ⊥) → Refused m p ≡ checkBy T b → DeclaredBy T b vars₀ vars rule p n globals
       refused q z r = record { declaring = d; refused = λ u. ap (λ (m : ℕ). Refused m p) q ∙ r; no-more = λ u. absurd (z (sym q ∙ u)) }
 
       go : (leb (length b) p ≡ true) ⊎ (leb (length b) p ≡ false) → (eqb (getD b p 0) 1 ≡ true) ⊎ (eqb (getD b p 0) 1 ≡ false) → (ltb (length b - p) 3 ≡ true) ⊎ (ltb (length b - p) 3 ≡ false)
-          → DeclaredBy T b vars rule p n globals
+          → DeclaredBy T b vars₀ vars rule p n globals
       go (inl x) y z = ended (e ∙ rw x) (λ h. absurd (omega (arith, h, leb-true (length b) p x)))
       go (inr x) (inr y) z = ended (e ∙ rw (x, y)) (λ h. eqb-false (getD b p 0) 1 y)
       go (inr x) (inl y) (inl z) =
@@ -267,18 +283,18 @@ module _ {T : Table} (law : LawfulTable T) {b vars : List ℕ} {p n globals : �
           refused (e ∙ rw (x, y, z)) (λ q. omega arith) (declaring-refused law d h k l (s h k l))
 
 -- one more declaration, in the loop's terms
-module _ {T : Table} (law : LawfulTable T) {b vars : List ℕ} {n globals : ℕ} (d : Declaring T b vars (3 * n) n globals) (h : n < length b / 3) (k : getD b (3 * n) 0 ≡ 1) {r : Bool}
+module _ {T : Table} (law : LawfulTable T) {b vars₀ vars : List ℕ} {n globals : ℕ} (d : Declaring T b vars₀ vars (3 * n) n globals) (h : n < length b / 3) (k : getD b (3 * n) 0 ≡ 1) {r : Bool}
     (e : r ≡ declarationOk (getD b (3 * n + 1) 0) (getD b (3 * n + 2) 0) globals n) (t : r ≡ true) where
-  next-place : {m g : ℕ} {vars′ : List ℕ} → Declaring T b vars′ (3 * n + 3) m g → Declaring T b vars′ (3 * (n + 1)) m g
-  next-place {m} {g} {vars′} x = let q : 3 * n + 3 ≡ 3 * (n + 1) = omega arith in subst (λ (p : ℕ). Declaring T b vars′ p m g) q x
+  next-place : {m g : ℕ} {vars′ : List ℕ} → Declaring T b vars₀ vars′ (3 * n + 3) m g → Declaring T b vars₀ vars′ (3 * (n + 1)) m g
+  next-place {m} {g} {vars′} x = let q : 3 * n + 3 ≡ 3 * (n + 1) = omega arith in subst (λ (p : ℕ). Declaring T b vars₀ vars′ p m g) q x
 
   pub low-type : getD b (3 * n + 2) 0 < 2
   low-type = type-low law d (omega arith) k (omega arith) (sym e ∙ t)
 
-  pub again-global : {g x : ℕ} → x ≡ codeFor (getD b (3 * n + 1) 0) (getD b (3 * n + 2) 0) → getD b (3 * n + 1) 0 ≡ 0 → g ≡ globals + 1 → Declaring T b (set vars n x) (3 * (n + 1)) (n + 1) g
+  pub again-global : {g x : ℕ} → x ≡ codeFor (getD b (3 * n + 1) 0) (getD b (3 * n + 2) 0) → getD b (3 * n + 1) 0 ≡ 0 → g ≡ globals + 1 → Declaring T b vars₀ (set vars n x) (3 * (n + 1)) (n + 1) g
   again-global c z q = rw (q, c) (next-place (declaring-global law d (omega arith) k (omega arith) (sym e ∙ t) z))
 
-  pub again-other : {g x : ℕ} → x ≡ codeFor (getD b (3 * n + 1) 0) (getD b (3 * n + 2) 0) → (getD b (3 * n + 1) 0 ≡ 0 → ⊥) → g ≡ globals → Declaring T b (set vars n x) (3 * (n + 1)) (n + 1) g
+  pub again-other : {g x : ℕ} → x ≡ codeFor (getD b (3 * n + 1) 0) (getD b (3 * n + 2) 0) → (getD b (3 * n + 1) 0 ≡ 0 → ⊥) → g ≡ globals → Declaring T b vars₀ (set vars n x) (3 * (n + 1)) (n + 1) g
   again-other c z q = rw (q, c) (next-place (declaring-other law d (omega arith) k (omega arith) (sym e ∙ t) z))
 
 -- a good declaration, by the tests of the two loops
@@ -309,15 +325,15 @@ other-kind kind class type t =
     (eqb-true kind 1 (and-l (eqb kind 1) (not (eqb class 0)) b), eqb-false class 0 (not-so (eqb class 0) (and-r (eqb kind 1) (not (eqb class 0)) b)), omega (arith, leb-true type 1 (and-r (eqb kind 1 && not (eqb class 0) && leb class 2) (leb type 1) t)))
 
 -- one turn of each loop
-pub next-global : {T : Table} (law : LawfulTable T) {b vars : List ℕ} {n x : ℕ} {r : Bool} → Declaring T b vars (3 * n) n n → n < length b / 3 → n < 64
-    → r ≡ declaresGlobal (getD b (3 * n) 0) (getD b (3 * n + 1) 0) (getD b (3 * n + 2) 0) → r ≡ true → x ≡ codeFor 0 (getD b (3 * n + 2) 0) → Declaring T b (set vars n x) (3 * (n + 1)) (n + 1) (n + 1)
+pub next-global : {T : Table} (law : LawfulTable T) {b vars₀ vars : List ℕ} {n x : ℕ} {r : Bool} → Declaring T b vars₀ vars (3 * n) n n → n < length b / 3 → n < 64
+    → r ≡ declaresGlobal (getD b (3 * n) 0) (getD b (3 * n + 1) 0) (getD b (3 * n + 2) 0) → r ≡ true → x ≡ codeFor 0 (getD b (3 * n + 2) 0) → Declaring T b vars₀ (set vars n x) (3 * (n + 1)) (n + 1) (n + 1)
 next-global law {b} {n = n} d h l e t c =
     let k = global-kind (getD b (3 * n) 0) (getD b (3 * n + 1) 0) (getD b (3 * n + 2) 0) (sym e ∙ t) in
     again-global law d h (k .0) refl (global-ok (getD b (3 * n) 0) (getD b (3 * n + 1) 0) (getD b (3 * n + 2) 0) n l (sym e ∙ t)) (c ∙ ap (λ (z : ℕ). codeFor z (getD b (3 * n + 2) 0)) (sym (k .1))) (k .1) refl
 
-pub next-other : {T : Table} (law : LawfulTable T) {b vars : List ℕ} {n globals x : ℕ} {r : Bool} → Declaring T b vars (3 * n) n globals → n < length b / 3 → n < 64
+pub next-other : {T : Table} (law : LawfulTable T) {b vars₀ vars : List ℕ} {n globals x : ℕ} {r : Bool} → Declaring T b vars₀ vars (3 * n) n globals → n < length b / 3 → n < 64
     → r ≡ declaresOther (getD b (3 * n) 0) (getD b (3 * n + 1) 0) (getD b (3 * n + 2) 0) → r ≡ true → x ≡ codeFor (getD b (3 * n + 1) 0) (getD b (3 * n + 2) 0)
-    → Declaring T b (set vars n x) (3 * (n + 1)) (n + 1) globals
+    → Declaring T b vars₀ (set vars n x) (3 * (n + 1)) (n + 1) globals
 next-other law {b} {n = n} {globals = globals} d h l e t c =
     let k = other-kind (getD b (3 * n) 0) (getD b (3 * n + 1) 0) (getD b (3 * n + 2) 0) (sym e ∙ t) in
     again-other law d h (k .0) refl (other-ok (getD b (3 * n) 0) (getD b (3 * n + 1) 0) (getD b (3 * n + 2) 0) n l globals (sym e ∙ t)) c (k .1) refl

@@ -9,7 +9,7 @@ use Rattle.theory.specs.Sets.{empty}
 use Rattle.ops.specs.Ops.{kindOf}
 use Rattle.ops.specs.Rows.{Table}
 use Rattle.block.specs.Records.{recordsOf, recordBytes, declarations, opsFrom, classesOf, declaredTypes, globalCount}
-use Rattle.block.specs.Scan.{Coded, DeclaredBy, placesFrom, labelsFrom, recordsAt, ScannedBy, Begins, Approved, Scanned}
+use Rattle.block.specs.Scan.{Coded, DeclaredBy, placesFrom, labelsFrom, recordsAt, ScannedBy, Declaring, Begins, Approved, Scanned}
 use Rattle.block.proofs.Cut.{bytes-both, headOp, split-again}
 use Rattle.block.proofs.Fields.{kind-at}
 use Rattle.block.proofs.Places.{standing}
@@ -32,14 +32,15 @@ head-left [] more h = refl
 head-left (o ∷ os) more h = h
 
 -- what the first scan leaves to the second
-pub begins-by : {T : Table} {b vars : List ℕ} {rule p n globals : ℕ} → DeclaredBy T b vars rule p n globals → rule ≡ 0 → Begins T b vars p
-begins-by {n = n} {globals = globals} d e = record { n = n; globals = globals; after = d .declaring; no-more = d .no-more e }
+pub begins-by : {T : Table} {b vars₀ vars : List ℕ} {rule p n globals : ℕ} → DeclaredBy T b vars₀ vars rule p n globals → vars₀ ≡ replicate 256 15 → rule ≡ 0 → Begins T b vars p
+begins-by {T = T} {b = b} {vars = vars} {p = p} {n = n} {globals = globals} d z e =
+    record { n = n; globals = globals; after = subst (λ (v : List ℕ). Declaring T b v vars p n globals) z (d .declaring); no-more = d .no-more e }
 
 -- a declaration is refused: no op has been read
-pub scan-refused : {T : Table} {b vars : List ℕ} {rule p n globals : ℕ} (places labels : List ℕ) → DeclaredBy T b vars rule p n globals → (rule ≡ 0 → ⊥) → labels ≡ replicate 32 0
+pub scan-refused : {T : Table} {b vars₀ vars : List ℕ} {rule p n globals : ℕ} (places labels : List ℕ) → DeclaredBy T b vars₀ vars rule p n globals → vars₀ ≡ replicate 256 15 → (rule ≡ 0 → ⊥) → labels ≡ replicate 32 0
     → Scanned T b places vars places labels rule p p n globals 0
 unfolding placesFrom labelsFrom
-scan-refused {T = T} {b = b} {rule = rule} {p = p} places labels s k z =
+scan-refused {T = T} {b = b} {rule = rule} {p = p} places labels s f k z =
     let d = s .declaring in
     let q = rw (append-nil (d .before)) at (split-again (d .before) [] (d .all-declared) refl) in
     record {
@@ -49,8 +50,8 @@ scan-refused {T = T} {b = b} {rule = rule} {p = p} places labels s k z =
       all-read = λ u. absurd (k u);
       place-is = sym (d .spans);
       variables = ap length (q .0) ∙ d .count;
-      coded = rw (q .0) (d .coded);
-      long-base = d .long-vars;
+      coded = rw (q .0) (d .coded f);
+      long-base = d .long-vars ∙ ap length f;
       globals-are = d .globals-are ∙ ap (λ (x : List (List ℕ)). globalCount (classesOf x)) (sym (q .0));
       few = d .few;
       start-is = d .place-is;
@@ -61,9 +62,9 @@ scan-refused {T = T} {b = b} {rule = rule} {p = p} places labels s k z =
     }
 
 -- the declarations have been read, and then ops
-pub scan-done : {T : Table} {b vars places₀ places labels : List ℕ} {rule₀ p n globals rule place ops : ℕ} → DeclaredBy T b vars rule₀ p n globals → rule₀ ≡ 0
+pub scan-done : {T : Table} {b vars₀ vars places₀ places labels : List ℕ} {rule₀ p n globals rule place ops : ℕ} → DeclaredBy T b vars₀ vars rule₀ p n globals → vars₀ ≡ replicate 256 15 → rule₀ ≡ 0
     → ScannedBy T b p places₀ places labels rule place ops → Scanned T b places₀ vars places labels rule place p n globals ops
-scan-done {T = T} {b = b} {places₀ = places₀} {p = p} {place = place} s e o =
+scan-done {T = T} {b = b} {places₀ = places₀} {p = p} {place = place} s f e o =
     let d = s .declaring in
     let u = o .up-to in
     let ds = d .before in
@@ -75,8 +76,8 @@ scan-done {T = T} {b = b} {places₀ = places₀} {p = p} {place = place} s e o 
       all-read = o .all-read;
       place-is = sym (bytes-both ds (u .read) ∙ ap (λ (m : ℕ). m + length (recordBytes (u .read))) (d .spans) ∙ u .spans);
       variables = ap length (q .0) ∙ d .count;
-      coded = rw (q .0) (d .coded);
-      long-base = d .long-vars;
+      coded = rw (q .0) (d .coded f);
+      long-base = d .long-vars ∙ ap length f;
       globals-are = d .globals-are ∙ ap (λ (x : List (List ℕ)). globalCount (classesOf x)) (sym (q .0));
       few = d .few;
       start-is = d .place-is;

@@ -305,8 +305,8 @@ begins-start {T = T} {b = b} {labels = labels} {p = p} places₀ g z =
     record {
       seen = declaredSeen (classesOf (g .after .before)) (declaredTypes (g .after .before));
       goes-on = g .after .goes-on;
-      coded = g .after .coded;
-      based = g .after .coded;
+      coded = g .after .coded refl;
+      based = g .after .coded refl;
       declared = omega (arith, classes-length (g .after .before), g .after .count, g .after .few);
       labels-so = sym (numbered-none 32 z);
       targets-so = sym (marked-none 32 refl);

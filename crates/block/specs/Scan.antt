@@ -15,7 +15,7 @@ use Rattle.memory.specs.Bytes.{lowFirst}
 use Rattle.ops.specs.Rows.{Row, outsIn, insIn, restIn, testIn, roleIn, typesIn, rowIn, roleNo, isKnown, isClosing, isSetting, isJumping, testOk}
 use Rattle.ops.specs.Ops.{rowAt, bytesAt, outsBy, labelBy}
 use Rattle.block.specs.Checks.{Finding, asks, firstBroken, rulesOf, refusedOr, checkFrom, checkBy}
-use Rattle.block.specs.Records.{cutOf, recordsOf, recordBytes, isDeclaration, declarations, opsFrom, classesOf, declaredTypes, globalCount}
+use Rattle.block.specs.Records.{cutOf, recordsOf, recordBytes, isDeclaration, declarations, opsFrom, classOf, typeOf, classesOf, declaredTypes, globalCount}
 use Rattle.block.specs.Rules.{Seen, start, keptIn, labelFree, markedBy, allSet}
 use Rattle.block.specs.declared.Verdict.{Verdict}
 use Rattle.block.specs.declared.Verdict.the-variants.{Accepted, Refused}
@@ -122,8 +122,17 @@ pub record LabelMarks (sets jumps : Bool) (l op : ℕ) (labels labels′ targets
 abbrev pub declaredSeen : List ℕ → List ℕ → Seen
 declaredSeen classes types = record { classes = classes; types = types; written = empty; labels = empty; targets = empty; ops = 0; last = 0 }
 
+-- the byte of a variable of this class and type
+abbrev pub codeFor : ℕ → ℕ → ℕ
+codeFor class type = against (ltb class 2) (type % 4)
+
+-- the bytes of the variables that these records declare, the first of them the i-th
+unfoldable pub codesFrom : ℕ → List ℕ → List (List ℕ) → List ℕ
+codesFrom i vars [] = vars
+codesFrom i vars (d ∷ ds) = codesFrom (suc i) (set vars i (codeFor (classOf d) (typeOf d))) ds
+
 -- n declarations have been read up to a place, and the check goes on from there
-pub record Declaring (T : Table) (block vars : List ℕ) (place n globals : ℕ) : Type 0 where
+pub record Declaring (T : Table) (block vars₀ vars : List ℕ) (place n globals : ℕ) : Type 0 where
   pub before : List (List ℕ)
   pub goes-on : checkAt T (declaredSeen (classesOf before) (declaredTypes before)) block place ≡ checkBy T block
   pub records-are : recordsOf T block ≡ before ++ (cutOf T (drop place block)) .records
@@ -134,12 +143,9 @@ pub record Declaring (T : Table) (block vars : List ℕ) (place n globals : ℕ)
   pub spans : length (recordBytes before) ≡ place
   pub reached : place ≤ length block
   pub few : n ≤ 64
-  pub coded : Coded vars (classesOf before) (declaredTypes before) empty
-  pub long-vars : length vars ≡ 256
-
--- the byte of a variable of this class and type
-abbrev pub codeFor : ℕ → ℕ → ℕ
-codeFor class type = against (ltb class 2) (type % 4)
+  pub vars-are : vars ≡ codesFrom 0 vars₀ before
+  pub coded : vars₀ ≡ replicate 256 15 → Coded vars (classesOf before) (declaredTypes before) empty
+  pub long-vars : length vars ≡ length vars₀
 
 -- rule 3 of the n-th variable's declaration, where so many are globals
 unfoldable pub declarationOk : ℕ → ℕ → ℕ → ℕ → Bool
@@ -166,8 +172,8 @@ abbrev pub declaredRule : List ℕ → ℕ → ℕ
 declaredRule block place = cond (leb (length block) place) 0 (cond (not (eqb (getD block place 0) 1)) 0 (cond (ltb (length block - place) 3) 1 3))
 
 -- what the scan of the declarations answers: those up to the place have been read; there one is refused, or none follows
-pub record DeclaredBy (T : Table) (block vars : List ℕ) (rule place n globals : ℕ) : Type 0 where
-  pub declaring : Declaring T block vars place n globals
+pub record DeclaredBy (T : Table) (block vars₀ vars : List ℕ) (rule place n globals : ℕ) : Type 0 where
+  pub declaring : Declaring T block vars₀ vars place n globals
   pub refused : (rule ≡ 0 → ⊥) → Refused rule place ≡ checkBy T block
   pub no-more : rule ≡ 0 → place < length block → getD block place 0 ≡ 1 → ⊥
 
@@ -304,7 +310,7 @@ pub record Marks (T : Table) (r : List ℕ) (op : ℕ) (base vars vars′ labels
 pub record Begins (T : Table) (block base : List ℕ) (place : ℕ) : Type 0 where
   pub n : ℕ
   pub globals : ℕ
-  pub after : Declaring T block base place n globals
+  pub after : Declaring T block (replicate 256 15) base place n globals
   pub no-more : place < length block → getD block place 0 ≡ 1 → ⊥
 
 -- ops have been read up to a place, and the check goes on from there: what has been seen, and that the arrays hold it; last: the rank of the last op's kind

@@ -1,7 +1,8 @@
 // The declarations of a block.
 ghost use mathlib.Core.Path.{_≡_};
-ghost use Prim.Native.Nat.{_*_, _/_, _≤_, _<_, min};
-ghost use lib.ListN.{length, replicate};
+ghost use mathlib.Core.List.{List};
+ghost use Prim.Native.Nat.{ℕ, _*_, _/_, _≤_, _<_, min};
+ghost use lib.ListN.{length};
 ghost use Rattle.ops.specs.Rows.{Table};
 ghost use Rattle.ops.specs.Lawful.{LawfulTable};
 ghost use Rattle.block.specs.Scan.{codeFor, declaresGlobal, declaresOther, declaredRule, Declaring, NoGlobal, Stopped, DeclaredBy};
@@ -38,8 +39,8 @@ fn declares_other(kind: u8, class: u8, ty: u8) -> bool
 
 // Reads declarations of globals, up to the first record that is none; how many there are.
 fn count_globals(block: &[u8], limit: usize, vars: &mut [u8; 256]) -> usize
-    requires { ⌜ (now vars ≡ replicate 256 15) × (limit ≡ min (length (now block) / 3) 64) ⌝ }
-    ensures { λ r. ⌜ ((T : Table) → LawfulTable T → Declaring T (now (block .entry)) (now (vars .exit)) (3 * r) r r) × (r ≤ limit) × NoGlobal (now (block .entry)) limit r ⌝ }
+    requires { ⌜ limit ≡ min (length (now block) / 3) 64 ⌝ }
+    ensures { λ r. ⌜ ((T : Table) → LawfulTable T → Declaring T (now (block .entry)) (now (vars .entry)) (now (vars .exit)) (3 * r) r r) × (r ≤ limit) × NoGlobal (now (block .entry)) limit r ⌝ }
 {
     let mut n: usize = 0;
     while n < limit {
@@ -56,8 +57,8 @@ fn count_globals(block: &[u8], limit: usize, vars: &mut [u8; 256]) -> usize
 
 // Reads declarations after the globals, up to the first record that is no good one; how many variables there are.
 fn count_others(block: &[u8], limit: usize, globals: usize, vars: &mut [u8; 256]) -> usize
-    requires { ⌜ ((T : Table) → LawfulTable T → Declaring T (now block) (now vars) (3 * globals) globals globals) × (globals ≤ limit) × NoGlobal (now block) limit globals × (limit ≡ min (length (now block) / 3) 64) ⌝ }
-    ensures { λ r. ⌜ ((T : Table) → LawfulTable T → Declaring T (now (block .entry)) (now (vars .exit)) (3 * r) r globals) × Stopped (now (block .entry)) (3 * r) r globals × (r ≤ 64) ⌝ }
+    requires { ⌜ (globals ≤ limit) × NoGlobal (now block) limit globals × (limit ≡ min (length (now block) / 3) 64) ⌝ }
+    ensures { λ r. ⌜ ((T : Table) → LawfulTable T → (vars₀ : List ℕ) → Declaring T (now (block .entry)) vars₀ (now (vars .entry)) (3 * globals) globals globals → Declaring T (now (block .entry)) vars₀ (now (vars .exit)) (3 * r) r globals) × Stopped (now (block .entry)) (3 * r) r globals × (r ≤ 64) ⌝ }
 {
     let mut n = globals;
     while n < limit {
@@ -99,8 +100,7 @@ fn rule_at(block: &[u8], at: usize) -> u8
 
 // Reads the declarations, up to the first record that is none or the first that is refused.
 pub fn scan_declarations(block: &[u8], vars: &mut [u8; 256]) -> Declared
-    requires { ⌜ now vars ≡ replicate 256 15 ⌝ }
-    ensures { λ r. ⌜ ((T : Table) → LawfulTable T → DeclaredBy T (now (block .entry)) (now (vars .exit)) (r .rule) (r .place) (r .variables) (r .globals)) ⌝ }
+    ensures { λ r. ⌜ ((T : Table) → LawfulTable T → DeclaredBy T (now (block .entry)) (now (vars .entry)) (now (vars .exit)) (r .rule) (r .place) (r .variables) (r .globals)) ⌝ }
 {
     let limit = most(block.len());
     let globals = count_globals(block, limit, vars);

@@ -15,24 +15,24 @@ use Rattle.passes.specs.declared.Written.the-variants.{Refused as PassRefused, 
 abbrev pub refusal : ℕ → ℕ → ℕ
 refusal number place = number + 256 * place
 
--- "0 accepted, else number + 256 * place"
+-- the check: 0 if the block is accepted, else the refusal
 abbrev pub checkNumber : Verdict → ℕ
 checkNumber Accepted = 0
 checkNumber (Refused number place) = refusal number place
 
--- "256 * length, else number + 256 * place"
+-- the pass: 256 times the length of the result, else the refusal
 abbrev pub passNumber : Written → ℕ
 passNumber (PassRefused number place) = refusal number place
 passNumber (Length n) = 256 * n
 
--- "0 with report", else "number + 256 * place"
+-- the run: 0 with a report, else the refusal
 abbrev pub runNumber : Ending → ℕ
 runNumber (RunRefused number place) = refusal number place
 runNumber (Exit value count) = 0
 runNumber (Fault store address flags count) = 0
 runNumber (NoResult position count) = 0
 
--- "[1, exit value, 0, count], [2, address, flags + 256 * (1 for a store), count] or [3, position, 0, count]; refused: … untouched"
+-- the report: 1, exit value, 0, count; 2, address, flags and 256 for a store, count; 3, position, 0, count; a refused run leaves it as it was
 abbrev pub reportOf : Ending → List ℕ → List ℕ
 reportOf (RunRefused number place) report = report
 reportOf (Exit value count) report = 1 ∷ value ∷ 0 ∷ count ∷ []

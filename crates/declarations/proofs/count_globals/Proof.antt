@@ -14,14 +14,14 @@ use Rattle.declarations.proofs.count_globals.Statement.{statement}
 use Rattle.declarations.proofs.count_globals.Tie as tie
 
 abbrev Inv-loop : tie.InvT-loop
-Inv-loop block limit vars₀ n₀ vars n = (n ≤ limit) × ((T : Table) → LawfulTable T → Declaring T block vars (3 * n) n n)
+Inv-loop block limit vars₀ n₀ vars n = (n ≤ limit) × ((T : Table) → LawfulTable T → Declaring T block vars₀ vars (3 * n) n n)
 
 abbrev μ-loop : tie.MeasureT-loop
 μ-loop block limit vars₀ n₀ vars n = limit - n
 
 -- the turn's place is inside
 room : (k : tie.In-loop Inv-loop μ-loop) → let l = k .before in (l .loop .n < length (l .before .before .args .block .now) / 3) × (l .loop .n < 64)
-room k = let p = k .before .before .before .pre .1 in (omega (arith, k .loop-test .taken, p), omega (arith, k .loop-test .taken, p))
+room k = let p = k .before .before .before .pre in (omega (arith, k .loop-test .taken, p), omega (arith, k .loop-test .taken, p))
 
 abbrev turn : tie.Else1 Inv-loop μ-loop → tie.In-loop Inv-loop μ-loop
 turn c = c .before .before .before .before .before
@@ -53,6 +53,6 @@ returns-2 c = let l = c .before .loop in (l .inv .1, l .inv .0, λ h. absurd (om
 pub count-globals-spec : {M : Type 1} → statement M
 count-globals-spec =
     tie.close
-    (tie.spec Inv-loop μ-loop (λ c. (omega arith, λ T law. declaring-start T _ _ (c .before .pre .0))) (λ c. omega (arith, room c .1)) (λ c. omega (arith, room c .1)) (λ c. omega (arith, room (c .before) .0))
+    (tie.spec Inv-loop μ-loop (λ c. (omega arith, λ T law. declaring-start T _ _)) (λ c. omega (arith, room c .1)) (λ c. omega (arith, room c .1)) (λ c. omega (arith, room (c .before) .0))
     (λ c. omega (arith, room (c .before .before) .0)) (λ c. omega (arith, room (c .before .before) .1)) (λ c. omega (arith, room (c .before .before .before) .0)) (λ c κs. search needs) returns code-requires
     (λ c. omega (arith, room (turn (c .before)) .1)) (λ c. omega (arith, room (turn (c .before)) .1)) (λ c. omega (arith, turn (c .before) .loop-test .taken)) loop-again returns-2)

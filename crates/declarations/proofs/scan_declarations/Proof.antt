@@ -5,7 +5,10 @@ use Rattle.declarations.proofs.scan_declarations.Statement.{statement}
 use Rattle.declarations.proofs.scan_declarations.Tie as tie
 
 returns : tie.Need-returns
-returns c T law = let d = c .before .count-others .ensures in declared-by law (d .0 T law) (d .1) (c .rule-at .ensures)
+returns c T law =
+    let g = c .before .before .before .count-globals .ensures in
+    let d = c .before .count-others .ensures in
+    declared-by law (d .0 T law _ (g .0 T law)) (d .1) (c .rule-at .ensures)
 
 pub scan-declarations-spec : {M : Type 1} → statement M
 scan-declarations-spec =
