@@ -11,7 +11,7 @@ use Rattle.ops.specs.Kinds.{rowOf, document01}
 use Rattle.block.specs.Checks.{checkOf}
 use Rattle.block.specs.Records.{recordsOf, declarations, opsFrom, classesOf}
 use Rattle.block.specs.Rules.{globalsIn, keptIn}
-use Rattle.runs.specs.Runs.{ranAs, runOf}
+use Rattle.runs.specs.Runs.{Run}
 use Rattle.passes.specs.Demand.{Fit, Room, unstatedEnd, SameEnd}
 use Rattle.passes.specs.Passes.{resultOf, passOf}
 use Rattle.block.specs.declared.Verdict.{Verdict}
@@ -28,10 +28,6 @@ pub record Checked (block : List ℕ) (verdict : Verdict) : Type 0 where
 pub record Optimised (block out : List ℕ) (answer : Written) (out′ : List ℕ) : Type 0 where
   pub answered : answer ≡ (passOf block out) .answer
   pub left : out′ ≡ (passOf block out) .out
-
--- a call of the run that was lent globals and memory ended so and left globals′ and memory′
-pub record Run (block globals memory : List ℕ) (ending : Ending) (globals′ memory′ : List ℕ) : Type 0 where
-  pub left : ranAs ending globals′ memory′ ≡ runOf block globals memory
 
 -- the answer is the result's length, the result is the first bytes, and "bytes of the buffer after it stay as they were"
 pub record Wrote (size : ℕ) (result out : List ℕ) (answer : Written) (out′ : List ℕ) : Type 0 where

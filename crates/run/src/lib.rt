@@ -1,20 +1,16 @@
 // The run of a block.
 ghost use mathlib.Core.Path.{_≡_};
-ghost use Prim.Native.Nat.{_≤_};
-ghost use lib.ListN.{length};
 ghost use Rattle.ops.specs.Kinds.{kindTable, rowOf, document01};
 ghost use Rattle.block.specs.Records.{recordsOf, opsFrom};
-ghost use Rattle.runs.specs.Runs.{ranAs, runOf, runOps};
+ghost use Rattle.runs.specs.Runs.{ranAs, runOps, Run};
 ghost use Rattle.runs.specs.Steps.{ReadyToRun};
 use execute::execute;
 use kinds::table;
-use lending::copy_in;
-use lending::copy_out;
 use lending::lent_ok;
 use runs::Ending;
 use scan::scan;
 
-// Runs the ops of a block that the scan has accepted.
+// Runs the ops of a block that the scan has accepted, on the lent globals and on temporaries that start at zero.
 fn run_ops(
     kinds: &[u32; 256],
     block: &[u8],
@@ -25,28 +21,26 @@ fn run_ops(
     globals: &mut [u64],
     memory: &mut [u8],
 ) -> Ending
-    requires { ⌜ ReadyToRun (now block) (now places) (now labels) start ops × (length (now globals) ≤ 256) × (now kinds ≡ kindTable) ⌝ }
+    requires { ⌜ ReadyToRun (now block) (now places) (now labels) start ops × (now kinds ≡ kindTable) ⌝ }
     ensures { λ r. ⌜ ranAs r (now (globals .exit)) (now (memory .exit)) ≡ runOps document01 (opsFrom (recordsOf rowOf (now (block .entry)))) (now (globals .entry)) (now (memory .entry)) ⌝ }
 {
-    let mut values = [0u64; 256];
-    copy_in(globals, &mut values);
-    let ending = execute(
+    let mut temps = [0u64; 256];
+    execute(
         kinds,
         block,
         start,
         ops,
         places,
         labels,
-        &mut values,
+        globals,
+        &mut temps,
         memory,
-    );
-    copy_out(&values, globals);
-    ending
+    )
 }
 
 // Checks a block and runs it: the answer, and the globals and memory that it leaves.
 pub fn run(block: &[u8], globals: &mut [u64], memory: &mut [u8]) -> Ending
-    ensures { λ r. ⌜ ranAs r (now (globals .exit)) (now (memory .exit)) ≡ runOf (now (block .entry)) (now (globals .entry)) (now (memory .entry)) ⌝ }
+    ensures { λ r. ⌜ Run (now (block .entry)) (now (globals .entry)) (now (memory .entry)) r (now (globals .exit)) (now (memory .exit)) ⌝ }
 {
     let mut base = [15u8; 256];
     let mut places = [0u16; 256];

@@ -1,6 +1,7 @@
 pub mod Roles
 pub mod Ends
 pub mod Landing
+pub mod Variables
 pub mod Stating
 pub mod Performed
 pub mod Lending
