@@ -8,3 +8,4 @@ pub mod Lending
 pub mod Running
 pub mod Ran
 pub mod Dispatch
+pub mod Meaning
