@@ -1,6 +1,6 @@
 -- What the run's answers mean: a run of an accepted block ends by one of its ops, and its answer is that op's. Assumes nothing.
-use mathlib.Core.Path.{_≡_, refl, sym, ap, _∙_, subst}
-use mathlib.Core.Bool.{Bool, true, false, cond, false≢true}
+use mathlib.Core.Path.{_≡_, refl, sym, ap, ap₂, subst}
+use mathlib.Core.Bool.{Bool, true, false, cond, false≢true, true≢false}
 use mathlib.Core.Option.{Option, none, some}
 use mathlib.Core.List.{List, [], _∷_}
 use mathlib.Core.Logic.{_⊎_, inl, inr}
@@ -20,8 +20,8 @@ use Rattle.ops.proofs.Lawful.{Lawful}
 use Rattle.block.specs.Checks.{checkBy}
 use Rattle.block.specs.Records.{recordsOf, declarations, opsFrom}
 use Rattle.block.specs.declared.Verdict.the-variants.{Accepted}
-use Rattle.runs.specs.Runs.{fits, entry, Ran, answerOf, opsRun, runOps, runChecked, runBy}
-use Rattle.runs.specs.Meaning.{Path, here, on, StatesNothing, Answers, exits, faults as faulted, unstated as noneStated, Ended, RunMeans, RunsMean}
+use Rattle.runs.specs.Runs.{fits, entry, Ran, noAnswer, answerOf, opsRun, runOps, runChecked, runBy}
+use Rattle.runs.specs.Meaning.{Path, here, on, StatesNothing, Answers, exits, faults as faulted, unstated as noneStated, Ended, OpsMean, RunMeans, RunsMean}
 use Rattle.runs.specs.declared.Ending.{Ending}
 use Rattle.runs.specs.declared.Ending.the-variants.{Refused, Exit, Fault as Faulted, NoResult}
 use Rattle.runs.proofs.Ends.{run-ends}
@@ -145,28 +145,52 @@ answer-so D op s position completed unstated p h =
 answer-so D op s position completed fell p h = absurd (false≢true p)
 answer-so D op s position completed spent p h = absurd (false≢true p)
 
+-- every other end has no answer
+no-answer : (e : End ℕ Fault) (position count : ℕ) → proper e ≡ false → answerOf e position count ≡ noAnswer
+no-answer (exit v) position count p = absurd (true≢false p)
+no-answer (fault f) position count p = absurd (true≢false p)
+no-answer unstated position count p = absurd (true≢false p)
+no-answer fell position count p = refl
+no-answer spent position count p = refl
+
+-- a run of ops from a state
+module _ (D : Dialect) (os : List (List ℕ)) (s : St (tcg D)) where
+  abbrev r : Result (tcg D)
+  r = opsRun D os s
+
+  abbrev answer : Ending
+  answer = answerOf (r .end) (length os - length (r .left)) (r .count)
+
+  ended-so : proper (r .end) ≡ true → Ended D os s answer (r .state)
+  ended-so p =
+      let h : Stopped D os os s r = stopped D os (suc (length os)) 0 s p in
+      let position : length os - length (r .left) ≡ h .position = omega (arith, ap length (h .left-is), length-drop (h .position) os, h .inside) in
+      let is : answer ≡ answerOf (r .end) (h .position) (h .completed + cost (r .end)) = ap₂ (answerOf (r .end)) position (h .counts) in
+      record {
+        position = h .position;
+        completed = h .completed;
+        inside = h .inside;
+        path = h .path;
+        answers = subst (Answers D (getD os (h .position) []) (r .state) (h .position) (h .completed)) (sym is)
+            (answer-so D (getD os (h .position) []) (r .state) (h .position) (h .completed) (r .end) p (h .ends));
+      }
+
+  by-end : (proper (r .end) ≡ true) ⊎ (proper (r .end) ≡ false) → (answer ≡ noAnswer) ⊎ Ended D os s answer (r .state)
+  by-end (inl p) = inr (ended-so p)
+  by-end (inr p) = inl (no-answer (r .end) (length os - length (r .left)) (r .count) p)
+
+pub ops-mean : (D : Dialect) → OpsMean D
+ops-mean D os s = by-end D os s (tell (proper ((opsRun D os s) .end)))
+
 pub runs-mean : {D : Dialect} (law : Lawful D) → RunsMean D
 unfolding runBy runChecked runOps
 runs-mean {D} law block globals memory accepted fit =
     let os = opsFrom (recordsOf (D .rows) block) in
-    let r = opsRun D os (entry D globals memory) in
-    let p : proper (r .end) ≡ true = run-ends law block globals memory accepted in
-    let h : Stopped D os os (entry D globals memory) r = stopped D os (suc (length os)) 0 (entry D globals memory) p in
+    let s = entry D globals memory in
     let ran : runBy D block globals memory ≡ runOps D os globals memory = rw (accepted, fit) in
-    let position : length os - length (r .left) ≡ h .position = omega (arith, ap length (h .left-is), length-drop (h .position) os, h .inside) in
-    let answer : (runBy D block globals memory) .answer ≡ answerOf (r .end) (h .position) (h .completed + cost (r .end)) =
-    ap (λ (x : Ran). x .answer) ran ∙ ap (λ (i : ℕ). answerOf (r .end) i (r .count)) position ∙ ap (answerOf (r .end) (h .position)) (h .counts) in
     record {
-      left = r .state;
-      ended =
-          record {
-            position = h .position;
-            completed = h .completed;
-            inside = h .inside;
-            path = h .path;
-            answers = subst (Answers D (getD os (h .position) []) (r .state) (h .position) (h .completed)) (sym answer)
-                (answer-so D (getD os (h .position) []) (r .state) (h .position) (h .completed) (r .end) p (h .ends));
-          };
+      left = (opsRun D os s) .state;
+      ended = subst (λ (a : Ending). Ended D os s a ((opsRun D os s) .state)) (sym (ap (λ (x : Ran). x .answer) ran)) (ended-so D os s (run-ends law block globals memory accepted));
       globals-left = ap (λ (x : Ran). x .globals) ran;
       memory-left = ap (λ (x : Ran). x .memory) ran;
     }

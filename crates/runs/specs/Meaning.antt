@@ -3,14 +3,15 @@ use mathlib.Core.Path.{_≡_}
 use mathlib.Core.Bool.{Bool, true}
 use mathlib.Core.Option.{none}
 use mathlib.Core.List.{List, []}
-use Prim.Native.Nat.{ℕ, suc, _<_}
+use Prim.Native.Nat.{ℕ, suc, _-_, _<_}
+use mathlib.Core.Logic.{_⊎_}
 use lib.ListN.{length, getD, drop}
 use Rattle.theory.specs.Machine.{exit, fault, stops, inputs, computes, pure, reads, effect, St, goes, step}
 use Rattle.ops.specs.Ops.{Dialect, viewOf, tcg, faultOf}
 use Rattle.block.specs.Checks.{checkBy}
 use Rattle.block.specs.Records.{recordsOf, declarations, opsFrom}
 use Rattle.block.specs.declared.Verdict.the-variants.{Accepted}
-use Rattle.runs.specs.Runs.{fits, entry, valuesFrom, runBy}
+use Rattle.runs.specs.Runs.{fits, entry, valuesFrom, noAnswer, answerOf, opsRun, runBy}
 use Rattle.runs.specs.declared.Ending.{Ending}
 use Rattle.runs.specs.declared.Ending.the-variants.{Exit, Fault, NoResult}
 
@@ -42,7 +43,14 @@ pub record Ended (D : Dialect) (ops : List (List ℕ)) (s : St (tcg D)) (answer 
   pub path : Path D ops completed ops s (drop position ops) s′
   pub answers : Answers D (getD ops position []) s′ position completed answer
 
--- "It ends in one of three ways", by one of the block's ops. "The globals and memory then hold what the completed ops left."
+-- whatever the ops are, one of them ended the run, or it has no answer: it came past the last op, or was out of steps
+abbrev pub OpsMean : Dialect → Type 0
+OpsMean D = (ops : List (List ℕ)) (s : St (tcg D)) →
+    let r = opsRun D ops s in
+    let answer = answerOf (r .end) (length ops - length (r .left)) (r .count) in
+    (answer ≡ noAnswer) ⊎ Ended D ops s answer (r .state)
+
+-- an accepted block's run has an answer: "It ends in one of three ways", by one of its ops. "The globals and memory then hold what the completed ops left."
 pub record RunMeans (D : Dialect) (block globals memory : List ℕ) : Type 0 where
   pub left : St (tcg D)
   pub ended : Ended D (opsFrom (recordsOf (D .rows) block)) (entry D globals memory) ((runBy D block globals memory) .answer) left
