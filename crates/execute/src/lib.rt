@@ -5,7 +5,7 @@ ghost use lib.ListN.{getD};
 ghost use Rattle.theory.specs.Machine.{cost};
 ghost use Rattle.ops.specs.Kinds.{kindTable};
 ghost use Rattle.runs.specs.Runs.{answerOf};
-ghost use Rattle.runs.specs.Steps.{endOf, ReadyToRun, Executed};
+ghost use Rattle.runs.specs.Steps.{endOf, stateOf, ReadyToRun, Executed};
 use marks::index;
 use runs::Ending;
 use runs::Outcome;
@@ -61,7 +61,8 @@ fn ended(stop: Stop, op: usize, count: u64) -> Ending
     }
 }
 
-// Runs the ops from the first on. A jump goes to its label's op, whose number the scan kept.
+// Runs the ops from the first on. A jump goes to its label's op, whose number the scan kept. The last op ends the run, so the loop's own
+// end is never reached.
 pub fn execute(
     kinds: &[u32; 256],
     block: &[u8],
@@ -69,18 +70,19 @@ pub fn execute(
     ops: usize,
     places: &[u16; 256],
     labels: &[u16; 32],
-    values: &mut [u64; 256],
+    globals: &mut [u64],
+    temps: &mut [u64; 256],
     memory: &mut [u8],
 ) -> Ending
     requires { ⌜ ReadyToRun (now block) (now places) (now labels) start ops × (now kinds ≡ kindTable) ⌝ }
-    ensures { λ r. ⌜ Executed (now (block .entry)) (now (values .entry)) (now (memory .entry)) (now (values .exit)) (now (memory .exit)) r ⌝ }
+    ensures { λ r. ⌜ Executed (now (block .entry)) (stateOf (now (globals .entry)) (now (temps .entry)) (now (memory .entry))) (stateOf (now (globals .exit)) (now (temps .exit)) (now (memory .exit))) r ⌝ }
 {
     let mut op: usize = 0;
     let mut at = start;
     let mut count: u64 = 0;
     while op < ops {
         let kind = block[at];
-        let outcome = step(kinds, block, at, kind, values, memory);
+        let outcome = step(kinds, block, at, kind, globals, temps, memory);
         match outcome {
             Outcome::Falls(next) => {
                 op += 1;
@@ -94,8 +96,8 @@ pub fn execute(
         }
         count += 1;
     }
-    Ending::NoResult {
-        position: ops as u64,
-        count,
+    Ending::Refused {
+        number: 0,
+        place: 0,
     }
 }

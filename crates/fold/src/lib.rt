@@ -24,6 +24,7 @@ use shapes::rest;
 use shapes::role;
 use shapes::shape;
 use values::evaluate;
+use values::put_value;
 use word::Stated;
 
 // Whether a variable's value is known: its byte is 1.
@@ -38,7 +39,7 @@ fn learn(known: &mut [u8; 256], values: &mut [u64; 256], v: u8, x: u64)
     ensures { λ _. ⌜ knownOf (marked (now (known .exit))) (now (values .exit)) ≡ upd (knownOf (marked (now (known .entry))) (now (values .entry))) v (some x) ⌝ }
 {
     put(known, v, 1);
-    values::put(values, v, x);
+    put_value(values, v, x);
 }
 
 // Whether the variables that the bytes from a place on name are known.
@@ -78,7 +79,7 @@ fn stated_by(s: u16, block: &[u8], at: usize, known: &[u8; 256], values: &[u64; 
     let outputs = outs(s);
     let inputs = ins(s);
     if all_known(block, at + 1 + outputs, inputs, known) {
-        return evaluate(outputs + inputs, rest(s), block, at, block[at], values);
+        return evaluate(outputs + inputs, rest(s), block, at, block[at], &[], values);
     }
     Stated::NoResult
 }

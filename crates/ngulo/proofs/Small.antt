@@ -113,8 +113,8 @@ ran-small ops globals r = go (r .end)
     go (exit v) = tt
     go (fault f) = tt
     go unstated = tt
-    go fell = tt
-    go spent = tt
+    go fell = omega arith
+    go spent = omega arith
 
 ending-by : (block globals memory : List ℕ) (v : Verdict) → checkOf block ≡ v → SmallEnding ((runChecked document01 (recordsOf rowOf block) globals memory v) .answer)
 unfolding runChecked runOps

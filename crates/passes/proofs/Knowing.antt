@@ -29,6 +29,7 @@ use Rattle.block.proofs.Operands.{eachBy}
 use Rattle.block.proofs.Views.{body-from, byte, row-at, constant-view, pure-view}
 use Rattle.runs.specs.Evaluates.{Computed, inputsAt, statesAt, valuesOf, envOf}
 use Rattle.runs.proofs.Roles.{role-by}
+use Rattle.runs.proofs.Variables.{env-alone}
 use Rattle.ops.proofs.Table.{number-of}
 use Rattle.ops.proofs.Document01.{lawful}
 use Rattle.ops.specs.Folds.{foldableRow, folding}
@@ -119,7 +120,7 @@ ends-unknown b p (suc n) l h f = go (tell (everyIn (bytesAt b p (suc n)) l))
         absurd (clash _ both (rw last at f))
 
 -- the values of inputs that are all known
-inputs-known : (known : Vars) (values xs : List ℕ) → everyIn xs known ≡ true → allKnown (reads (knownOf known values) xs) ≡ some (reads (envOf values) xs)
+inputs-known : (known : Vars) (values xs : List ℕ) → everyIn xs known ≡ true → allKnown (reads (knownOf known values) xs) ≡ some (reads (λ v. getD values v 0) xs)
 inputs-known known values [] h = refl
 inputs-known known values (x ∷ xs) h =
     ap (λ (t : Bool). allKnown (cond t (some (getD values x 0)) none ∷ reads (knownOf known values) xs)) (and-l (known x) (everyIn xs known) h)
@@ -149,8 +150,9 @@ module _ {b : List ℕ} {p k : ℕ} (c : Computed b p k) {e : ℕ} (q : e ≡ ge
   stated-is : statedBy (knownOf known values) (recordAt rowOf b p) ≡ bindO (statesAt b p k) (allKnown (reads (knownOf known values) (inputsAt b p k)))
   stated-is = rw (ap foldableRow (row-at (c .stands)) ∙ computing-folds k (c .role-is), pure-view (c .stands) (c .role-is))
 
-  pub states-known : {r : Stated} → t ≡ true → statesAt b p k (reads (envOf values) (inputsAt b p k)) ≡ valuesOf r → StatesKnown b p known values r
-  states-known h s = record { states-so = stated-is ∙ ap (bindO (statesAt b p k)) (inputs-known known values (inputsAt b p k) (sym these ∙ h)) ∙ s }
+  pub states-known : {r : Stated} → t ≡ true → statesAt b p k (reads (envOf [] values) (inputsAt b p k)) ≡ valuesOf r → StatesKnown b p known values r
+  states-known h s =
+      record { states-so = stated-is ∙ ap (bindO (statesAt b p k)) (inputs-known known values (inputsAt b p k) (sym these ∙ h)) ∙ ap (λ (env : ℕ → ℕ). statesAt b p k (reads env (inputsAt b p k))) (sym (env-alone values)) ∙ s }
 
   pub unknown-states : t ≡ false → StatesKnown b p known values NoResult
   unknown-states h = record { states-so = stated-is ∙ ap (bindO (statesAt b p k)) (inputs-unknown known values (inputsAt b p k) (sym these ∙ h)) }

@@ -37,8 +37,8 @@ promise block out answer out′ c room o =
       accepted = λ verdict v. v ∙ d .accepted;
       alike = λ globals memory ending ending′ globals₁ memory₁ globals₂ memory₂ fit run₁ run₂ stated.
           let a : Alike (record { answer = ending; globals = globals₁; memory = memory₁ }) (record { answer = ending′; globals = globals₂; memory = memory₂ }) =
-          subst₂ (λ (s t : Ran). Alike s t) (sym (run₁ .left)) (sym (run₂ .left))
-          (d .alike globals memory fit (ap (λ (r : Ran). unstatedEnd (r .answer)) (sym (run₁ .left)) ∙ stated)) in
+          subst₂ (λ (s t : Ran). Alike s t) (sym run₁) (sym run₂)
+          (d .alike globals memory fit (ap (λ (r : Ran). unstatedEnd (r .answer)) (sym run₁) ∙ stated)) in
           (a .end, a .globals, a .memory);
       folded = d .folded;
       used = d .used;

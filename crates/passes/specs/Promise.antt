@@ -13,7 +13,7 @@ use Rattle.ops.specs.Folds.{folding}
 use Rattle.block.specs.Checks.{Checked}
 use Rattle.block.specs.Records.{recordsOf, declarations, opsFrom, classesOf}
 use Rattle.block.specs.Rules.{globalsIn, keptIn}
-use Rattle.runs.specs.Runs.{ranAs, runOf}
+use Rattle.runs.specs.Runs.{Run}
 use Rattle.passes.specs.Demand.{Fit, Room, unstatedEnd, SameEnd}
 use Rattle.passes.specs.Passes.{resultOf, Optimised}
 use Rattle.block.specs.declared.Verdict.{Verdict}
@@ -21,10 +21,6 @@ use Rattle.block.specs.declared.Verdict.the-variants.{Accepted}
 use Rattle.runs.specs.declared.Ending.{Ending}
 use Rattle.passes.specs.declared.Written.{Written}
 use Rattle.passes.specs.declared.Written.the-variants.{Length}
-
--- a call of the run that was lent globals and memory ended so and left globals′ and memory′
-pub record Run (block globals memory : List ℕ) (ending : Ending) (globals′ memory′ : List ℕ) : Type 0 where
-  pub left : ranAs ending globals′ memory′ ≡ runOf block globals memory
 
 -- the answer is the result's length, the result is the first bytes, and "bytes of the buffer after it stay as they were"
 pub record Wrote (size : ℕ) (result out : List ℕ) (answer : Written) (out′ : List ℕ) : Type 0 where

@@ -1,52 +1,14 @@
 // The run of a block.
-ghost use mathlib.Core.Path.{_≡_};
-ghost use Prim.Native.Nat.{_≤_};
-ghost use lib.ListN.{length};
-ghost use Rattle.ops.specs.Kinds.{kindTable, rowOf, document01};
-ghost use Rattle.block.specs.Records.{recordsOf, opsFrom};
-ghost use Rattle.runs.specs.Runs.{ranAs, runOf, runOps};
-ghost use Rattle.runs.specs.Steps.{ReadyToRun};
+ghost use Rattle.runs.specs.Runs.{Run};
 use execute::execute;
 use kinds::table;
-use lending::copy_in;
-use lending::copy_out;
 use lending::lent_ok;
 use runs::Ending;
 use scan::scan;
 
-// Runs the ops of a block that the scan has accepted.
-fn run_ops(
-    kinds: &[u32; 256],
-    block: &[u8],
-    start: usize,
-    ops: usize,
-    places: &[u16; 256],
-    labels: &[u16; 32],
-    globals: &mut [u64],
-    memory: &mut [u8],
-) -> Ending
-    requires { ⌜ ReadyToRun (now block) (now places) (now labels) start ops × (length (now globals) ≤ 256) × (now kinds ≡ kindTable) ⌝ }
-    ensures { λ r. ⌜ ranAs r (now (globals .exit)) (now (memory .exit)) ≡ runOps document01 (opsFrom (recordsOf rowOf (now (block .entry)))) (now (globals .entry)) (now (memory .entry)) ⌝ }
-{
-    let mut values = [0u64; 256];
-    copy_in(globals, &mut values);
-    let ending = execute(
-        kinds,
-        block,
-        start,
-        ops,
-        places,
-        labels,
-        &mut values,
-        memory,
-    );
-    copy_out(&values, globals);
-    ending
-}
-
-// Checks a block and runs it: the answer, and the globals and memory that it leaves.
+// Checks a block and runs it on the lent globals and memory, with temporaries that start at zero: the answer, and what is left in both.
 pub fn run(block: &[u8], globals: &mut [u64], memory: &mut [u8]) -> Ending
-    ensures { λ r. ⌜ ranAs r (now (globals .exit)) (now (memory .exit)) ≡ runOf (now (block .entry)) (now (globals .entry)) (now (memory .entry)) ⌝ }
+    ensures { λ r. ⌜ Run (now (block .entry)) (now (globals .entry)) (now (memory .entry)) r (now (globals .exit)) (now (memory .exit)) ⌝ }
 {
     let mut base = [15u8; 256];
     let mut places = [0u16; 256];
@@ -66,7 +28,8 @@ pub fn run(block: &[u8], globals: &mut [u64], memory: &mut [u8]) -> Ending
         };
     }
     let kinds = table();
-    run_ops(
+    let mut temps = [0u64; 256];
+    execute(
         &kinds,
         block,
         s.start,
@@ -74,6 +37,7 @@ pub fn run(block: &[u8], globals: &mut [u64], memory: &mut [u8]) -> Ending
         &places,
         &labels,
         globals,
+        &mut temps,
         memory,
     )
 }

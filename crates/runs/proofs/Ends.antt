@@ -6,6 +6,7 @@ use mathlib.Core.Logic.{_⊎_, inl, inr}
 use Prim.Native.Nat.{ℕ, zero, suc, _<_}
 use native.Mathlib.Omega.{arith}
 use lib.Dec.{eqb}
+use lib.ListN.{length, getD}
 use borrow.Author.Tests.{eqb-true, eqb-false, eq-eqb, not-true}
 use lib.Arith.{lt-of-le-ne}
 use Rattle.theory.proofs.Checker.{checks}
@@ -50,6 +51,14 @@ not-last law s o h = ap goesOn (exit-view law o (eqb-true (kindOf o) 0x04 (and-l
 next-due : {D : Dialect} (law : Lawful D) (b : List (List ℕ)) (o : List ℕ) (r : List (List ℕ)) → Due D b (o ∷ r) → goesOn (viewOf D o) ≡ true → Due D b r
 next-due {D = D} law b o [] d h = clash (goesOn (viewOf D o)) h (not-last law (d .0) o (and-r (opOk (D .rows) (d .0) o) (allMet (endRules (passed (D .rows) (d .0) o))) (d .1)))
 next-due {D = D} law b o (q ∷ r) d h = (passed (D .rows) (d .0) o, and-r (opOk (D .rows) (d .0) o) (checks (tcg D) (checker D) (passed (D .rows) (d .0) o) (q ∷ r)) (d .1), ahead-next D b (d .0) o (q ∷ r) (d .2))
+
+-- an op that goes on has an op after it
+pub goes-inside : {D : Dialect} (law : Lawful D) (s : Seen) (os : List (List ℕ)) (i : ℕ) → checks (tcg D) (checker D) s os ≡ true → i < length os → goesOn (viewOf D (getD os i [])) ≡ true → suc i < length os
+goes-inside law s [] i c h g = absurd (omega arith)
+goes-inside {D = D} law s (o ∷ []) zero c h g = clash (goesOn (viewOf D o)) g (not-last law s o (and-r (opOk (D .rows) s o) (allMet (endRules (passed (D .rows) s o))) c))
+goes-inside {D = D} law s (o ∷ (q ∷ os)) zero c h g = omega arith
+goes-inside {D = D} law s (o ∷ os) (suc i) c h g =
+    omega (arith, goes-inside law (passed (D .rows) s o) os i (and-r (opOk (D .rows) s o) (checks (tcg D) (checker D) (passed (D .rows) s o) os) c) (omega arith) g)
 
 -- a label that is not set stays so up to its set_label, and a target stays one
 pub other-labels : (D : Dialect) (s : Seen) (o : List ℕ) (k : ℕ) → isLabel k (viewOf D o) ≡ false → s .labels k ≡ false → s .targets k ≡ true
@@ -127,6 +136,10 @@ grounded law b = record { some-op = λ d. d; next-op = next-due law b; landed = 
 no-op : (s : Seen) → s .last ≡ 0 → rule10 s ≡ false
 unfolding rule10
 no-op s e = rw e
+
+pub some-ops : (D : Dialect) (s : Seen) (os : List (List ℕ)) → s .last ≡ 0 → checks (tcg D) (checker D) s os ≡ true → 0 < length os
+some-ops D s [] e c = clash (rule10 s) (and-l (rule10 s) _ c) (no-op s e)
+some-ops D s (o ∷ os) e c = omega arith
 
 -- accepted ops end in one of the three ways
 pub ops-end : {D : Dialect} (law : Lawful D) (s : Seen) (os : List (List ℕ)) (t : St (tcg D)) → s .last ≡ 0 → checks (tcg D) (checker D) s os ≡ true → proper ((opsRun D os t) .end) ≡ true

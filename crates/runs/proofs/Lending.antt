@@ -12,7 +12,7 @@ use borrow.Author.Tests.{ltb-true, ltb-false, eqb-true, eqb-false, lt-ltb, le-lt
 use native.Mathlib.Nat.{zero-add, add-zero}
 use native.Mathlib.Numerals.{add-one}
 use lib.Arith.{lt-of-le-ne}
-use Rattle.theory.proofs.Sets.{tell}
+use Rattle.theory.proofs.Sets.{and-l, and-r, tell}
 use Rattle.ops.specs.Limits.{maxMemory}
 use Rattle.ops.specs.Rows.{bitsOf, narrowOk}
 use Rattle.block.proofs.MarkSets.{set-here, at-place, zeros}
@@ -30,60 +30,6 @@ getD-any : (xs : List ℕ) (v d e : ℕ) → v < length xs → getD xs v d ≡ g
 getD-any [] v d e h = absurd (omega arith)
 getD-any (x ∷ xs) zero d e h = refl
 getD-any (x ∷ xs) (suc v) d e h = getD-any xs v d e (omega arith)
-
--- the first i globals have been copied into values that were zero
-pub record CopiedIn (globals values : List ℕ) (i : ℕ) : Type 0 where
-  pub each : (v : ℕ) → getD values v 0 ≡ cond (ltb v i) (getD globals v 0) 0
-
-pub in-start : (globals : List ℕ) {values : List ℕ} → values ≡ replicate 256 0 → CopiedIn globals values 0
-in-start globals e = record { each = λ v. ap (λ (l : List ℕ). getD l v 0) e ∙ zeros 256 v ∙ rw (le-ltb v 0 (omega arith)) }
-
-pub in-next : {globals values : List ℕ} {i : ℕ} → CopiedIn globals values i → i < length values → CopiedIn globals (set values i (getD globals i 0)) (i + 1)
-in-next {globals} {values} {i} c h = record { each = λ v. at-place (set-here values i (getD globals i 0) h) v ∙ go v (tell (eqb i v)) (tell (ltb v i)) }
-  where
-    go : (v : ℕ) → (eqb i v ≡ true) ⊎ (eqb i v ≡ false) → (ltb v i ≡ true) ⊎ (ltb v i ≡ false)
-        → cond (eqb i v) (getD globals i 0) (getD values v 0) ≡ cond (ltb v (i + 1)) (getD globals v 0) 0
-    go v (inl e) t = let q = eqb-true i v e in rw (e, lt-ltb v (i + 1) (omega arith)) (ap (λ (n : ℕ). getD globals n 0) q)
-    go v (inr e) (inl t) = let q = ltb-true v i t in rw (e, lt-ltb v (i + 1) (omega arith)) (c .each v ∙ rw t)
-    go v (inr e) (inr t) =
-        let q : i ≤ v = ltb-false v i t in
-        let l : i < v = lt-of-le-ne q (eqb-false i v e) in
-        rw (e, le-ltb v (i + 1) (omega arith)) (c .each v ∙ rw t)
-
-pub in-end : {globals values : List ℕ} {i : ℕ} → CopiedIn globals values i → length globals ≤ i → envOf values ≡ envOf globals
-in-end {globals} {values} {i} c h = fun-ext (λ v. c .each v ∙ go v (tell (ltb v i)))
-  where
-    go : (v : ℕ) → (ltb v i ≡ true) ⊎ (ltb v i ≡ false) → cond (ltb v i) (getD globals v 0) 0 ≡ getD globals v 0
-    go v (inl t) = rw t
-    go v (inr t) = let q : i ≤ v = ltb-false v i t in rw t (sym (List·getD-eq-default globals 0 {n = v} (omega arith)))
-
--- the first i globals have been copied back
-pub record CopiedOut (values globals : List ℕ) (i : ℕ) : Type 0 where
-  pub each : (v : ℕ) → v < i → getD globals v 0 ≡ getD values v 0
-
-pub out-start : (values globals : List ℕ) → CopiedOut values globals 0
-out-start values globals = record { each = λ v h. absurd (omega arith) }
-
-pub out-next : {values globals : List ℕ} {i : ℕ} → CopiedOut values globals i → i < length globals → CopiedOut values (set globals i (getD values i 0)) (i + 1)
-out-next {values} {globals} {i} c h = record { each = λ v l. at-place (set-here globals i (getD values i 0) h) v ∙ go v l (tell (eqb i v)) }
-  where
-    go : (v : ℕ) → v < i + 1 → (eqb i v ≡ true) ⊎ (eqb i v ≡ false) → cond (eqb i v) (getD values i 0) (getD globals v 0) ≡ getD values v 0
-    go v l (inl e) = rw e (ap (λ (n : ℕ). getD values n 0) (eqb-true i v e))
-    go v l (inr e) = let q : v < i = lt-of-le-ne (omega arith) (λ z. eqb-false i v e (sym z)) in rw e (c .each v q)
-
-values-length : (env : ℕ → ℕ) (v n : ℕ) → length (valuesFrom env v n) ≡ n
-values-length env v zero = refl
-values-length env v (suc n) = ap suc (values-length env (suc v) n)
-
-values-at : (env : ℕ → ℕ) (v n i : ℕ) → i < n → getD (valuesFrom env v n) i 0 ≡ env (v + i)
-values-at env v zero i h = absurd (omega arith)
-values-at env v (suc n) zero h = ap env (sym (add-zero v))
-values-at env v (suc n) (suc i) h = let e : suc v + i ≡ v + suc i = omega arith in values-at env (suc v) n i (omega arith) ∙ ap env e
-
-pub out-end : {values globals : List ℕ} {i : ℕ} (n : ℕ) → CopiedOut values globals i → length globals ≤ i → length globals ≡ n → globals ≡ valuesFrom (envOf values) 0 n
-out-end {values} {globals} {i} n c h e =
-    ext-getD 0 globals (valuesFrom (envOf values) 0 n) (e ∙ sym (values-length (envOf values) 0 n))
-    (λ j l. c .each j (omega arith) ∙ sym (values-at (envOf values) 0 n j (omega arith) ∙ ap (λ (v : ℕ). getD values v 0) (zero-add j)))
 
 -- the globals from the i-th on decide the whole
 pub record FitFrom (base globals : List ℕ) (i : ℕ) : Type 0 where
@@ -103,8 +49,21 @@ module _ {base globals : List ℕ} {i : ℕ} (f : FitFrom base globals i) (h : i
     pub fit-stops : t ≡ false → false ≡ codesFit base globals
     fit-stops q = rw (sym e ∙ q) at turn
 
-pub fit-end : {base globals : List ℕ} {i : ℕ} → FitFrom base globals i → length globals ≤ i → true ≡ codesFit base globals
-fit-end {base} {globals} {i} f h = sym (ap (codesFit (drop i base)) (drop-of-length-le globals h)) ∙ f .left
+-- the loop's test
+pub fit-more : (i m n : ℕ) → (ltb i m && ltb i n) ≡ true → (i < m) × (i < n)
+fit-more i m n h = (ltb-true i m (and-l (ltb i m) (ltb i n) h), ltb-true i n (and-r (ltb i m) (ltb i n) h))
+
+-- no byte is left, or no global
+pub fit-end : {base globals : List ℕ} {i : ℕ} → FitFrom base globals i → (ltb i (length base) && ltb i (length globals)) ≡ false → true ≡ codesFit base globals
+fit-end {base} {globals} {i} f h = go (tell (ltb i (length base))) ∙ f .left
+  where
+    none : (gs : List ℕ) → true ≡ codesFit [] gs
+    none [] = refl
+    none (g ∷ gs) = refl
+
+    go : (ltb i (length base) ≡ true) ⊎ (ltb i (length base) ≡ false) → true ≡ codesFit (drop i base) (drop i globals)
+    go (inl t) = sym (ap (codesFit (drop i base)) (drop-of-length-le globals (ltb-false i (length globals) (rw t at h))))
+    go (inr t) = none (drop i globals) ∙ sym (ap (λ (cs : List ℕ). codesFit cs (drop i globals)) (drop-of-length-le base (ltb-false i (length base) t)))
 
 -- rule 11, test by test
 module _ (base : List ℕ) (declared : ℕ) (globals memory : List ℕ) where

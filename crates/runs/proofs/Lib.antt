@@ -1,9 +1,11 @@
 pub mod Roles
 pub mod Ends
 pub mod Landing
+pub mod Variables
 pub mod Stating
 pub mod Performed
 pub mod Lending
 pub mod Running
 pub mod Ran
 pub mod Dispatch
+pub mod Meaning

@@ -1,4 +1,4 @@
--- The run's answer, from what the scan, the loop and the copies of the globals give. Assumes nothing.
+-- The run's answer, from what the scan and the loop give. Assumes nothing.
 use mathlib.Core.Path.{_≡_, sym, ap, _∙_}
 use mathlib.Core.Bool.{Bool, true, false, cond, _&&_}
 use mathlib.Core.Logic.{_⊎_, inl, inr}
@@ -6,7 +6,7 @@ use mathlib.Core.List.{List, [], _∷_}
 use Prim.Native.Nat.{ℕ, suc, _-_, _≤_}
 use native.Mathlib.Omega.{arith}
 use lib.Dec.{eqb, leb}
-use lib.ListN.{length}
+use lib.ListN.{length, replicate}
 use borrow.Author.Tests.{eqb-true}
 use Rattle.theory.specs.Machine.{St, Result}
 use Rattle.theory.proofs.Sets.{and-l, tell}
@@ -18,24 +18,24 @@ use Rattle.block.specs.Scan.{Approved, Scanned}
 use Rattle.block.proofs.Declaring.{classes-length, types-length}
 use Rattle.block.proofs.Scanned.{refuse-by, approve}
 use Rattle.runs.proofs.Lending.{codes-fit}
+use Rattle.runs.proofs.Variables.{lent-env, globals-left}
 use Rattle.runs.specs.Runs.{fits, valuesFrom, ranAs, answerOf, ranOf, opsRun, runOps, runRefused, runChecked, runOf, runBy}
-use Rattle.runs.specs.Evaluates.{envOf}
 use Rattle.runs.specs.Steps.{stateOf, ReadyToRun, Executed, codesFit, lentOk}
 use Rattle.runs.specs.declared.Ending.{Ending}
 use Rattle.runs.specs.declared.Ending.the-variants.{Refused}
 
--- the ops' run, from copies of the globals
-pub ops-ran : {b values memory values′ memory′ : List ℕ} {ending : Ending} (globals globals′ : List ℕ) → envOf values ≡ envOf globals → Executed b values memory values′ memory′ ending
-    → globals′ ≡ valuesFrom (envOf values′) 0 (length globals) → ranAs ending globals′ memory′ ≡ runOps document01 (opsFrom (recordsOf rowOf b)) globals memory
+-- the ops' run, on the lent globals and temporaries that start at zero
+pub ops-ran : {b : List ℕ} {ending : Ending} (globals temps memory globals′ temps′ memory′ : List ℕ) → temps ≡ replicate 256 0 → length globals′ ≡ length globals
+    → Executed b (stateOf globals temps memory) (stateOf globals′ temps′ memory′) ending → ranAs ending globals′ memory′ ≡ runOps document01 (opsFrom (recordsOf rowOf b)) globals memory
 unfolding runOps
-ops-ran {b} {values} {memory} {values′} {memory′} {ending} globals globals′ e x g =
+ops-ran {b} {ending} globals temps memory globals′ temps′ memory′ e n x =
     let os = opsFrom (recordsOf rowOf b) in
-    let r : Result (tcg document01) = opsRun document01 os (stateOf values memory) in
+    let r : Result (tcg document01) = opsRun document01 os (stateOf globals temps memory) in
     let a : ending ≡ answerOf (r .end) (length os - length (r .left)) (r .count) = x .answers in
-    let c : globals′ ≡ valuesFrom (r .state .env) 0 (length globals) = g ∙ ap (λ (s : St (tcg document01)). valuesFrom (s .env) 0 (length globals)) (x .state-is) in
+    let c : globals′ ≡ valuesFrom (r .state .env) 0 (length globals) = globals-left globals′ temps′ (length globals) n ∙ ap (λ (s : St (tcg document01)). valuesFrom (s .env) 0 (length globals)) (x .state-is) in
     let m : memory′ ≡ r .state .mem = ap (λ (s : St (tcg document01)). s .mem) (x .state-is) in
     (λ i. ranAs (a i) (c i) (m i))
-    ∙ ap (λ (f : ℕ → ℕ). ranOf document01 (length os) (length globals) (opsRun document01 os (record { env = f; mem = memory }))) e
+    ∙ ap (λ (f : ℕ → ℕ). ranOf document01 (length os) (length globals) (opsRun document01 os (record { env = f; mem = memory }))) (lent-env globals temps e)
 
 -- the globals are some of the variables
 pub global-few : (cs : List ℕ) → globalCount cs ≤ length cs
@@ -58,9 +58,6 @@ module _ {b places₀ base places labels : List ℕ} {rule place start n globals
 
     abbrev declared : List (List ℕ)
     declared = declarations (recordsOf rowOf b)
-
-    pub few-lent : (globals ≤ 256) × (length base ≡ 256)
-    few-lent = let a = approved-by in (omega (arith, a .globals-are, global-few (classesOf declared), classes-length declared, a .variables, a .few), a .long-base)
 
     pub ready-by : length places₀ ≡ 256 → ReadyToRun b places labels start ops
     ready-by l = record { places₀ = places₀; base = base; n = n; globals = globals; approved = approved-by; long-places = l }
@@ -90,11 +87,6 @@ module _ {b places₀ base places labels : List ℕ} {rule place start n globals
       -- rule 11
       pub unlent-ran : t ≡ false → ranAs (Refused 11 0) lent memory ≡ runOf b lent memory
       unlent-ran f = sym (choice ∙ rw f)
-
-      pub lent-few : t ≡ true → length lent ≤ 256
-      lent-few f =
-          let q : eqb (length lent) globals ≡ true = and-l (eqb (length lent) globals) _ (and-l (eqb (length lent) globals && codesFit base lent) (leb (length memory) maxMemory) (sym e ∙ f)) in
-          omega (arith, eqb-true (length lent) globals q, few-lent)
 
       pub accepted-ran : t ≡ true → runOps document01 (opsFrom (recordsOf rowOf b)) lent memory ≡ runOf b lent memory
       accepted-ran f = sym (choice ∙ rw f)

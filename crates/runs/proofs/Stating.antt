@@ -19,7 +19,7 @@ use Rattle.ops.proofs.Entry.{Digits, digits}
 use Rattle.ops.proofs.Inputs.{folded-inputs}
 use Rattle.ops.proofs.Table.{row-of}
 use Rattle.ops.specs.Folds.{foldableRow}
-use Rattle.runs.specs.Evaluates.{Computed, inputsAt, statesAt, valuesOf, envOf}
+use Rattle.runs.specs.Evaluates.{Computed, inputsAt, statesAt, valuesOf}
 use Rattle.word.specs.declared.Stated.{Stated}
 
 one-stated : (o : Option ℕ) → one o ≡ valuesOf (statedOf o)
@@ -37,10 +37,10 @@ module _ {b : List ℕ} {p k : ℕ} (c : Computed b p k) {e n m : ℕ} (q : e �
   pub bytes-fit : p + 1 + n + m ≤ length b
   bytes-fit = omega (arith, c .stands .whole, d .body)
 
-  pub evaluates : (values : List ℕ) {u v x y : ℕ} {r : Stated} → u ≡ envOf values (at b (p + 2)) → v ≡ envOf values (at b (p + 3)) → x ≡ envOf values (at b (p + 4))
-      → y ≡ envOf values (at b (p + 5)) → r ≡ statedOf (foldedOf k (take (p + 1 + n + m - (p + 1 + n)) (drop (p + 1 + n) b)) u v x y)
-      → statesAt b p k (reads (envOf values) (inputsAt b p k)) ≡ valuesOf r
-  evaluates values {u} {v} {x} {y} eu ev ex ey e =
+  pub evaluates : (env : ℕ → ℕ) {u v x y : ℕ} {r : Stated} → u ≡ env (at b (p + 2)) → v ≡ env (at b (p + 3)) → x ≡ env (at b (p + 4))
+      → y ≡ env (at b (p + 5)) → r ≡ statedOf (foldedOf k (take (p + 1 + n + m - (p + 1 + n)) (drop (p + 1 + n) b)) u v x y)
+      → statesAt b p k (reads env (inputsAt b p k)) ≡ valuesOf r
+  evaluates env {u} {v} {x} {y} eu ev ex ey e =
       let rest = (rowOf k) .rest in
       let bytes = take rest (drop (p + (1 + operandCount rowOf k)) b) in
       let size : p + 1 + n + m - (p + 1 + n) ≡ rest = omega (arith, d .rest) in
@@ -49,6 +49,6 @@ module _ {b : List ℕ} {p k : ℕ} (c : Computed b p k) {e n m : ℕ} (q : e �
       let e₁ : suc (p + 2) ≡ p + 3 = omega arith in
       let e₂ : suc (suc (p + 2)) ≡ p + 4 = omega arith in
       let e₃ : suc (suc (suc (p + 2))) ≡ p + 5 = omega arith in
-      ap (λ (s : List ℕ). evalOf document01 k s (reads (envOf values) (inputsAt b p k))) (sym (take-take rest rest (drop (p + (1 + operandCount rowOf k)) b) (omega arith)))
-      ∙ folded-inputs k folds (envOf values) b bytes (p + 2)
+      ap (λ (s : List ℕ). evalOf document01 k s (reads env (inputsAt b p k))) (sym (take-take rest rest (drop (p + (1 + operandCount rowOf k)) b) (omega arith)))
+      ∙ folded-inputs k folds env b bytes (p + 2)
       ∙ rw (e₃, e₂, e₁, ← eu, ← ev, ← ex, ← ey, ← same) (one-stated (foldedOf k (take (p + 1 + n + m - (p + 1 + n)) (drop (p + 1 + n) b)) u v x y) ∙ ap valuesOf (sym e))

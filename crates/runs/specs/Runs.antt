@@ -1,5 +1,6 @@
 -- The run: its answer, and the globals and memory that it leaves. Assumes nothing.
 use Prim.Native.Nat.{ℕ, zero, suc, _-_}
+use mathlib.Core.Path.{_≡_}
 use mathlib.Core.Bool.{Bool, true, cond, _&&_}
 use mathlib.Core.List.{List, [], _∷_}
 use lib.Dec.{eqb, leb}
@@ -44,14 +45,18 @@ pub record Ran : Type 0 where
 abbrev pub ranAs : Ending → List ℕ → List ℕ → Ran
 ranAs answer globals memory = record { answer = answer; globals = globals; memory = memory }
 
+-- the answer of no run: no rule has the number 0
+abbrev pub noAnswer : Ending
+noAnswer = Refused 0 0
+
 -- "It ends in one of three ways: exit with a value; fault with load or store, address and flags; or no stated result, with the op's
--- position counted from 0 among the ops." No run of an accepted block falls past its last op or uses up its steps (proofs/Ends)
+-- position counted from 0 among the ops." No run of an accepted block falls past its last op or uses up its steps (specs/Meaning)
 abbrev pub answerOf : End ℕ Fault → ℕ → ℕ → Ending
 answerOf (exit v) position count = Exit v count
 answerOf (fault f) position count = Faulted (f .store) (f .address) (f .flags) count
 answerOf unstated position count = NoResult position count
-answerOf fell position count = NoResult position count
-answerOf spent position count = NoResult position count
+answerOf fell position count = noAnswer
+answerOf spent position count = noAnswer
 
 -- "The globals and memory then hold what the completed ops left."
 abbrev pub ranOf : (D : Dialect) → ℕ → ℕ → Result (tcg D) → Ran
@@ -86,3 +91,7 @@ runBy D block globals memory = runChecked D (recordsOf (D .rows) block) globals 
 -- document 01's
 abbrev pub runOf : List ℕ → List ℕ → List ℕ → Ran
 runOf = runBy document01
+
+-- a call of the run that was lent globals and memory ended so and left globals′ and memory′
+abbrev pub Run : (block globals memory : List ℕ) (ending : Ending) (globals′ memory′ : List ℕ) → Type 0
+Run block globals memory ending globals′ memory′ = ranAs ending globals′ memory′ ≡ runOf block globals memory

@@ -25,9 +25,9 @@ use Rattle.runs.specs.declared.Outcome.the-variants.{Falls, JumpsTo, Sto
 use Rattle.runs.specs.declared.Stop.{Stop}
 use Rattle.runs.specs.declared.Stop.the-variants.{Leaves, Faults, Unstated}
 
--- the machine's state, from the values of the variables and the memory
-abbrev pub stateOf : List ℕ → List ℕ → St (tcg document01)
-stateOf values memory = record { env = envOf values; mem = memory }
+-- the machine's state, from the globals, the temporaries and the memory
+abbrev pub stateOf : List ℕ → List ℕ → List ℕ → St (tcg document01)
+stateOf globals temps memory = record { env = envOf globals temps; mem = memory }
 
 -- how a run ends, and the effect that an outcome tells, with the state that an op leaves to the next
 abbrev pub endOf : Stop → End ℕ Fault
@@ -59,15 +59,15 @@ afterState s (falls t) = t
 afterState s (jumps l) = s
 afterState s (stops e) = s
 
--- an op with this view, before the place next, is run: its outcome, and what it leaves in the values and the memory
-pub record Performs (w : View ℕ (List ℕ) ℕ Fault) (next : ℕ) (values memory values′ memory′ : List ℕ) (outcome : Outcome) : Type 0 where
-  pub tells : effectOf outcome (stateOf values′ memory′) ≡ effect 0 w (stateOf values memory)
-  pub leaves-so : stateOf values′ memory′ ≡ afterState (stateOf values memory) (effect 0 w (stateOf values memory))
+-- an op with this view, before the place next, is run from a state: its outcome, and the state that it leaves
+pub record Performs (w : View ℕ (List ℕ) ℕ Fault) (next : ℕ) (s s′ : St (tcg document01)) (outcome : Outcome) : Type 0 where
+  pub tells : effectOf outcome s′ ≡ effect 0 w s
+  pub leaves-so : s′ ≡ afterState s (effect 0 w s)
   pub goes-to : placeOr next outcome ≡ next
 
--- the same where the op leaves every memory as it is
-pub record PerformsAlone (w : View ℕ (List ℕ) ℕ Fault) (next : ℕ) (values values′ : List ℕ) (outcome : Outcome) : Type 0 where
-  pub under : (m : List ℕ) → Performs w next values m values′ m outcome
+-- the same where the op leaves every memory as it is, by what the variables hold before and after it
+pub record PerformsAlone (w : View ℕ (List ℕ) ℕ Fault) (next : ℕ) (env env′ : ℕ → ℕ) (outcome : Outcome) : Type 0 where
+  pub under : (m : List ℕ) → Performs w next (record { env = env; mem = m }) (record { env = env′; mem = m }) outcome
 
 -- the scan has accepted the block, and kept where its ops and labels are
 pub record ReadyToRun (block places labels : List ℕ) (start ops : ℕ) : Type 0 where
@@ -78,13 +78,13 @@ pub record ReadyToRun (block places labels : List ℕ) (start ops : ℕ) : Type 
   pub approved : Approved rowOf block places₀ base places labels start n globals ops
   pub long-places : length places₀ ≡ maxOps
 
--- the run of a block's ops from these values and this memory: the answer, and what is left in both
-pub record Executed (block values memory values′ memory′ : List ℕ) (ending : Ending) : Type 0 where
+-- the run of a block's ops from a state: the answer, and the state that is left
+pub record Executed (block : List ℕ) (s s′ : St (tcg document01)) (ending : Ending) : Type 0 where
   pub answers :
       let ops = opsFrom (recordsOf rowOf block) in
-      let r = opsRun document01 ops (stateOf values memory) in
+      let r = opsRun document01 ops s in
       ending ≡ answerOf (r .end) (length ops - length (r .left)) (r .count)
-  pub state-is : stateOf values′ memory′ ≡ (opsRun document01 (opsFrom (recordsOf rowOf block)) (stateOf values memory)) .state
+  pub state-is : s′ ≡ (opsRun document01 (opsFrom (recordsOf rowOf block)) s) .state
 
 -- rule 11, where the variables have these bytes, of which bit 0 is clear for 32 bits, and so many of them are globals
 abbrev pub codeFits : ℕ → ℕ → Bool

@@ -1,4 +1,4 @@
-// One op run: what it does to the values and the memory, and how the run goes on.
+// One op run: what it does to the globals, the temporaries and the memory, and how the run goes on.
 ghost use mathlib.Core.Path.{_≡_};
 ghost use Prim.Native.Nat.{_+_, _≤_, _<_, _%_, _^_};
 ghost use lib.ListN.{length};
@@ -7,7 +7,8 @@ ghost use Rattle.memory.specs.Answer.{accessWidth};
 ghost use Rattle.ops.specs.Ops.{viewOf};
 ghost use Rattle.ops.specs.Kinds.{kindTable, rowOf, document01};
 ghost use Rattle.block.specs.Scan.{recordAt, Stands};
-ghost use Rattle.runs.specs.Steps.{Performs, PerformsAlone, nextAt, branchOp, loadOp, storeOp, constantOp};
+ghost use Rattle.runs.specs.Evaluates.{envOf};
+ghost use Rattle.runs.specs.Steps.{stateOf, Performs, PerformsAlone, nextAt, branchOp, loadOp, storeOp, constantOp};
 use compute::narrow_op;
 use kinds::is_wide;
 use memory::Loaded;
@@ -33,12 +34,12 @@ fn holds(c: u8, a: u64, b: u64, wide: bool) -> bool
 }
 
 // brcond: c1, c2, condition, label.
-fn branch_step(block: &[u8], at: usize, wide: bool, values: &[u64; 256]) -> Outcome
+fn branch_step(block: &[u8], at: usize, wide: bool, globals: &[u64], temps: &[u64; 256]) -> Outcome
     requires { ⌜ at + 4 < length (now block) ⌝ }
-    ensures { λ r. ⌜ PerformsAlone (branchOp (now (block .entry)) at wide) (at + 5) (now (values .entry)) (now (values .entry)) r ⌝ }
+    ensures { λ r. ⌜ PerformsAlone (branchOp (now (block .entry)) at wide) (at + 5) (envOf (now (globals .entry)) (now (temps .entry))) (envOf (now (globals .entry)) (now (temps .entry))) r ⌝ }
 {
-    let a = get(values, block[at + 1]);
-    let b = get(values, block[at + 2]);
+    let a = get(globals, temps, block[at + 1]);
+    let b = get(globals, temps, block[at + 2]);
     let label = block[at + 4];
     let next = at + 5;
     if holds(block[at + 3], a, b, wide) {
@@ -48,17 +49,24 @@ fn branch_step(block: &[u8], at: usize, wide: bool, values: &[u64; 256]) -> Outc
 }
 
 // qemu_ld: d, address, flags.
-fn load_step(block: &[u8], at: usize, wide: bool, values: &mut [u64; 256], memory: &[u8]) -> Outcome
+fn load_step(
+    block: &[u8],
+    at: usize,
+    wide: bool,
+    globals: &mut [u64],
+    temps: &mut [u64; 256],
+    memory: &[u8],
+) -> Outcome
     requires { ⌜ at + 3 < length (now block) ⌝ }
-    ensures { λ r. ⌜ Performs (loadOp (now (block .entry)) at wide) (at + 4) (now (values .entry)) (now (memory .entry)) (now (values .exit)) (now (memory .entry)) r ⌝ }
+    ensures { λ r. ⌜ Performs (loadOp (now (block .entry)) at wide) (at + 4) (stateOf (now (globals .entry)) (now (temps .entry)) (now (memory .entry))) (stateOf (now (globals .exit)) (now (temps .exit)) (now (memory .entry))) r ⌝ }
 {
-    let address = get(values, block[at + 2]);
+    let address = get(globals, temps, block[at + 2]);
     let flags = block[at + 3];
     let next = at + 4;
     let loaded = load(memory, address, flags, wide);
     match loaded {
         Loaded::Value(x) => {
-            put(values, block[at + 1], x);
+            put(globals, temps, block[at + 1], x);
             Outcome::Falls(next)
         }
         Loaded::Fault => Outcome::Stops(Stop::Faults {
@@ -70,12 +78,18 @@ fn load_step(block: &[u8], at: usize, wide: bool, values: &mut [u64; 256], memor
 }
 
 // qemu_st: value, address, flags.
-fn store_step(block: &[u8], at: usize, values: &[u64; 256], memory: &mut [u8]) -> Outcome
+fn store_step(
+    block: &[u8],
+    at: usize,
+    globals: &[u64],
+    temps: &[u64; 256],
+    memory: &mut [u8],
+) -> Outcome
     requires { ⌜ at + 3 < length (now block) ⌝ }
-    ensures { λ r. ⌜ Performs (storeOp (now (block .entry)) at) (at + 4) (now (values .entry)) (now (memory .entry)) (now (values .entry)) (now (memory .exit)) r ⌝ }
+    ensures { λ r. ⌜ Performs (storeOp (now (block .entry)) at) (at + 4) (stateOf (now (globals .entry)) (now (temps .entry)) (now (memory .entry))) (stateOf (now (globals .entry)) (now (temps .entry)) (now (memory .exit))) r ⌝ }
 {
-    let value = get(values, block[at + 1]);
-    let address = get(values, block[at + 2]);
+    let value = get(globals, temps, block[at + 1]);
+    let address = get(globals, temps, block[at + 2]);
     let flags = block[at + 3];
     let next = at + 4;
     if store(memory, address, flags, value) {
@@ -89,12 +103,12 @@ fn store_step(block: &[u8], at: usize, values: &[u64; 256], memory: &mut [u8]) -
 }
 
 // movi: d, eight bytes.
-fn constant_step(block: &[u8], at: usize, values: &mut [u64; 256]) -> Outcome
+fn constant_step(block: &[u8], at: usize, globals: &mut [u64], temps: &mut [u64; 256]) -> Outcome
     requires { ⌜ at + 10 ≤ length (now block) ⌝ }
-    ensures { λ r. ⌜ PerformsAlone (constantOp (now (block .entry)) at) (at + 10) (now (values .entry)) (now (values .exit)) r ⌝ }
+    ensures { λ r. ⌜ PerformsAlone (constantOp (now (block .entry)) at) (at + 10) (envOf (now (globals .entry)) (now (temps .entry))) (envOf (now (globals .exit)) (now (temps .exit))) r ⌝ }
 {
     let next = at + 10;
-    put(values, block[at + 1], low_first(block, at + 2, 8));
+    put(globals, temps, block[at + 1], low_first(block, at + 2, 8));
     Outcome::Falls(next)
 }
 
@@ -104,20 +118,21 @@ pub fn step(
     block: &[u8],
     at: usize,
     kind: u8,
-    values: &mut [u64; 256],
+    globals: &mut [u64],
+    temps: &mut [u64; 256],
     memory: &mut [u8],
 ) -> Outcome
     requires { ⌜ Stands rowOf (now block) at kind × (now kinds ≡ kindTable) ⌝ }
-    ensures { λ r. ⌜ Performs (viewOf document01 (recordAt rowOf (now (block .entry)) at)) (nextAt (now (block .entry)) at) (now (values .entry)) (now (memory .entry)) (now (values .exit)) (now (memory .exit)) r ⌝ }
+    ensures { λ r. ⌜ Performs (viewOf document01 (recordAt rowOf (now (block .entry)) at)) (nextAt (now (block .entry)) at) (stateOf (now (globals .entry)) (now (temps .entry)) (now (memory .entry))) (stateOf (now (globals .exit)) (now (temps .exit)) (now (memory .exit))) r ⌝ }
 {
     match kind {
-        0x10 | 0x90 => constant_step(block, at, values),
-        0x2b | 0xab => load_step(block, at, is_wide(kind), values, memory),
-        0x2c | 0xac => store_step(block, at, values, memory),
-        0x2a | 0xaa => branch_step(block, at, is_wide(kind), values),
+        0x10 | 0x90 => constant_step(block, at, globals, temps),
+        0x2b | 0xab => load_step(block, at, is_wide(kind), globals, temps, memory),
+        0x2c | 0xac => store_step(block, at, globals, temps, memory),
+        0x2a | 0xaa => branch_step(block, at, is_wide(kind), globals, temps),
         0x02 => Outcome::Falls(at + 2),
         0x03 => Outcome::JumpsTo(block[at + 1]),
-        0x04 => Outcome::Stops(Stop::Leaves(get(values, block[at + 1]))),
-        _ => narrow_op(kinds, block, at, kind, values),
+        0x04 => Outcome::Stops(Stop::Leaves(get(globals, temps, block[at + 1]))),
+        _ => narrow_op(kinds, block, at, kind, globals, temps),
     }
 }

@@ -32,15 +32,15 @@ all-known-requires c κs =
 
 evaluate-requires : tie.Need-evaluate-requires
 evaluate-requires c κs =
-    let k = c .before .before .before .before in
+    let k = c .before .before .before .before .before in
     let s = k .before .before .before in
-    (computes s, ap₂ (λ (n m : ℕ). n + m) (outs-so k) (ins-so k), rest-as _ (s .pre .1) (c .before .rest .ensures))
+    (computes s, ap₂ (λ (n m : ℕ). n + m) (outs-so k) (ins-so k), rest-as _ (s .pre .1) (c .before .before .rest .ensures))
 
 returns : tie.Need-returns
 returns c =
-    let k = c .before .before .before .before .before in
+    let k = c .before .before .before .before .before .before in
     let s = k .before .before .before in
-    states-known (computes s) refl (marked (s .args .known .now)) (s .args .values .now) (outs-so k) (ins-so k) (c .before .before .before .before .all-known .ensures) (c .before .before .before .if1 .taken) (c .evaluate .ensures)
+    states-known (computes s) refl (marked (s .args .known .now)) (s .args .values .now) (outs-so k) (ins-so k) (c .before .before .before .before .before .all-known .ensures) (c .before .before .before .before .if1 .taken) (c .evaluate .ensures)
 
 returns-2 : tie.Need-returns-2
 returns-2 c =
@@ -51,4 +51,4 @@ returns-2 c =
 pub stated-by-spec : {M : Type 1} → statement M
 stated-by-spec =
     tie.close
-    (tie.spec (λ c κs. search needs) (λ c κs. search needs) (λ c. search needs) (λ c. search needs) all-known-requires (λ c. search needs) (λ c κs. search needs) (λ c. search needs) evaluate-requires returns returns-2)
+    (tie.spec (λ c κs. search needs) (λ c κs. search needs) (λ c. search needs) (λ c. search needs) all-known-requires (λ c. search needs) (λ c κs. search needs) (λ c. search needs) (λ c. search needs) evaluate-requires returns returns-2)

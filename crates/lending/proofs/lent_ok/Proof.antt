@@ -15,13 +15,13 @@ globals-fit-requires c κs = search needs
 
 returns-2 : tie.Need-returns-2
 returns-2 c =
-    let args = c .before .before .before .before .before .args in
-    lent-wide (args .base .now) (args .declared) (args .globals .now) (args .memory .now) (c .before .before .if1 .left) (c .before .globals-fit .ensures) (not-true _ (c .if2 .taken))
+    let args = c .before .before .before .before .before .before .args in
+    lent-wide (args .base .now) (args .declared) (args .globals .now) (args .memory .now) (c .before .before .before .if1 .left) (c .before .globals-fit .ensures) (not-true _ (c .if2 .taken))
 
 returns-3 : tie.Need-returns-3
 returns-3 c =
-    let args = c .before .before .before .before .before .args in
-    lent-last (args .base .now) (args .declared) (args .globals .now) (args .memory .now) (c .before .before .if1 .left) (c .before .globals-fit .ensures) (not-false _ (c .if2 .left))
+    let args = c .before .before .before .before .before .before .args in
+    lent-last (args .base .now) (args .declared) (args .globals .now) (args .memory .now) (c .before .before .before .if1 .left) (c .before .globals-fit .ensures) (not-false _ (c .if2 .left))
 
 pub lent-ok-spec : {M : Type 1} → statement M
 lent-ok-spec = tie.close (tie.spec returns globals-fit-requires returns-2 returns-3)

@@ -1,12 +1,10 @@
 -- `run` answers as the definition does: the check, rule 11, and the ops. Assumes nothing.
 use mathlib.Core.Path.{_≡_, refl, _∙_}
-use Prim.Native.Nat.{_≤_}
-use lib.ListN.{length}
 use borrow.Author.Tests.{not-true, not-false}
 use borrow.Author.Needs.{needs}
 use Rattle.block.specs.Records.{recordsOf, opsFrom}
 use Rattle.runs.specs.Runs.{runOps, runOf}
-use Rattle.runs.proofs.Ran.{refused-ran, few-lent, ready-by, unlent-ran, lent-few, accepted-ran}
+use Rattle.runs.proofs.Ran.{refused-ran, ready-by, unlent-ran, accepted-ran, ops-ran}
 use Rattle.run.proofs.run.Statement.{statement}
 use Rattle.run.proofs.run.Tie as tie
 use Rattle.ops.specs.Kinds.{rowOf, document01}
@@ -23,7 +21,7 @@ returns : tie.Need-returns
 returns c = let a = start (c .before) .args in refused-ran (c .before .scan .ensures) (c .if1 .taken) (a .globals .now) (a .memory .now)
 
 lent-ok-requires : tie.Need-lent-ok-requires
-lent-ok-requires c κs = few-lent (c .before .before .before .before .scan .ensures) (c .before .before .before .if1 .left)
+lent-ok-requires c κs = search needs
 
 returns-2 : tie.Need-returns-2
 returns-2 c =
@@ -32,12 +30,6 @@ returns-2 c =
     unlent-ran (s .scan .ensures) (c .before .before .before .before .before .if1 .left) (a .globals .now) (a .memory .now) (c .before .lent-ok .ensures) (not-true _ (c .if2 .taken))
 
 -- past the check and rule 11
-few-globals : (c : tie.Else2) → length (start (scanned (c .before)) .args .globals .now) ≤ 256
-few-globals c =
-    let s = scanned (c .before) in
-    let a = start s .args in
-    lent-few (s .scan .ensures) (c .before .before .before .before .before .if1 .left) (a .globals .now) (a .memory .now) (c .before .lent-ok .ensures) (not-false _ (c .if2 .left))
-
 runs-ops : (c : tie.Else2) → let a = start (scanned (c .before)) .args in
     runOps document01 (opsFrom (recordsOf rowOf (a .block .now))) (a .globals .now) (a .memory .now) ≡ runOf (a .block .now) (a .globals .now) (a .memory .now)
 runs-ops c =
@@ -45,16 +37,16 @@ runs-ops c =
     let a = start s .args in
     accepted-ran (s .scan .ensures) (c .before .before .before .before .before .if1 .left) (a .globals .now) (a .memory .now) (c .before .lent-ok .ensures) (not-false _ (c .if2 .left))
 
-run-ops-requires : tie.Need-run-ops-requires
-run-ops-requires c κs =
-    let e = c .before .before .before .before .before .before in
-    (ready-by (scanned (e .before) .scan .ensures) (e .before .before .before .before .before .if1 .left) refl, few-globals e, c .before .before .before .before .before .table .ensures)
+execute-requires : tie.Need-execute-requires
+execute-requires c κs =
+    let e = c .before .before .before .before .before .before .before in
+    (ready-by (scanned (e .before) .scan .ensures) (e .before .before .before .before .before .if1 .left) refl, c .before .before .before .before .before .before .table .ensures)
 
 returns-3 : tie.Need-returns-3
-returns-3 c = c .before .before .before .before .run-ops .ensures ∙ runs-ops (c .before .before .before .before .before .before .before .before .before .before .before)
+returns-3 c = ops-ran _ _ _ _ _ _ refl (search needs) (c .before .before .before .before .execute .ensures) ∙ runs-ops (c .before .before .before .before .before .before .before .before .before .before .before .before)
 
 pub run-spec : {M : Type 1} → statement M
 run-spec =
     tie.close
-    (tie.spec (λ c κs. search needs) returns lent-ok-requires (λ c. search needs) (λ c. search needs) returns-2 (λ c κs. search needs) run-ops-requires (λ c. search needs)
+    (tie.spec (λ c κs. search needs) returns lent-ok-requires (λ c. search needs) (λ c. search needs) returns-2 (λ c κs. search needs) execute-requires (λ c. search needs)
     (λ c. search needs) returns-3)

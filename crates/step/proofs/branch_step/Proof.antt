@@ -1,5 +1,6 @@
 -- A branch: it jumps where the condition holds. Assumes nothing.
 use borrow.Author.Needs.{needs}
+use Rattle.runs.specs.Evaluates.{envOf}
 use Rattle.runs.proofs.Performed.{branch-jumps, branch-falls}
 use Rattle.step.proofs.branch_step.Statement.{statement}
 use Rattle.step.proofs.branch_step.Tie as tie
@@ -42,17 +43,13 @@ holds-requires c κs = search needs
 
 returns : tie.Need-returns
 returns c =
-    let args = c .before .before .before .before .before .before .before .before .before .args in
-    let get = c .before .before .before .before .before .before .get .ensures in
-    let get2 = c .before .before .before .before .get2 .ensures in
-    branch-jumps (args .block .now) (args .values .now) (args .at) (args .wide) get get2 (c .before .holds .ensures) (c .if1 .taken)
+    let args = c .before .before .before .before .before .before .before .before .before .before .args in
+    branch-jumps (args .block .now) (envOf (args .globals .now) (args .temps .now)) (args .at) (args .wide) (c .before .before .before .before .before .before .get .ensures) (c .before .before .before .before .get2 .ensures) (c .before .holds .ensures) (c .if1 .taken)
 
 returns-2 : tie.Need-returns-2
 returns-2 c =
-    let args = c .before .before .before .before .before .before .before .before .before .args in
-    let get = c .before .before .before .before .before .before .get .ensures in
-    let get2 = c .before .before .before .before .get2 .ensures in
-    branch-falls (args .block .now) (args .values .now) (args .at) (args .wide) get get2 (c .before .holds .ensures) (c .if1 .left)
+    let args = c .before .before .before .before .before .before .before .before .before .before .args in
+    branch-falls (args .block .now) (envOf (args .globals .now) (args .temps .now)) (args .at) (args .wide) (c .before .before .before .before .before .before .get .ensures) (c .before .before .before .before .get2 .ensures) (c .before .holds .ensures) (c .if1 .left)
 
 pub branch-step-spec : {M : Type 1} → statement M
 branch-step-spec =

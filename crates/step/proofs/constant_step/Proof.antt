@@ -1,5 +1,7 @@
 -- A constant: the eight bytes. Assumes nothing.
 use borrow.Author.Needs.{needs}
+use Rattle.runs.specs.Evaluates.{envOf}
+use Rattle.runs.proofs.Variables.{put-env}
 use Rattle.runs.proofs.Performed.{constant-falls}
 use Rattle.step.proofs.constant_step.Statement.{statement}
 use Rattle.step.proofs.constant_step.Tie as tie
@@ -22,12 +24,15 @@ low-first-requires c κs = search needs
 put-requires : tie.Need-put-requires
 put-requires c κs = search needs
 
+same-length : tie.Need-same-length
+same-length c = search needs
+
 returns : tie.Need-returns
 returns c =
-    let args = c .before .before .before .before .before .args in
-    constant-falls (args .block .now) (args .values .now) _ (args .at) (c .before .low-first .ensures .0) (c .put .ensures)
+    let args = c .before .before .before .before .before .before .before .before .before .args in
+    constant-falls (args .block .now) (envOf (args .globals .now) (args .temps .now)) _ (args .at) (c .before .before .before .low-first .ensures .0) (put-env (c .before .before .put .ensures))
 
 pub constant-step-spec : {M : Type 1} → statement M
 constant-step-spec =
     tie.close
-    (tie.spec add-next add-put shared-slice-read-put add-low-first low-first-requires put-requires returns)
+    (tie.spec add-next add-put shared-slice-read-put add-low-first low-first-requires put-requires same-length returns)

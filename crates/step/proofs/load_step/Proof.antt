@@ -1,5 +1,7 @@
 -- A load: its value, or the fault. Assumes nothing.
 use borrow.Author.Needs.{needs}
+use Rattle.runs.specs.Evaluates.{envOf}
+use Rattle.runs.proofs.Variables.{put-env}
 use Rattle.runs.proofs.Performed.{load-falls, loads-fault}
 use Rattle.step.proofs.load_step.Statement.{statement}
 use Rattle.step.proofs.load_step.Tie as tie
@@ -40,19 +42,23 @@ put-requires c κs = search needs
 enum-told : tie.Need-enum-told
 enum-told c = search needs
 
+same-length : tie.Need-same-length
+same-length c = search needs
+
 returns : tie.Need-returns
 returns c =
-    let args = c .before .before .before .before .before .before .before .before .before .before .before .before .before .args in
-    let get = c .before .before .before .before .before .before .before .before .get .ensures in
-    let load = c .before .before .before .before .before .before .load .ensures in
-    let loaded = c .before .before .before .before .loaded .given .1 in
-    load-falls (args .block .now) (args .values .now) (args .memory .now) (args .at) (args .wide) get load loaded (c .put .ensures)
+    let args = c .before .before .before .before .before .before .before .before .before .before .before .before .before .before .before .before .before .before .args in
+    let get = c .before .before .before .before .before .before .before .before .before .before .before .get .ensures in
+    let load = c .before .before .before .before .before .before .before .before .before .load .ensures in
+    load-falls (args .block .now) (envOf (args .globals .now) (args .temps .now)) (args .memory .now) (args .at) (args .wide) get load (c .before .before .before .before .before .before .before .loaded .given .1) (put-env (c .before .before .put .ensures))
+
+same-length-2 : tie.Need-same-length-2
+same-length-2 c = search needs
 
 returns-2 : tie.Need-returns-2
 returns-2 c =
-    let args = c .before .before .before .before .before .before .before .before .before .args in
-    let get = c .before .before .before .before .get .ensures in
-    loads-fault (args .block .now) (args .values .now) (args .memory .now) (args .at) (args .wide) get (c .before .before .load .ensures) (c .enum-told .given .1)
+    let args = c .before .before .before .before .before .before .before .before .before .before .before .args in
+    loads-fault (args .block .now) (envOf (args .globals .now) (args .temps .now)) (args .memory .now) (args .at) (args .wide) (c .before .before .before .before .get .ensures) (c .before .before .load .ensures) (c .enum-told .given .1)
 
 pub load-step-spec : {M : Type 1} → statement M
 load-step-spec =
@@ -69,5 +75,7 @@ load-step-spec =
     shared-slice-read-put
     put-requires
     enum-told
+    same-length
     returns
+    same-length-2
     returns-2)

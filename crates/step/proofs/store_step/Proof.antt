@@ -1,5 +1,6 @@
 -- A store: it is served, or it faults and leaves the memory. Assumes nothing.
 use borrow.Author.Needs.{needs}
+use Rattle.runs.specs.Evaluates.{envOf}
 use Rattle.runs.proofs.Performed.{store-falls, stores-fault}
 use Rattle.step.proofs.store_step.Statement.{statement}
 use Rattle.step.proofs.store_step.Tie as tie
@@ -39,22 +40,16 @@ same-length c = search needs
 
 returns : tie.Need-returns
 returns c =
-    let args = c .before .before .before .before .before .before .before .before .before .before .before .before .args in
-    let get = c .before .before .before .before .before .before .before .before .get .ensures in
-    let get2 = c .before .before .before .before .before .before .get2 .ensures in
-    let store = c .before .before .before .store .ensures in
-    store-falls (args .block .now) (args .values .now) (args .memory .now) (args .at) get get2 store (c .if1 .taken)
+    let args = c .before .before .before .before .before .before .before .before .before .before .before .before .before .args in
+    store-falls (args .block .now) (envOf (args .globals .now) (args .temps .now)) (args .memory .now) (args .at) (c .before .before .before .before .before .before .before .before .get .ensures) (c .before .before .before .before .before .before .get2 .ensures) (c .before .before .before .store .ensures) (c .if1 .taken)
 
 same-length-2 : tie.Need-same-length-2
 same-length-2 c = search needs
 
 returns-2 : tie.Need-returns-2
 returns-2 c =
-    let args = c .before .before .before .before .before .before .before .before .before .before .before .before .args in
-    let get = c .before .before .before .before .before .before .before .before .get .ensures in
-    let get2 = c .before .before .before .before .before .before .get2 .ensures in
-    let store = c .before .before .before .store .ensures in
-    stores-fault (args .block .now) (args .values .now) (args .memory .now) (args .at) get get2 store (c .if1 .left)
+    let args = c .before .before .before .before .before .before .before .before .before .before .before .before .before .args in
+    stores-fault (args .block .now) (envOf (args .globals .now) (args .temps .now)) (args .memory .now) (args .at) (c .before .before .before .before .before .before .before .before .get .ensures) (c .before .before .before .before .before .before .get2 .ensures) (c .before .before .before .store .ensures) (c .if1 .left)
 
 pub store-step-spec : {M : Type 1} → statement M
 store-step-spec =

@@ -2,6 +2,7 @@
 use mathlib.Core.Path.{refl}
 use native.Mathlib.Omega.{arith}
 use borrow.Author.Needs.{needs}
+use Rattle.runs.specs.Evaluates.{envOf}
 use Rattle.runs.proofs.Stating.{bytes-fit, evaluates}
 use Rattle.values.proofs.evaluate.Statement.{statement}
 use Rattle.values.proofs.evaluate.Tie as tie
@@ -46,19 +47,19 @@ part-eval-start : tie.Need-part-eval-start
 part-eval-start c = search needs
 
 part-eval-end : tie.Need-part-eval-end
-part-eval-end c = let pre = c .before .before .before .before .before .pre in omega (arith, bytes-fit (pre .0) refl (pre .1) (pre .2))
+part-eval-end c = let pre = c .before .before .before .before .before .before .pre in omega (arith, bytes-fit (pre .0) refl (pre .1) (pre .2))
 
 eval-requires : tie.Need-eval-requires
 eval-requires c κs = search needs
 
 returns : tie.Need-returns
 returns c =
-    let start = c .before .before .before .before .before .before .before in
+    let start = c .before .before .before .before .before .before .before .before in
     let input = c .before .before .before .before .before .input .ensures in
     let input2 = c .before .before .before .before .input2 .ensures in
     let input3 = c .before .before .before .input3 .ensures in
     let input4 = c .before .before .input4 .ensures in
-    evaluates (start .pre .0) refl (start .pre .1) (start .pre .2) (start .args .values .now) input input2 input3 input4 (c .eval .ensures)
+    evaluates (start .pre .0) refl (start .pre .1) (start .pre .2) (envOf (start .args .globals .now) (start .args .temps .now)) input input2 input3 input4 (c .eval .ensures)
 
 pub evaluate-spec : {M : Type 1} → statement M
 evaluate-spec =

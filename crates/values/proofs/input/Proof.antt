@@ -11,7 +11,9 @@ get-requires : tie.Need-get-requires
 get-requires c κs = tt
 
 returns : tie.Need-returns
-returns c = c .get .ensures ∙ ap (envOf (c .before .before .before .args .values .now)) (c .before .byte-at .ensures)
+returns c =
+    let args = c .before .before .before .before .args in
+    c .get .ensures ∙ ap (envOf (args .globals .now) (args .temps .now)) (c .before .byte-at .ensures)
 
 pub input-spec : {M : Type 1} → statement M
 input-spec = tie.close (tie.spec byte-at-requires get-requires returns)
