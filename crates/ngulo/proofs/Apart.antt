@@ -10,6 +10,9 @@ use lib.Dec.{eqb, leb}
 use lib.ListN.{length}
 use borrow.Author.Tests.{ne-eqb}
 use Rattle.theory.specs.Machine.{End, exit, fault, unstated, fell, spent, All, Result}
+use Rattle.theory.proofs.Sets.{clash}
+use Rattle.theory.proofs.Simulation.{proper}
+use Rattle.ops.proofs.Document01.{lawful}
 use Rattle.ops.specs.Ops.{Fault, tcg}
 use Rattle.ops.specs.Kinds.{rowOf, document01}
 use Rattle.block.specs.Checks.{Finding, asks, opRules, rulesOf, checkOf}
@@ -19,6 +22,7 @@ use Rattle.block.specs.Rules.{Seen, rule3}
 use Rattle.block.specs.declared.Verdict.{Verdict}
 use Rattle.block.specs.declared.Verdict.the-variants.{Accepted, Refused}
 use Rattle.block.proofs.Meaning.{refused-means}
+use Rattle.runs.proofs.Ends.{run-ends}
 use Rattle.runs.specs.Runs.{fits, entry, answerOf, ranOf, opsRun, runOps, runRefused, runChecked, runOf, runBy}
 use Rattle.runs.specs.declared.Ending.{Ending}
 use Rattle.runs.specs.declared.Ending.the-variants.{Refused as RunRefused, Exit, Fault as Faulted, NoResult}
@@ -128,15 +132,15 @@ run-apart (Exit value count) h = ended-apart (λ number place e. let z : _≡_ {
 run-apart (Faulted store address flags count) h = ended-apart (λ number place e. let z : _≡_ {A = ℕ} 0 1 = cc in omega arith) refl (λ report. fault-back store address flags count h)
 run-apart (NoResult position count) h = ended-apart (λ number place e. let z : _≡_ {A = ℕ} 0 1 = cc in omega arith) refl (λ report. refl)
 
-ran-like : (ops globals : ℕ) (r : Result (tcg document01)) → FlagsFit (r .end) → RunLike ((ranOf document01 ops globals r) .answer)
-ran-like ops globals r h = go (r .end) h
+ran-like : (ops globals : ℕ) (r : Result (tcg document01)) → proper (r .end) ≡ true → FlagsFit (r .end) → RunLike ((ranOf document01 ops globals r) .answer)
+ran-like ops globals r p h = go (r .end) p h
   where
-    go : (e : End ℕ Fault) → FlagsFit e → RunLike (answerOf e (ops - length (r .left)) (r .count))
-    go (exit v) q = tt
-    go (fault f) q = q
-    go unstated q = tt
-    go fell q = tt
-    go spent q = tt
+    go : (e : End ℕ Fault) → proper e ≡ true → FlagsFit e → RunLike (answerOf e (ops - length (r .left)) (r .count))
+    go (exit v) z q = tt
+    go (fault f) z q = q
+    go unstated z q = tt
+    go fell z q = clash false z refl
+    go spent z q = clash false z refl
 
 run-like : (block globals memory : List ℕ) (v : Verdict) → checkOf block ≡ v → RunLike ((runChecked document01 (recordsOf rowOf block) globals memory v) .answer)
 unfolding runChecked runOps
@@ -144,7 +148,7 @@ run-like block globals memory (Refused number place) e = let q = check-numbered 
 run-like block globals memory Accepted e = go (fits (declarations (recordsOf rowOf block)) globals memory)
   where
     go : (b : Bool) → RunLike ((cond b (runOps document01 (opsFrom (recordsOf rowOf block)) globals memory) (runRefused 11 0 globals memory)) .answer)
-    go true = ran-like (length (opsFrom (recordsOf rowOf block))) (length globals) (opsRun document01 (opsFrom (recordsOf rowOf block)) (entry document01 globals memory)) (block-fits block globals memory e)
+    go true = ran-like (length (opsFrom (recordsOf rowOf block))) (length globals) (opsRun document01 (opsFrom (recordsOf rowOf block)) (entry document01 globals memory)) (run-ends lawful block globals memory e) (block-fits block globals memory e)
     go false = (omega arith, omega arith)
 
 pass-numbered : (block out : List ℕ) (v : Verdict) → checkOf block ≡ v → (number place : ℕ) → (passChecked (resultOf document01 block) out v) .answer ≡ PassRefused number place → OneTo 10 number ⊎ (number ≡ 12)

@@ -12,8 +12,8 @@ ghost use Rattle.runs.specs.Steps.{stateOf, Performs, PerformsAlone, nextAt, br
 use compute::narrow_op;
 use kinds::is_wide;
 use memory::Loaded;
+use memory::from_little_endian;
 use memory::load;
-use memory::low_first;
 use memory::store;
 use runs::Outcome;
 use runs::Stop;
@@ -107,8 +107,14 @@ fn constant_step(block: &[u8], at: usize, globals: &mut [u64], temps: &mut [u64;
     requires { ⌜ at + 10 ≤ length (now block) ⌝ }
     ensures { λ r. ⌜ PerformsAlone (constantOp (now (block .entry)) at) (at + 10) (envOf (now (globals .entry)) (now (temps .entry))) (envOf (now (globals .exit)) (now (temps .exit))) r ⌝ }
 {
+    let p = at + 2;
     let next = at + 10;
-    put(globals, temps, block[at + 1], low_first(block, at + 2, 8));
+    put(
+        globals,
+        temps,
+        block[at + 1],
+        from_little_endian(&block[p..next]),
+    );
     Outcome::Falls(next)
 }
 

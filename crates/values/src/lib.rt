@@ -9,6 +9,7 @@ ghost use Rattle.ops.specs.Kinds.{kindTable};
 ghost use Rattle.theory.specs.Machine.{reads};
 use evaluate::eval;
 use marks::index;
+use memory::byte_at;
 use word::Stated;
 
 // The value of a variable: a global by its number among those lent, any other by its number among the temporaries.
@@ -46,16 +47,6 @@ pub fn put(globals: &mut [u64], temps: &mut [u64; 256], v: u8, x: u64)
     } else {
         put_value(temps, v, x);
     }
-}
-
-// A byte of the block, 0 past its end.
-fn byte_at(block: &[u8], i: usize) -> u8
-    ensures { λ r. ⌜ r ≡ getD (now (block .entry)) i 0 ⌝ }
-{
-    if i < block.len() {
-        return block[i];
-    }
-    0
 }
 
 // The value of the variable that a byte of the block names.
