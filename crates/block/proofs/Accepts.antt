@@ -7,7 +7,7 @@ use native.Mathlib.Omega.{arith}
 use lib.Dec.{eqb}
 use lib.ListN.{length}
 use borrow.Author.Tests.{eqb-true, ne-eqb}
-use Rattle.theory.specs.Machine.{All}
+use Rattle.theory.specs.Sets.{All}
 use Rattle.theory.proofs.Sets.{and-l, and-r, and-i}
 use Rattle.block.specs.Checks.{Finding, asks, firstBroken, opRules, rulesOf, endRules, refusedOr, checkFrom, checkBy}
 use Rattle.block.specs.Meaning.{seen}

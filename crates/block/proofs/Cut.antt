@@ -9,11 +9,11 @@ use lib.Dec.{eqb, ltb, eqb·zero-suc}
 use lib.ListN.{length, take, drop, length-append}
 use lib.Seq.{take-at, drop-at, length-take-le}
 use borrow.Author.Tests.{ltb-false, eqb-true, not-true, le-ltb, eq-eqb}
-use Rattle.theory.specs.Machine.{All}
+use Rattle.theory.specs.Sets.{All}
 use Rattle.theory.proofs.Sets.{and-l, and-r, and-i, clash}
 use Rattle.theory.proofs.Simulation.{more}
 use Rattle.ops.specs.Rows.{known, bodyLength, Table}
-use Rattle.ops.specs.Ops.{kindOf}
+use Rattle.ops.specs.Fields.{kindOf}
 use Rattle.block.specs.Records.{Cut, nothingLeft, stray, cons, cutBy, cutOf, recordBytes, isDeclaration, declarations, opsFrom}
 
 -- a record of a known kind, with its body

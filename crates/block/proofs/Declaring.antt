@@ -15,7 +15,7 @@ use Rattle.theory.specs.Sets.{empty}
 use Rattle.theory.proofs.Sets.{and-l, and-r, tell, clash}
 use Rattle.ops.specs.Rows.{isKnown, at, Table}
 use Rattle.ops.specs.Rows.{known, bodyLength}
-use Rattle.ops.specs.Ops.{kindOf}
+use Rattle.ops.specs.Fields.{kindOf}
 use Rattle.block.specs.Checks.{asks, firstBroken, refusedOr, checkBy}
 use Rattle.block.specs.Records.{Cut, cons, cutOf, recordsOf, isDeclaration, classOf, typeOf, classesOf, declaredTypes, globalCount}
 use Rattle.block.specs.Rules.{Seen}

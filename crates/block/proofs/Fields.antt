@@ -8,7 +8,7 @@ use lib.ListN.{length, getD}
 use Rattle.theory.proofs.Sets.{and-l, and-r}
 use Rattle.ops.specs.Rows.{Table}
 use Rattle.ops.specs.Rows.{bodyLength}
-use Rattle.ops.specs.Ops.{kindOf}
+use Rattle.ops.specs.Fields.{kindOf}
 use Rattle.block.specs.Rules.{allBelow}
 use Rattle.block.specs.Scan.{recordAt}
 use Rattle.block.proofs.Views.{kind-byte}

@@ -17,7 +17,8 @@ use Rattle.theory.proofs.Rule.{Puts, same, folds, puts}
 use Rattle.theory.proofs.Sets.{and-l, and-r, and-i, clash}
 use Rattle.ops.specs.Rows.{Role, roleOf, isPure, isSetting, isJumping, at, Table}
 use Rattle.ops.specs.Rows.{known, bodyLength}
-use Rattle.ops.specs.Ops.{leave, kindOf, rowAt, insBy, labelBy, viewFor, viewOf, tcg, Dialect}
+use Rattle.ops.specs.Ops.{leave, viewFor, viewOf, tcg, Dialect}
+use Rattle.ops.specs.Fields.{kindOf, rowAt, insBy, labelBy}
 use Rattle.ops.proofs.Traits.{pure-at, pure-quiet}
 use Rattle.ops.proofs.Folding.{states, constant-for, const-view, constants}
 use Rattle.ops.proofs.Lawful.{Constant, Lawful}

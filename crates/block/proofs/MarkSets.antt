@@ -9,8 +9,7 @@ use lib.Dec.{eqb}
 use lib.ListN.{length, getD, set, replicate}
 use lib.Seq.{getD-set-same, getD-set-other}
 use borrow.Author.Tests.{eqb-true, eqb-false, ne-eqb}
-use Rattle.theory.specs.Machine.{upd}
-use Rattle.theory.specs.Sets.{Vars, empty}
+use Rattle.theory.specs.Sets.{upd, Vars, empty}
 use Rattle.theory.proofs.Sets.{tell}
 use Rattle.ops.specs.Rows.{Row, isSetting, isJumping}
 use Rattle.block.specs.Rules.{allSet, labelFree, markedBy}

@@ -11,8 +11,8 @@ use lib.ListN.{length, getD, set}
 use borrow.Author.Tests.{eqb-true, ltb-false, ne-eqb}
 use Rattle.theory.proofs.Sets.{tell}
 use Rattle.ops.specs.Rows.{outsIn, insIn, restIn, roleIn, roleNo, isClosing}
-use Rattle.ops.specs.Kinds.{kindTable, rowOf}
-use Rattle.ops.specs.Ops.{bytesAt}
+use Rattle.ops.specs.Table.{kindTable, rowOf}
+use Rattle.ops.specs.Fields.{bytesAt}
 use Rattle.ops.specs.Plans.{noOp, lengthBy, lengthIn, planOf, rankOf, planAt, exitRank, settingRank}
 use Rattle.ops.proofs.Entry.{Digits, digits}
 use Rattle.ops.proofs.Plans.{plan, Sorted, sorted, plan-at, RankedOp, ranked-op}

@@ -10,7 +10,7 @@ use lib.Seq.{take-at, drop-at, length-take-le}
 use borrow.Author.Tests.{ltb-true, ltb-false, eqb-true, eqb-false, lt-ltb, le-ltb, eq-eqb, ne-eqb}
 use Rattle.theory.proofs.Sets.{and-l, and-r, and-i, clash}
 use Rattle.ops.specs.Rows.{known, bodyLength, Table}
-use Rattle.ops.specs.Ops.{kindOf}
+use Rattle.ops.specs.Fields.{kindOf}
 use Rattle.block.specs.Checks.{Finding, firstBroken, rulesOf, endRules, refusedOr, checkFrom, checkBy}
 use Rattle.block.specs.Meaning.{seen, AllMet, FirstBroken, here, later, Meets, EachMeets, Obeys, Breaks, unknown2, short1, record-breaks, ending, Broken, AcceptedMeans, RefusedMeans}
 use Rattle.block.specs.Records.{Cut, stray, cons, cutBy, cutOf, recordsOf, recordBytes}

@@ -13,7 +13,7 @@ use Rattle.theory.specs.Sets.{Vars, allIn}
 use Rattle.theory.proofs.Sets.{and-l, and-r}
 use Rattle.ops.specs.Limits.{maxOps}
 use Rattle.ops.specs.Rows.{Table, Row, outsIn, insIn, restIn, testIn, roleIn, typesIn, typesOf, rowIn, roleNo, isKnown, testOk, outputCount, operandTypes, operandCount}
-use Rattle.ops.specs.Ops.{bytesAt}
+use Rattle.ops.specs.Fields.{bytesAt}
 use Rattle.ops.specs.Plans.{ask}
 use Rattle.ops.proofs.Entry.{Digits}
 use Rattle.ops.proofs.Ranges.{everyFrom, ranged, beq-same}

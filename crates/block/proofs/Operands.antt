@@ -10,7 +10,7 @@ use borrow.Author.Tests.{ltb-true, ltb-false, lt-ltb, le-ltb, eq-eqb, ne-eqb}
 use native.Mathlib.Nat.{sub-zero, add-zero}
 use Rattle.theory.proofs.Sets.{tell}
 use Rattle.ops.specs.Rows.{at}
-use Rattle.ops.specs.Ops.{bytesAt}
+use Rattle.ops.specs.Fields.{bytesAt}
 use Rattle.block.specs.Scan.{codesIn, fitsAs, operandsFit, declaredAll}
 
 -- the test f passes at each value; s goes along

@@ -10,7 +10,7 @@ use lib.Seq.{getD-set-same, getD-set-other}
 use borrow.Author.Tests.{ltb-true, ltb-false}
 use native.Mathlib.Nat.{add-zero}
 use Rattle.ops.specs.Rows.{known, bodyLength, Table}
-use Rattle.ops.specs.Ops.{rowAt, labelBy}
+use Rattle.ops.specs.Fields.{rowAt, labelBy}
 use Rattle.block.specs.Records.{Cut, recordBytes}
 use Rattle.block.specs.Scan.{recordAt, placesFrom, labelledBy, labelsFrom, recordsAt}
 use Rattle.block.proofs.Steps.{cut-unknown, cut-short, cut-record, record-length, cut-end}

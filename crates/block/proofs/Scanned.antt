@@ -6,7 +6,7 @@ use Prim.Native.Nat.{ℕ, _+_, _<_}
 use lib.ListN.{length, getD, replicate}
 use borrow.Author.Tests.{eq-eqb, ne-eqb}
 use Rattle.theory.specs.Sets.{empty}
-use Rattle.ops.specs.Ops.{kindOf}
+use Rattle.ops.specs.Fields.{kindOf}
 use Rattle.ops.specs.Rows.{Table}
 use Rattle.block.specs.Records.{recordsOf, recordBytes, declarations, opsFrom, classesOf, declaredTypes, globalCount}
 use Rattle.block.specs.Scan.{Coded, DeclaredBy, placesFrom, labelsFrom, recordsAt, ScannedBy, Declaring, Begins, Approved, Scanned}

@@ -14,7 +14,7 @@ use Rattle.theory.specs.Sets.{Vars}
 use Rattle.theory.proofs.Sets.{tell, and-l, and-r}
 use Rattle.ops.specs.Rows.{known, bodyLength, Table}
 use Rattle.ops.specs.Rows.{outsIn, insIn, restIn, roleIn, rowIn, Row, roleNo, numberOf, isKnown, isClosing, isSetting, isJumping}
-use Rattle.ops.specs.Ops.{kindOf, rowAt, bytesAt, outsBy, insBy, labelBy}
+use Rattle.ops.specs.Fields.{kindOf, rowAt, bytesAt, outsBy, insBy, labelBy}
 use Rattle.ops.specs.Plans.{exitRank}
 use Rattle.ops.proofs.Entry.{Digits}
 use Rattle.block.proofs.Codes.{coded-next, codes-closed, codes-open}

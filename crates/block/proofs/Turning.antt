@@ -12,7 +12,7 @@ use Rattle.theory.proofs.Sets.{tell, and-l, and-r, clash}
 use Rattle.theory.specs.Sets.{empty}
 use Rattle.ops.specs.Limits.{maxVariables, labelCount}
 use Rattle.ops.specs.Rows.{bodyLength, outsIn, insIn, restIn}
-use Rattle.ops.specs.Kinds.{kindTable, rowOf}
+use Rattle.ops.specs.Table.{kindTable, rowOf}
 use Rattle.ops.specs.Plans.{noOp, lengthBy, moreBy, lengthIn, planOf, rankOf, planAt, exitRank}
 use Rattle.ops.proofs.Entry.{digits}
 use Rattle.ops.proofs.Plans.{plan, plan-at, ranked-op}

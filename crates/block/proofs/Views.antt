@@ -13,9 +13,11 @@ use Rattle.memory.specs.Access.{loadAt, storeAt}
 use Rattle.memory.specs.Bytes.{lowFirst}
 use Rattle.memory.proofs.Numbers.{low-same}
 use Rattle.ops.specs.Rows.{Role, unknown, declares, setsLabel, jumpsTo, exits, branches, loads, stores, constant, computing, Row, bodyOf, at, testOk}
-use Rattle.ops.specs.Kinds.{rowOf, document01}
+use Rattle.ops.specs.Kinds.{document01}
+use Rattle.ops.specs.Table.{rowOf}
 use Rattle.ops.specs.Rows.{roleOf, bodyLength, outputCount, operandCount, Table}
-use Rattle.ops.specs.Ops.{kindOf, rowAt, bytesAt, outsBy, insBy, restBy, labelBy, atTypes, evalOf, Fault, leave, viewFor, viewOf}
+use Rattle.ops.specs.Ops.{atTypes, evalOf, Fault, leave, viewFor, viewOf}
+use Rattle.ops.specs.Fields.{kindOf, rowAt, bytesAt, outsBy, insBy, restBy, labelBy}
 use Rattle.ops.specs.Kinds.{opWidth, afterLoad, afterStore, loadOf, storeOf, holdsOf}
 use Rattle.ops.proofs.Inputs.{constant-states}
 use Rattle.ops.proofs.Table.{typeAt, RowFor, row-of}

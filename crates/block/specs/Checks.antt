@@ -10,7 +10,7 @@ use Rattle.block.specs.declared.Verdict.the-variants.{Accepted, Refused}
 use Rattle.block.specs.Records.{cutOf, isDeclaration}
 use Rattle.block.specs.Rules.{Seen, start, next, rule3, rule4, rule5, rule6, rule7, rule8, rule9, rule10, rule7end}
 use Rattle.ops.specs.Rows.{Table}
-use Rattle.ops.specs.Kinds.{rowOf}
+use Rattle.ops.specs.Table.{rowOf}
 
 -- a rule's number, and whether it is met
 pub record Finding : Type 0 where

@@ -5,8 +5,8 @@ use mathlib.Core.List.{List, [], _∷_, _++_}
 use Prim.Native.Nat.{ℕ, suc, _<_}
 use lib.ListN.{length}
 use Rattle.ops.specs.Rows.{known, bodyLength, Table}
-use Rattle.ops.specs.Ops.{kindOf}
-use Rattle.theory.specs.Machine.{All}
+use Rattle.ops.specs.Fields.{kindOf}
+use Rattle.theory.specs.Sets.{All}
 use Rattle.block.specs.Checks.{Finding, rulesOf, endRules, checkBy}
 use Rattle.block.specs.Records.{recordBytes}
 use Rattle.block.specs.Rules.{Seen, start, next}

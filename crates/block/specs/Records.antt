@@ -6,7 +6,7 @@ use lib.Dec.{eqb, ltb}
 use lib.ListN.{length, take, drop}
 use Rattle.ops.specs.Rows.{at, Table}
 use Rattle.ops.specs.Rows.{known, bodyLength}
-use Rattle.ops.specs.Ops.{kindOf}
+use Rattle.ops.specs.Fields.{kindOf}
 
 -- the whole records of a block, and the rule that the record after them breaks: 2, unknown kind; 1, it runs past the end; 0, none follows
 pub record Cut : Type 0 where

@@ -4,11 +4,10 @@ use mathlib.Core.Bool.{Bool, true, cond, not, _&&_, _||_}
 use mathlib.Core.List.{List, [], _∷_, _++_}
 use lib.Dec.{eqb, ltb, leb}
 use lib.ListN.{length, getD}
-use Rattle.theory.specs.Machine.{upd}
-use Rattle.theory.specs.Sets.{Vars, empty, plus, allIn}
+use Rattle.theory.specs.Sets.{upd, Vars, empty, plus, allIn}
 use Rattle.ops.specs.Limits.{maxVariables, maxOps, labelCount}
 use Rattle.ops.specs.Rows.{Row, isClosing, isSetting, isJumping, testOk, Table}
-use Rattle.ops.specs.Ops.{kindOf, rowAt, outsBy, insBy, restBy, labelBy}
+use Rattle.ops.specs.Fields.{kindOf, rowAt, outsBy, insBy, restBy, labelBy}
 use Rattle.block.specs.Records.{isDeclaration, classOf, typeOf}
 
 -- what the records read so far come to: the class and type of each variable, the variables written in this basic block,

@@ -6,14 +6,13 @@ use Prim.Native.Nat.{ℕ, zero, suc, _+_, _-_, _*_, _/_, _%_, _^_, _≤_, _<_}
 use lib.Bits.{bitAnd}
 use lib.Dec.{eqb, ltb, leb}
 use lib.ListN.{length, getD, take, drop, set, replicate}
-use Rattle.theory.specs.Machine.{All}
-use Rattle.theory.specs.Sets.{Vars, empty, has}
+use Rattle.theory.specs.Sets.{All, Vars, empty, has}
 use Rattle.ops.specs.Rows.{known, bodyLength, Table}
 use Rattle.ops.specs.Limits.{maxVariables, maxOps, labelCount}
 use Rattle.ops.specs.Plans.{ask, lengthIn, outAskIn, firstAskIn, secondAskIn, firstAtIn, secondAtIn, byteAtIn, moreIn, exitRank, settingRank, planAt}
 use Rattle.memory.specs.Bytes.{lowFirst}
 use Rattle.ops.specs.Rows.{Row, outsIn, insIn, restIn, testIn, roleIn, typesIn, rowIn, roleNo, isKnown, isClosing, isSetting, isJumping, testOk}
-use Rattle.ops.specs.Ops.{rowAt, bytesAt, outsBy, labelBy}
+use Rattle.ops.specs.Fields.{rowAt, bytesAt, outsBy, labelBy}
 use Rattle.block.specs.Checks.{Finding, asks, firstBroken, rulesOf, refusedOr, checkFrom, checkBy}
 use Rattle.block.specs.Records.{cutOf, recordsOf, recordBytes, isDeclaration, declarations, opsFrom, classOf, typeOf, classesOf, declaredTypes, globalCount}
 use Rattle.block.specs.Rules.{Seen, start, keptIn, labelFree, markedBy, allSet}

@@ -6,7 +6,8 @@ use Rattle.memory.specs.Access.{flagsOk, loaded, loadAt}
 use Rattle.memory.specs.Bytes.{lowFirst, highFirst}
 use Rattle.ops.specs.Eval.{convertOf, unaryOf, logicOf, divideOf, shiftOf, setcondOf, movcondOf}
 use Rattle.ops.specs.Rows.{roleNo, typesOf, testOk, tableOf}
-use Rattle.ops.specs.Kinds.{kindTable, wideOf, computedOf, statesOf}
+use Rattle.ops.specs.Kinds.{wideOf, computedOf, statesOf}
+use Rattle.ops.specs.Table.{kindTable}
 use Rattle.ops.specs.Kinds.{loadOf, storeOf, holdsOf}
 use Rattle.ops.specs.Ops.{evalOf, viewOf}
 use Rattle.block.specs.Checks.{firstBroken, checkFrom, checkBy}

@@ -3,7 +3,8 @@ use Prim.Native.Nat.{ℕ, zero, suc, _+_}
 use mathlib.Core.Path.{_≡_}
 use mathlib.Core.Bool.{Bool, true, not, _&&_, _||_, Bool·beq}
 use lib.Dec.{eqb}
-use Rattle.ops.specs.Kinds.{rowOf, between}
+use Rattle.ops.specs.Kinds.{between}
+use Rattle.ops.specs.Table.{rowOf}
 use Rattle.ops.specs.Rows.{known, bodyLength, outputCount, pureKind}
 use Rattle.ops.specs.Folds.{foldableRow}
 

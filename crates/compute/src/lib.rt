@@ -2,7 +2,8 @@
 ghost use mathlib.Core.Path.{_≡_};
 ghost use mathlib.Core.Bool.{true, false};
 ghost use Rattle.ops.specs.Ops.{viewOf};
-ghost use Rattle.ops.specs.Kinds.{between, kindTable, rowOf, document01};
+ghost use Rattle.ops.specs.Kinds.{between, document01};
+ghost use Rattle.ops.specs.Table.{kindTable, rowOf};
 ghost use Rattle.block.specs.Scan.{recordAt, Stands};
 ghost use Rattle.runs.specs.Evaluates.{Computed, envOf};
 ghost use Rattle.runs.specs.Steps.{PerformsAlone, nextAt, plainKind};

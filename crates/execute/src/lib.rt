@@ -3,7 +3,7 @@ ghost use mathlib.Core.Path.{_≡_};
 ghost use Prim.Native.Nat.{_+_, _<_};
 ghost use lib.ListN.{getD};
 ghost use Rattle.theory.specs.Machine.{cost};
-ghost use Rattle.ops.specs.Kinds.{kindTable};
+ghost use Rattle.ops.specs.Table.{kindTable};
 ghost use Rattle.runs.specs.Runs.{answerOf};
 ghost use Rattle.runs.specs.Steps.{endOf, stateOf, ReadyToRun, Executed};
 use marks::index;

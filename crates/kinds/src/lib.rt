@@ -3,7 +3,7 @@ ghost use mathlib.Core.Path.{_≡_};
 ghost use lib.Dec.{leb};
 ghost use lib.ListN.{getD};
 ghost use Rattle.ops.specs.Rows.{outsIn, insIn, restIn, testIn, roleIn, typesIn, roleNo, numberOf, isKnown, isSetting, isJumping};
-ghost use Rattle.ops.specs.Kinds.{kindTable};
+ghost use Rattle.ops.specs.Table.{kindTable};
 ghost use Prim.Native.Nat.{_+_};
 use ops::BRANCHES;
 use ops::JUMPS_TO;

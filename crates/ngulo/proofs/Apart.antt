@@ -9,12 +9,14 @@ use native.Mathlib.Nat.{add-mul-mod-self-left, add-mul-div-left, mod-eq-of-lt, d
 use lib.Dec.{eqb, leb}
 use lib.ListN.{length}
 use borrow.Author.Tests.{ne-eqb}
-use Rattle.theory.specs.Machine.{End, exit, fault, unstated, fell, spent, All, Result}
+use Rattle.theory.specs.Machine.{End, exit, fault, unstated, fell, spent, Result}
+use Rattle.theory.specs.Sets.{All}
 use Rattle.theory.proofs.Sets.{clash}
 use Rattle.theory.proofs.Simulation.{proper}
 use Rattle.ops.proofs.Document01.{lawful}
 use Rattle.ops.specs.Ops.{Fault, tcg}
-use Rattle.ops.specs.Kinds.{rowOf, document01}
+use Rattle.ops.specs.Kinds.{document01}
+use Rattle.ops.specs.Table.{rowOf}
 use Rattle.block.specs.Checks.{Finding, asks, opRules, rulesOf, checkOf}
 use Rattle.block.specs.Meaning.{FirstBroken, here, later, Breaks, unknown2, short1, record-breaks, ending}
 use Rattle.block.specs.Records.{recordsOf, isDeclaration, declarations, opsFrom}

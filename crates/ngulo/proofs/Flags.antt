@@ -8,14 +8,17 @@ use native.Mathlib.Omega.{arith}
 use lib.Dec.{ltb, leb}
 use lib.ListN.{length}
 use borrow.Author.Tests.{ltb-true}
-use Rattle.theory.specs.Machine.{Touch, faults, gives, when, to, calc, access, flow, reads, End, exit, fault, unstated, fell, spent, falls, jumps, stops, isLabel, afterCalc, afterAccess, effect, St, Effects, All, seek, moved, after, run}
+use Rattle.theory.specs.Machine.{Touch, faults, gives, when, to, calc, access, flow, reads, End, exit, fault, unstated, fell, spent, falls, jumps, stops, isLabel, afterCalc, afterAccess, effect, St, Effects, seek, moved, after, run}
+use Rattle.theory.specs.Sets.{All}
 use Rattle.word.proofs.Tests.{cond-all}
 use Rattle.theory.proofs.Checker.{checks}
 use Rattle.theory.proofs.Sets.{and-l, and-r}
 use Rattle.memory.specs.Access.{sizeOf, signExtends, flagsOk, loadAt, storeAt}
 use Rattle.ops.specs.Rows.{Role, unknown, declares, setsLabel, jumpsTo, exits, branches, loads, stores, constant, computing, Row, at, testOk, roleOf}
-use Rattle.ops.specs.Ops.{Fault, kindOf, rowAt, outsBy, insBy, restBy, labelBy, atTypes, evalOf, viewFor, viewOf, tcg}
-use Rattle.ops.specs.Kinds.{rowOf, document01, loadOf, storeOf, holdsOf, opWidth, afterLoad, afterStore}
+use Rattle.ops.specs.Ops.{Fault, atTypes, evalOf, viewFor, viewOf, tcg}
+use Rattle.ops.specs.Fields.{kindOf, rowAt, outsBy, insBy, restBy, labelBy}
+use Rattle.ops.specs.Kinds.{document01, loadOf, storeOf, holdsOf, opWidth, afterLoad, afterStore}
+use Rattle.ops.specs.Table.{rowOf}
 use Rattle.ops.proofs.Table.{typeAt, type-small, row-of}
 use Rattle.ops.proofs.Document01.{lawful}
 use Rattle.block.specs.Checks.{checkOf}

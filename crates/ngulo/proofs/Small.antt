@@ -7,8 +7,10 @@ use native.Mathlib.Omega.{arith}
 use lib.Dec.{leb}
 use lib.ListN.{length, length-append}
 use Rattle.theory.specs.Machine.{End, exit, fault, unstated, fell, spent, Result}
-use Rattle.ops.specs.Ops.{kindOf, tcg}
-use Rattle.ops.specs.Kinds.{rowOf, document01}
+use Rattle.ops.specs.Ops.{tcg}
+use Rattle.ops.specs.Fields.{kindOf}
+use Rattle.ops.specs.Kinds.{document01}
+use Rattle.ops.specs.Table.{rowOf}
 use Rattle.ops.proofs.Table.{body-short}
 use Rattle.ops.proofs.Document01.{lawful}
 use Rattle.block.specs.Checks.{asks, opRules, checkOf}

@@ -4,7 +4,7 @@ ghost use mathlib.Core.Bool.{false};
 ghost use mathlib.Core.List.{[], _∷_};
 ghost use Prim.Native.Nat.{_+_, _-_, _≤_, _<_};
 ghost use lib.ListN.{length, getD};
-ghost use Rattle.ops.specs.Kinds.{rowOf};
+ghost use Rattle.ops.specs.Table.{rowOf};
 ghost use Rattle.ops.specs.Plans.{noOp, lengthIn, rankOf, planAt, entryAt};
 ghost use Rattle.block.specs.Scan.{SameBeyond, recordAt, Stands, codesIn, openAll, FirstReady, LabelLow, LabelMarks, setsLabel, jumpsTo, Marks};
 use marks::put;

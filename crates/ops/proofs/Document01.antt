@@ -18,8 +18,10 @@ use Rattle.memory.proofs.Numbers.{low-bytes, length-bytes}
 use Rattle.ops.specs.Limits.{labelCount}
 use Rattle.ops.specs.Rows.{Role, setsLabel, jumpsTo, branches, constant, roleNo, Row, numberOf, bitsOf, typesOf, tableOf, bodyOf}
 use Rattle.ops.specs.Rows.{isKnown, isSetting, isJumping, at, condOk, labelOk, testOk}
-use Rattle.ops.specs.Ops.{kindOf, rowAt, outsBy, insBy, restBy, labelBy, atTypes, evalOf, viewFor, viewOf}
-use Rattle.ops.specs.Kinds.{kindTable, rowOf, one, computedOf, statesOf, document01}
+use Rattle.ops.specs.Ops.{atTypes, evalOf, viewFor, viewOf}
+use Rattle.ops.specs.Fields.{kindOf, rowAt, outsBy, insBy, restBy, labelBy}
+use Rattle.ops.specs.Kinds.{one, computedOf, statesOf, document01}
+use Rattle.ops.specs.Table.{kindTable, rowOf}
 use Rattle.ops.proofs.Table.{typeAt, rowWith, row-of, asks-few, body-short, same-number}
 use Rattle.ops.proofs.Inputs.{no-movi, evaluated}
 use Rattle.ops.proofs.Fits.{folded-fits, out-small}

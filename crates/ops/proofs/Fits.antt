@@ -20,7 +20,8 @@ use Rattle.word.proofs.Fits.{signed-states, count-states}
 use Rattle.word.proofs.Tests.{cond-told, cond-all}
 use Rattle.ops.specs.Eval.{convertOf, unaryOf, logicOf, divideOf, shiftOf, setcondOf, movcondOf}
 use Rattle.ops.specs.Rows.{bitsOf, roleNo, typesOf, at, tableOf}
-use Rattle.ops.specs.Kinds.{kindTable, rowOf, between, wideOf, computedOf}
+use Rattle.ops.specs.Kinds.{between, wideOf, computedOf}
+use Rattle.ops.specs.Table.{kindTable, rowOf}
 use Rattle.ops.specs.Ops.{atTypes}
 use Rattle.theory.proofs.Views.{no-some}
 use Rattle.ops.proofs.Ranges.{everyFrom, ranged}

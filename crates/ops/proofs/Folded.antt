@@ -14,7 +14,8 @@ use Rattle.theory.proofs.Sets.{and-l, and-r, tell}
 use Rattle.ops.specs.Eval.{convertOf}
 use Rattle.ops.specs.Evaluate.{foldedOf}
 use Rattle.ops.specs.Rows.{bitsOf, at}
-use Rattle.ops.specs.Kinds.{rowOf, wideOf, computedOf}
+use Rattle.ops.specs.Kinds.{wideOf, computedOf}
+use Rattle.ops.specs.Table.{rowOf}
 use Rattle.ops.specs.Ops.{atTypes}
 use Rattle.ops.proofs.Inputs.{within, outside, folds-alike, foldable-kinds}
 use Rattle.ops.proofs.Fits.{allAre, inType, ins-are, extending, narrow, wide}

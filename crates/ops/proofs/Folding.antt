@@ -12,7 +12,8 @@ use Rattle.theory.specs.Machine.{calc, computes as stated, outputs, headOr}
 use Rattle.theory.proofs.Rule.{Constants}
 use Rattle.theory.proofs.Sets.{and-l, and-r, clash}
 use Rattle.ops.specs.Rows.{Role, unknown, declares, setsLabel, jumpsTo, exits, branches, loads, stores, constant, computing, Row, isComputing, at}
-use Rattle.ops.specs.Ops.{kindOf, rowAt, bytesAt, outsBy, insBy, restBy, Dialect, evalOf, viewFor, viewOf, tcg}
+use Rattle.ops.specs.Ops.{Dialect, evalOf, viewFor, viewOf, tcg}
+use Rattle.ops.specs.Fields.{kindOf, rowAt, bytesAt, outsBy, insBy, restBy}
 use Rattle.ops.proofs.Lawful.{States, Lawful}
 use Rattle.ops.specs.Folds.{foldableRow, folding, moviOf}
 

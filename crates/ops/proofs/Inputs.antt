@@ -17,9 +17,11 @@ use Rattle.word.proofs.Tests.{cond-all}
 use Rattle.ops.specs.Eval.{unaryOf, logicOf, divideOf, shiftOf, convertOf}
 use Rattle.ops.specs.Rows.{Role, constant, numberOf, roleNo, bitsOf, typesOf, isComputing, at, tableOf}
 use Rattle.ops.specs.Evaluate.{foldedOf}
-use Rattle.ops.specs.Kinds.{kindTable, rowOf, between, one, wideOf, computedOf, statesOf, document01}
+use Rattle.ops.specs.Kinds.{between, one, wideOf, computedOf, statesOf, document01}
+use Rattle.ops.specs.Table.{kindTable, rowOf}
 use Rattle.ops.specs.Rows.{roleOf}
-use Rattle.ops.specs.Ops.{bytesAt, atTypes, evalOf}
+use Rattle.ops.specs.Ops.{atTypes, evalOf}
+use Rattle.ops.specs.Fields.{bytesAt}
 use Rattle.ops.specs.Folds.{foldableRow, moviKind}
 use Rattle.ops.proofs.Ranges.{everyFrom, ranged, agreed}
 use Rattle.ops.proofs.Table.{unknown-beyond}

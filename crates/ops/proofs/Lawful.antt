@@ -7,7 +7,8 @@ use Prim.Native.Nat.{ℕ, suc}
 use lib.ListN.{length}
 use Rattle.theory.specs.Machine.{calc}
 use Rattle.ops.specs.Rows.{Row, known, bodyLength, testOk}
-use Rattle.ops.specs.Ops.{kindOf, rowAt, outsBy, insBy, restBy, Dialect, evalOf, viewOf}
+use Rattle.ops.specs.Ops.{Dialect, evalOf, viewOf}
+use Rattle.ops.specs.Fields.{kindOf, rowAt, outsBy, insBy, restBy}
 use Rattle.ops.specs.Lawful.{LawfulTable}
 use Rattle.ops.specs.Folds.{foldableRow, moviOf}
 

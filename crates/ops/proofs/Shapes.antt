@@ -8,7 +8,7 @@ use lib.Dec.{eqb, ltb}
 use lib.ListN.{getD}
 use borrow.Author.Tests.{eqb-true, ltb-true, lt-ltb}
 use Rattle.ops.specs.Rows.{outsIn, insIn, restIn, roleIn, typesIn, roleNo, numberOf, isComputing, isSetting, isJumping}
-use Rattle.ops.specs.Kinds.{kindTable}
+use Rattle.ops.specs.Table.{kindTable}
 use Rattle.ops.specs.Plans.{each}
 use Rattle.ops.specs.Shapes.{shapeOf, shapeTable, outsAs, typeAs, insAs, restAs, roleAs, computesAs, setsAs, jumpsAs}
 use Rattle.ops.proofs.Ranges.{every}

@@ -12,7 +12,7 @@ use Rattle.word.proofs.Tests.{cond-all}
 use Rattle.theory.proofs.Sets.{and-l, and-r, tell}
 use Rattle.ops.specs.Rows.{Role, unknown, declares, setsLabel, jumpsTo, exits, branches, loads, stores, constant, computing, roleNo, Row, entry}
 use Rattle.ops.specs.Rows.{outsIn, insIn, restIn, testIn, roleIn, typesIn, typesOf, rowIn, bodyOf, numberOf, asksFor, tableOf}
-use Rattle.ops.specs.Kinds.{movi, brcond, load, store, kindTable, rowOf}
+use Rattle.ops.specs.Table.{movi, brcond, load, store, kindTable, rowOf}
 use Rattle.ops.specs.Rows.{roleOf, bodyLength}
 use Rattle.ops.proofs.Ranges.{ranged, every, listed}
 

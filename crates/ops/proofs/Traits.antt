@@ -10,7 +10,8 @@ use Rattle.theory.specs.Sets.{Vars, plus, empty}
 use Rattle.theory.proofs.Scoped.{wrote}
 use Rattle.theory.proofs.Sets.{clash}
 use Rattle.ops.specs.Rows.{Role, unknown, declares, setsLabel, jumpsTo, exits, branches, loads, stores, constant, computing, Row, isPure, isClosing, isSetting, isJumping}
-use Rattle.ops.specs.Ops.{bytesAt, kindOf, rowAt, outsBy, insBy, labelBy, viewFor, viewOf, Dialect}
+use Rattle.ops.specs.Ops.{viewFor, viewOf, Dialect}
+use Rattle.ops.specs.Fields.{bytesAt, kindOf, rowAt, outsBy, insBy, labelBy}
 use Rattle.ops.proofs.Lawful.{Lawful}
 
 module _ (D : Dialect) (row : Row) (r : List ℕ) where

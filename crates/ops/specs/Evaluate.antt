@@ -3,7 +3,8 @@ use Prim.Native.Nat.{ℕ}
 use mathlib.Core.Bool.{cond}
 use mathlib.Core.Option.{Option, none}
 use mathlib.Core.List.{List, [], _∷_}
-use Rattle.ops.specs.Kinds.{rowOf, computedOf}
+use Rattle.ops.specs.Kinds.{computedOf}
+use Rattle.ops.specs.Table.{rowOf}
 use Rattle.ops.specs.Ops.{atTypes}
 use Rattle.ops.specs.Folds.{foldableRow}
 

@@ -8,7 +8,8 @@ use Rattle.theory.specs.Machine.{headOr}
 use Rattle.theory.specs.Fold.{Folding}
 use Rattle.memory.specs.Bytes.{bytesOf}
 use Rattle.ops.specs.Rows.{Row, isComputing, at}
-use Rattle.ops.specs.Ops.{rowAt, Dialect, tcg}
+use Rattle.ops.specs.Ops.{Dialect, tcg}
+use Rattle.ops.specs.Fields.{rowAt}
 
 -- "becomes a movi of the output's width": the constant of a type, with its output and its value
 abbrev pub moviKind : ℕ → ℕ

@@ -5,7 +5,7 @@ use mathlib.Core.List.{List, []}
 use Prim.Native.Nat.{ℕ, _≤_, _<_}
 use Rattle.ops.specs.Limits.{labelCount}
 use Rattle.ops.specs.Rows.{setsLabel, declares, exits, Table, isSetting, isJumping, roleOf, bodyLength, testOk, asksFor}
-use Rattle.ops.specs.Ops.{rowAt, restBy, labelBy}
+use Rattle.ops.specs.Fields.{rowAt, restBy, labelBy}
 
 pub record LawfulTable (T : Table) : Type 0 where
   -- kind 01 declares, and has two bytes, a class and a type; kind 04 exits

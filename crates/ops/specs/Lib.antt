@@ -1,5 +1,7 @@
 pub mod Limits
 pub mod Rows
+pub mod Fields
+pub mod Table
 pub mod Eval
 pub mod Ops
 pub mod Folds

@@ -5,7 +5,7 @@ use mathlib.Core.List.{List, [], _∷_}
 use lib.Dec.{eqb, ltb}
 use lib.ListN.{getD}
 use Rattle.ops.specs.Rows.{outsIn, insIn, restIn, testIn, roleIn, typesIn, typesOf}
-use Rattle.ops.specs.Kinds.{kindTable}
+use Rattle.ops.specs.Table.{kindTable}
 
 -- a variable's byte has a bit for each thing that speaks against its use: bit t that it has not the type t, bit 4 that it may not be read.
 -- What an operand of a type asks: that none of these bits is there; an output need only have the type

@@ -4,7 +4,7 @@ use mathlib.Core.Bool.{Bool, _||_}
 use mathlib.Core.List.{List}
 use lib.Dec.{eqb, ltb}
 use Rattle.ops.specs.Rows.{outsIn, insIn, restIn, roleIn, typesIn}
-use Rattle.ops.specs.Kinds.{kindTable}
+use Rattle.ops.specs.Table.{kindTable}
 use Rattle.ops.specs.Plans.{each, entryAt}
 
 -- the shape, in digits from the lowest: the outputs, the type of the first operand, the inputs, the bytes after the operands, the role's number

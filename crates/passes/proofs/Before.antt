@@ -13,8 +13,10 @@ use Rattle.theory.specs.Sets.{Vars, without, plus, both, noneIn}
 use Rattle.theory.proofs.Sets.{tell}
 use Rattle.ops.specs.Rows.{Role, unknown, declares, setsLabel, jumpsTo, exits, branches, loads, stores, constant, computing, roleNo, Row, outsIn, insIn, roleIn}
 use Rattle.ops.specs.Rows.{numberOf, isPure, isClosing, isSetting, isJumping}
-use Rattle.ops.specs.Kinds.{kindTable, rowOf, document01}
-use Rattle.ops.specs.Ops.{kindOf, rowAt, bytesAt, outsBy, insBy, viewFor, viewOf}
+use Rattle.ops.specs.Kinds.{document01}
+use Rattle.ops.specs.Table.{kindTable, rowOf}
+use Rattle.ops.specs.Ops.{viewFor, viewOf}
+use Rattle.ops.specs.Fields.{kindOf, rowAt, bytesAt, outsBy, insBy}
 use Rattle.ops.proofs.Entry.{Digits, digits}
 use Rattle.ops.proofs.Table.{row-of}
 use Rattle.ops.proofs.Traits.{pure-at, outputs-at}

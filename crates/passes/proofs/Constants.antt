@@ -10,7 +10,8 @@ use Rattle.theory.specs.Machine.{headOr}
 use Rattle.memory.specs.Bytes.{bytesOf}
 use Rattle.memory.proofs.Numbers.{length-bytes}
 use Rattle.ops.specs.Rows.{computing, Row, outsIn, typesIn, typesOf}
-use Rattle.ops.specs.Kinds.{kindTable, rowOf, document01}
+use Rattle.ops.specs.Kinds.{document01}
+use Rattle.ops.specs.Table.{kindTable, rowOf}
 use Rattle.ops.specs.Rows.{roleOf}
 use Rattle.ops.specs.Folds.{foldableRow, folding, moviKind}
 use Rattle.ops.proofs.Entry.{digits}

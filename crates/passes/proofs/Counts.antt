@@ -8,7 +8,7 @@ use lib.ListN.{getD}
 use borrow.Author.Tests.{ltb-true, leb-true, eqb-true, lt-ltb}
 use Rattle.theory.proofs.Sets.{and-l, and-r}
 use Rattle.ops.specs.Rows.{outsIn, insIn, roleIn, roleNo, numberOf, isComputing}
-use Rattle.ops.specs.Kinds.{kindTable}
+use Rattle.ops.specs.Table.{kindTable}
 use Rattle.ops.proofs.Ranges.{every}
 use Rattle.ops.proofs.Table.{for-each}
 

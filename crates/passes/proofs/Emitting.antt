@@ -14,7 +14,7 @@ use lib.Seq.{sets, drop-cons}
 use borrow.Author.Tests.{eqb-true, eqb-false, lt-ltb, le-ltb}
 use Rattle.theory.proofs.Sets.{tell}
 use Rattle.ops.specs.Rows.{bodyLength, computing, roleOf}
-use Rattle.ops.specs.Kinds.{rowOf}
+use Rattle.ops.specs.Table.{rowOf}
 use Rattle.block.specs.Records.{recordBytes}
 use Rattle.block.specs.Scan.{recordAt}
 use Rattle.passes.specs.Knows.{foldedOps}

@@ -12,8 +12,8 @@ use borrow.Author.Tests.{ltb-false, lt-ltb, le-ltb, eq-eqb, ne-eqb}
 use Rattle.theory.specs.Sets.{Vars, has, plus, without, both, noneIn}
 use Rattle.theory.proofs.Sets.{tell}
 use Rattle.ops.specs.Rows.{Role, Row, computing, roleOf, outsIn, insIn, roleIn, roleNo, numberOf, isSetting, isJumping}
-use Rattle.ops.specs.Kinds.{kindTable, rowOf}
-use Rattle.ops.specs.Ops.{bytesAt}
+use Rattle.ops.specs.Table.{kindTable, rowOf}
+use Rattle.ops.specs.Fields.{bytesAt}
 use Rattle.block.specs.Rules.{globalsIn, keptIn}
 use Rattle.block.specs.Scan.{SetAt, Stands}
 use Rattle.block.proofs.MarkSets.{at-place, zeros}

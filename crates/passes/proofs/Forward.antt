@@ -17,7 +17,8 @@ use Rattle.theory.proofs.Rule.{Puts, same, folds, puts}
 use Rattle.theory.proofs.Sets.{tell}
 use Rattle.ops.specs.Ops.{viewOf, tcg}
 use Rattle.ops.specs.Rows.{known}
-use Rattle.ops.specs.Kinds.{rowOf, document01}
+use Rattle.ops.specs.Kinds.{document01}
+use Rattle.ops.specs.Table.{rowOf}
 use Rattle.ops.proofs.Document01.{lawful}
 use Rattle.ops.proofs.Folding.{constants}
 use Rattle.ops.specs.Folds.{folding}

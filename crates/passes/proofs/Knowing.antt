@@ -11,15 +11,17 @@ use lib.Dec.{eqb, ltb}
 use lib.ListN.{getD}
 use borrow.Author.Tests.{ltb-true, lt-ltb, le-ltb}
 use Rattle.theory.specs.Fold.{Known, nothing, put, learned, given, gain, consO, allKnown, bindO, tried, baseRule}
-use Rattle.theory.specs.Machine.{View, calc, access, label, flow, computes as stated, inputs, outputs, pure, closes, upd, reads, writes}
-use Rattle.theory.specs.Sets.{Vars, empty, has, without}
+use Rattle.theory.specs.Machine.{View, calc, access, label, flow, computes as stated, inputs, outputs, pure, closes, reads, writes}
+use Rattle.theory.specs.Sets.{upd, Vars, empty, has, without}
 use Rattle.theory.proofs.Sets.{and-l, and-r, tell, clash}
 use Rattle.theory.proofs.Views.{no-some}
 use Rattle.memory.specs.Bytes.{lowFirst}
 use Rattle.ops.specs.Rows.{constant, computing, roleNo, Row, outsIn, insIn, roleIn, numberOf, isPure, isComputing, isClosing, at}
-use Rattle.ops.specs.Kinds.{kindTable, rowOf, document01}
+use Rattle.ops.specs.Kinds.{document01}
+use Rattle.ops.specs.Table.{kindTable, rowOf}
 use Rattle.ops.specs.Rows.{roleOf}
-use Rattle.ops.specs.Ops.{rowAt, bytesAt, Fault, viewOf, tcg}
+use Rattle.ops.specs.Ops.{Fault, viewOf, tcg}
+use Rattle.ops.specs.Fields.{rowAt, bytesAt}
 use Rattle.ops.proofs.Entry.{digits}
 use Rattle.ops.proofs.Folding.{const-view, computing-role}
 use Rattle.ops.proofs.Traits.{closes-at, pure-at, outputs-at}

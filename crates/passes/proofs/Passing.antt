@@ -12,7 +12,8 @@ use native.Mathlib.Nat.{zero-add}
 use Rattle.theory.specs.Prune.{prune}
 use Rattle.theory.specs.Sets.{Vars}
 use Rattle.ops.specs.Ops.{tcg}
-use Rattle.ops.specs.Kinds.{rowOf, document01}
+use Rattle.ops.specs.Kinds.{document01}
+use Rattle.ops.specs.Table.{rowOf}
 use Rattle.block.specs.Checks.{checkOf, checkBy}
 use Rattle.block.specs.Records.{cutOf, recordsOf, recordBytes, declarations, opsFrom, classesOf}
 use Rattle.block.specs.Rules.{start as unread, globalsIn, keptIn}

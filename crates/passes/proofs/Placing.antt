@@ -13,7 +13,7 @@ use lib.Seq.{drop-cons}
 use borrow.Author.Tests.{ltb-true, ltb-false, lt-ltb, le-ltb}
 use Rattle.theory.proofs.Sets.{tell}
 use Rattle.ops.specs.Rows.{bodyLength}
-use Rattle.ops.specs.Kinds.{rowOf}
+use Rattle.ops.specs.Table.{rowOf}
 use Rattle.block.specs.Records.{recordBytes}
 use Rattle.block.specs.Scan.{recordAt, recordsAt, placesFrom, Stands}
 use Rattle.block.proofs.Places.{Standing, standing, spanOf, records-from, places-at}

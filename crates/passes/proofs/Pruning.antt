@@ -13,7 +13,8 @@ use Rattle.theory.specs.Sets.{Vars}
 use Rattle.theory.specs.Prune.{dead, live as liveOps, prune}
 use Rattle.theory.proofs.Sets.{tell}
 use Rattle.ops.specs.Rows.{bodyLength, roleOf, computing}
-use Rattle.ops.specs.Kinds.{rowOf, document01}
+use Rattle.ops.specs.Kinds.{document01}
+use Rattle.ops.specs.Table.{rowOf}
 use Rattle.ops.specs.Ops.{viewOf, tcg}
 use Rattle.ops.proofs.Table.{body-short}
 use Rattle.block.specs.Records.{recordBytes}

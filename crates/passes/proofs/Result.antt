@@ -7,9 +7,9 @@ use native.Mathlib.Omega.{arith}
 use lib.ListN.{length, getD, length-append}
 use borrow.Author.Tests.{eqb-true, le-leb}
 use Rattle.theory.specs.Fold.{Rule, baseRule}
-use Rattle.theory.specs.Machine.{Prog, All}
+use Rattle.theory.specs.Machine.{Prog}
+use Rattle.theory.specs.Sets.{All, empty}
 use Rattle.theory.proofs.Scoped.{scoped}
-use Rattle.theory.specs.Sets.{empty}
 use Rattle.theory.proofs.Accept.{pass-checks}
 use Rattle.theory.proofs.Pass.{Preserves, preserves}
 use Rattle.theory.proofs.Fold.{any-fits}
@@ -17,7 +17,8 @@ use Rattle.theory.proofs.Law.{Lawful as LawfulRule}
 use Rattle.theory.proofs.Rule.{base-lawful}
 use Rattle.theory.proofs.Sets.{and-r}
 use Rattle.ops.specs.Rows.{known, bodyLength}
-use Rattle.ops.specs.Ops.{kindOf, tcg, Dialect}
+use Rattle.ops.specs.Ops.{tcg, Dialect}
+use Rattle.ops.specs.Fields.{kindOf}
 use Rattle.ops.proofs.Folding.{constants}
 use Rattle.ops.proofs.Lawful.{Lawful}
 use Rattle.ops.specs.Folds.{folding}

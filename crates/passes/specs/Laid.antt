@@ -9,7 +9,8 @@ use lib.ListN.{length, getD}
 use Rattle.theory.specs.Machine.{calc}
 use Rattle.ops.specs.Rows.{bodyLength, roleOf, computing}
 use Rattle.ops.specs.Ops.{viewOf}
-use Rattle.ops.specs.Kinds.{rowOf, document01}
+use Rattle.ops.specs.Kinds.{document01}
+use Rattle.ops.specs.Table.{rowOf}
 use Rattle.ops.specs.Folds.{folding}
 use Rattle.block.specs.Scan.{recordAt, Stands}
 

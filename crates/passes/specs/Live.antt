@@ -8,8 +8,10 @@ use lib.ListN.{length, getD, take}
 use Rattle.theory.specs.Sets.{Vars, has, without, both}
 use Rattle.theory.specs.Prune.{before, prune}
 use Rattle.ops.specs.Rows.{Role, roleIn, roleNo, outsIn, isPure, isClosing, isSetting, isJumping}
-use Rattle.ops.specs.Ops.{bytesAt, viewOf, tcg}
-use Rattle.ops.specs.Kinds.{rowOf, document01}
+use Rattle.ops.specs.Ops.{viewOf, tcg}
+use Rattle.ops.specs.Fields.{bytesAt}
+use Rattle.ops.specs.Kinds.{document01}
+use Rattle.ops.specs.Table.{rowOf}
 use Rattle.block.specs.Records.{recordBytes}
 use Rattle.block.specs.Rules.{globalsIn, keptIn}
 use Rattle.block.specs.Scan.{recordAt}

@@ -8,7 +8,8 @@ use lib.ListN.{length, take, drop}
 use Rattle.theory.specs.Fold.{nothing, baseRule, Still}
 use Rattle.theory.specs.Prune.{AllUsed, liveAll}
 use Rattle.ops.specs.Ops.{tcg}
-use Rattle.ops.specs.Kinds.{rowOf, document01}
+use Rattle.ops.specs.Kinds.{document01}
+use Rattle.ops.specs.Table.{rowOf}
 use Rattle.ops.specs.Folds.{folding}
 use Rattle.block.specs.Checks.{Checked}
 use Rattle.block.specs.Records.{recordsOf, declarations, opsFrom, classesOf}

@@ -10,7 +10,7 @@ use Rattle.block.specs.Records.{recordsOf, recordBytes, declarations, opsFrom, 
 use Rattle.block.specs.Rules.{globalsIn, keptIn}
 use Rattle.block.specs.Scan.{codesIn}
 use Rattle.block.specs.declared.Verdict.the-variants.{Accepted}
-use Rattle.ops.specs.Kinds.{rowOf}
+use Rattle.ops.specs.Table.{rowOf}
 use Rattle.passes.specs.Laid.{opsAt, placeOf, Laid}
 use Rattle.passes.specs.Live.{Classed}
 

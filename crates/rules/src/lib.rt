@@ -7,7 +7,7 @@ ghost use lib.Dec.{eqb};
 ghost use lib.ListN.{length, getD};
 ghost use Rattle.ops.specs.Limits.{labelCount};
 ghost use Rattle.ops.specs.Rows.{outsIn, insIn, restIn, rowIn, condOk, labelOk, testOk};
-ghost use Rattle.ops.specs.Ops.{bytesAt};
+ghost use Rattle.ops.specs.Fields.{bytesAt};
 ghost use Rattle.ops.specs.Plans.{ask};
 ghost use Rattle.block.specs.Checks.{firstBroken};
 ghost use Rattle.block.specs.Rules.{labelFree, allSet};

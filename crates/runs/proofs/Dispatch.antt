@@ -10,7 +10,8 @@ use lib.ListN.{length, getD}
 use borrow.Author.Tests.{ltb-true, ne-eqb}
 use Rattle.theory.proofs.Sets.{and-l, and-r, clash}
 use Rattle.ops.specs.Rows.{Role, setsLabel, jumpsTo, exits, branches, loads, stores, constant, computing, roleNo, tableOf, isComputing, numberOf, roleOf, bodyLength}
-use Rattle.ops.specs.Kinds.{between, kindTable, rowOf}
+use Rattle.ops.specs.Kinds.{between}
+use Rattle.ops.specs.Table.{kindTable, rowOf}
 use Rattle.ops.specs.Folds.{foldableRow}
 use Rattle.ops.proofs.Inputs.{outside, foldable-kinds}
 use Rattle.ops.proofs.Ranges.{everyFrom, ranged}

@@ -17,7 +17,8 @@ use Rattle.theory.proofs.Simulation.{proper, goesOn, isJump}
 use Rattle.theory.proofs.Sets.{and-l, and-r, clash, tell}
 use Rattle.ops.specs.Limits.{labelCount}
 use Rattle.ops.specs.Rows.{isSetting, isJumping, Table}
-use Rattle.ops.specs.Ops.{kindOf, rowAt, labelBy, viewOf, tcg, Dialect}
+use Rattle.ops.specs.Ops.{viewOf, tcg, Dialect}
+use Rattle.ops.specs.Fields.{kindOf, rowAt, labelBy}
 use Rattle.block.specs.Checks.{endRules, checkBy}
 use Rattle.block.specs.Records.{recordsOf, isDeclaration, declarations, opsFrom}
 use Rattle.block.specs.Rules.{Seen, start, rule4, rule5, rule6, rule7, rule9, rule10, allSet, rule7end, passed}

@@ -10,13 +10,14 @@ use lib.Seq.{drop-cons, drop-drop}
 use borrow.Author.Tests.{eqb-true, not-true, ne-eqb}
 use native.Mathlib.Nat.{zero-add, add-zero}
 use Rattle.theory.proofs.Checker.{checks}
-use Rattle.theory.specs.Machine.{isLabel, seek, upd}
-use Rattle.theory.specs.Sets.{Vars, empty}
+use Rattle.theory.specs.Machine.{isLabel, seek}
+use Rattle.theory.specs.Sets.{upd, Vars, empty}
 use Rattle.theory.proofs.Simulation.{isJump}
 use Rattle.theory.proofs.Sets.{and-l, and-r, clash}
 use Rattle.ops.specs.Limits.{labelCount}
 use Rattle.ops.specs.Rows.{isSetting, isJumping}
-use Rattle.ops.specs.Ops.{rowAt, labelBy, viewOf, tcg, Dialect}
+use Rattle.ops.specs.Ops.{viewOf, tcg, Dialect}
+use Rattle.ops.specs.Fields.{rowAt, labelBy}
 use Rattle.block.specs.Rules.{Seen, rule7, markedBy, passed}
 use Rattle.block.specs.Scan.{numbered, labelledBy, labelsFrom}
 use Rattle.block.proofs.Checker.{opOk, checker}

@@ -7,13 +7,15 @@ use Prim.Native.Nat.{ℕ, zero, suc, _+_, _%_, _^_, _<_}
 use native.Mathlib.Omega.{arith}
 use lib.ListN.{getD}
 use native.Mathlib.Nat.{mod-eq-of-lt}
-use Rattle.theory.specs.Machine.{always, to, View, label, flow, exit, fault, falls, jumps, stops, upd, reads, afterCalc, afterAccess, effect, St}
+use Rattle.theory.specs.Machine.{always, to, View, label, flow, exit, fault, falls, jumps, stops, reads, afterCalc, afterAccess, effect, St}
+use Rattle.theory.specs.Sets.{upd}
 use Rattle.word.specs.Condition.{condW}
 use Rattle.memory.specs.Access.{loadAt, storeAt}
 use Rattle.memory.specs.Answer.{accessWidth, loadedOf, servedOf, leftOf}
 use Rattle.memory.specs.Bytes.{lowFirst}
 use Rattle.ops.specs.Rows.{unknown, declares, setsLabel, jumpsTo, exits, numberOf, bitsOf, at, outsIn, insIn, restIn, bodyLength}
-use Rattle.ops.specs.Kinds.{kindTable, rowOf, document01}
+use Rattle.ops.specs.Kinds.{document01}
+use Rattle.ops.specs.Table.{kindTable, rowOf}
 use Rattle.ops.specs.Rows.{roleOf}
 use Rattle.ops.specs.Ops.{leave, Fault, faultOf, viewOf, tcg}
 use Rattle.ops.specs.Kinds.{afterLoad, afterStore}

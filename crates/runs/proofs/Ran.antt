@@ -12,7 +12,8 @@ use Rattle.theory.specs.Machine.{St, Result}
 use Rattle.theory.proofs.Sets.{and-l, tell}
 use Rattle.ops.specs.Limits.{maxMemory}
 use Rattle.ops.specs.Ops.{tcg}
-use Rattle.ops.specs.Kinds.{rowOf, document01}
+use Rattle.ops.specs.Kinds.{document01}
+use Rattle.ops.specs.Table.{rowOf}
 use Rattle.block.specs.Records.{recordsOf, declarations, opsFrom, classesOf, globalCount}
 use Rattle.block.specs.Scan.{Approved, Scanned}
 use Rattle.block.proofs.Declaring.{classes-length, types-length}

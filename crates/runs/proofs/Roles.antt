@@ -15,9 +15,10 @@ use Rattle.theory.proofs.Simulation.{isJump}
 use Rattle.ops.specs.Limits.{labelCount}
 use Rattle.ops.specs.Rows.{Role, roleNo, Row, roleIn, numberOf}
 use Rattle.ops.specs.Rows.{isSetting, isJumping}
-use Rattle.ops.specs.Kinds.{kindTable, rowOf}
+use Rattle.ops.specs.Table.{kindTable, rowOf}
 use Rattle.ops.specs.Rows.{roleOf}
-use Rattle.ops.specs.Ops.{rowAt, labelBy, viewOf, Dialect}
+use Rattle.ops.specs.Ops.{viewOf, Dialect}
+use Rattle.ops.specs.Fields.{rowAt, labelBy}
 use Rattle.ops.proofs.Entry.{Digits, digits}
 use Rattle.ops.proofs.Table.{same-number}
 use Rattle.ops.proofs.Traits.{label-at, target-at}

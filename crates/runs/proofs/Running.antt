@@ -13,7 +13,8 @@ use Rattle.theory.specs.Machine.{View, Effect}
 use Rattle.theory.specs.Machine.{jumps, stops, effect, St, Result, cost, seek, moved, counted, after, run}
 use Rattle.theory.specs.Sets.{empty}
 use Rattle.theory.proofs.Simulation.{isJump, Says, says}
-use Rattle.ops.specs.Kinds.{rowOf, document01}
+use Rattle.ops.specs.Kinds.{document01}
+use Rattle.ops.specs.Table.{rowOf}
 use Rattle.ops.specs.Rows.{bodyLength}
 use Rattle.ops.specs.Ops.{Fault, viewOf, tcg}
 use Rattle.ops.proofs.Table.{body-short}

@@ -12,7 +12,8 @@ use Rattle.theory.specs.Machine.{reads}
 use Rattle.word.specs.Answer.{statedOf}
 use Rattle.ops.specs.Evaluate.{foldedOf}
 use Rattle.ops.specs.Rows.{Role, computing, outsIn, insIn, restIn, isComputing, at}
-use Rattle.ops.specs.Kinds.{kindTable, rowOf, one, document01}
+use Rattle.ops.specs.Kinds.{one, document01}
+use Rattle.ops.specs.Table.{kindTable, rowOf}
 use Rattle.ops.specs.Rows.{operandCount}
 use Rattle.ops.specs.Ops.{evalOf}
 use Rattle.ops.proofs.Entry.{Digits, digits}

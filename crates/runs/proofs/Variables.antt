@@ -10,7 +10,7 @@ use lib.Dec.{eqb, ltb}
 use lib.ListN.{length, getD, set, replicate, length-set, List·getD-eq-default}
 use lib.Seq.{ext-getD}
 use borrow.Author.Tests.{ltb-true, ltb-false, eqb-true, lt-ltb, le-ltb}
-use Rattle.theory.specs.Machine.{upd}
+use Rattle.theory.specs.Sets.{upd}
 use Rattle.theory.proofs.Sets.{tell}
 use Rattle.block.specs.Scan.{SetAt}
 use Rattle.block.proofs.MarkSets.{set-here, at-place, zeros}

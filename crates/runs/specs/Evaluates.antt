@@ -7,9 +7,11 @@ use Prim.Native.Nat.{ℕ, _+_, _≤_, _<_}
 use lib.Dec.{ltb}
 use lib.ListN.{length, getD, take, drop}
 use Rattle.ops.specs.Rows.{computing}
-use Rattle.ops.specs.Kinds.{rowOf, document01}
+use Rattle.ops.specs.Kinds.{document01}
+use Rattle.ops.specs.Table.{rowOf}
 use Rattle.ops.specs.Rows.{roleOf, operandCount}
-use Rattle.ops.specs.Ops.{bytesAt, evalOf}
+use Rattle.ops.specs.Ops.{evalOf}
+use Rattle.ops.specs.Fields.{bytesAt}
 use Rattle.block.specs.Scan.{Stands, SetAt}
 use Rattle.word.specs.declared.Stated.{Stated}
 use Rattle.word.specs.declared.Stated.the-variants.{Value, NoResult}

@@ -14,7 +14,8 @@ use Rattle.memory.specs.Bytes.{lowFirst}
 use Rattle.ops.specs.Limits.{maxOps, maxMemory}
 use Rattle.ops.specs.Rows.{at, bodyLength, isComputing, numberOf, roleOf}
 use Rattle.ops.specs.Ops.{atTypes, Fault, faultOf, tcg}
-use Rattle.ops.specs.Kinds.{afterLoad, afterStore, rowOf, document01}
+use Rattle.ops.specs.Kinds.{afterLoad, afterStore, document01}
+use Rattle.ops.specs.Table.{rowOf}
 use Rattle.block.specs.Records.{recordsOf, opsFrom}
 use Rattle.block.specs.Scan.{Approved}
 use Rattle.runs.specs.Evaluates.{envOf}

@@ -5,7 +5,7 @@ ghost use Prim.Native.Nat.{_<_};
 ghost use lib.Dec.{eqb};
 ghost use lib.ListN.{length, replicate};
 ghost use Rattle.ops.specs.Limits.{labelCount};
-ghost use Rattle.ops.specs.Kinds.{rowOf};
+ghost use Rattle.ops.specs.Table.{rowOf};
 ghost use Rattle.ops.specs.Plans.{exitRank, entryAt};
 ghost use Rattle.block.specs.Scan.{entryRule, endRule, Begins, ScannedBy, Scanned};
 use declarations::scan_declarations;

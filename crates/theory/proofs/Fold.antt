@@ -9,8 +9,9 @@ use lib.Dec.{eqb}
 use Rattle.theory.specs.Fold.{Known, nothing, Rewrite, put, omit, cut, Mode, on, off, somes, given, gain, learned, Rule, emit}
 use Rattle.theory.specs.Fold.{fold}
 use Rattle.theory.specs.Machine.{Touch, faults, gives, always, when, Way, to, out, View, calc, access, label, flow, Lang}
-use Rattle.theory.specs.Machine.{unstated, State, Effect, falls, jumps, stops, headOr, tailOf, upd, reads, writes, isSome}
-use Rattle.theory.specs.Machine.{anyLabel, isLabel, afterCalc, afterAccess, sent, effect, St, Prog, Effects, All, seek, moved, runs}
+use Rattle.theory.specs.Machine.{unstated, State, Effect, falls, jumps, stops, headOr, tailOf, reads, writes, isSome}
+use Rattle.theory.specs.Sets.{upd, All}
+use Rattle.theory.specs.Machine.{anyLabel, isLabel, afterCalc, afterAccess, sent, effect, St, Prog, Effects, seek, moved, runs}
 use Rattle.theory.proofs.Law.{Right, As, Fits, Lawful}
 use Rattle.theory.proofs.Sets.{tell}
 use Rattle.theory.proofs.Simulation.{definite, Follows, drops, moves, ends, open-end, Matches, simulates}

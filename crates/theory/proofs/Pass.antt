@@ -4,10 +4,10 @@ use mathlib.Core.Bool.{true}
 use Prim.Native.Nat.{ℕ}
 use native.Mathlib.Omega.{arith}
 use Rattle.theory.specs.Fold.{nothing, on, Rule, fold, pass, Still}
-use Rattle.theory.specs.Machine.{Lang, St, Prog, All, runs}
+use Rattle.theory.specs.Machine.{Lang, St, Prog, runs}
+use Rattle.theory.specs.Sets.{All, Vars, empty}
 use Rattle.theory.specs.Prune.{AllUsed, liveAll}
 use Rattle.theory.proofs.Scoped.{scoped}
-use Rattle.theory.specs.Sets.{Vars, empty}
 use Rattle.theory.proofs.Again.{pass-still, pass-used, pass-again}
 use Rattle.theory.proofs.Fold.{Fitting, fold-right}
 use Rattle.theory.proofs.Law.{Lawful}

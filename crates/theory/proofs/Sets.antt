@@ -6,8 +6,8 @@ use mathlib.Core.Logic.{_⊎_, inl, inr}
 use Prim.Native.Nat.{ℕ}
 use lib.Dec.{eqb}
 use borrow.Author.Tests.{eqb-true, not-true, eq-eqb}
-use Rattle.theory.specs.Machine.{headOr, tailOf, upd, reads, writes}
-use Rattle.theory.specs.Sets.{Vars, has, noneIn, allIn}
+use Rattle.theory.specs.Machine.{headOr, tailOf, reads, writes}
+use Rattle.theory.specs.Sets.{upd, Vars, has, noneIn, allIn}
 
 pub or-cases : (a b : Bool) → (a || b) ≡ true → (a ≡ true) ⊎ (b ≡ true)
 or-cases true b h = inl refl

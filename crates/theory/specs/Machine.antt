@@ -4,6 +4,7 @@ use mathlib.Core.Bool.{Bool, true, false, cond}
 use mathlib.Core.Option.{Option, none, some}
 use mathlib.Core.List.{List, [], _∷_}
 use lib.Dec.{eqb}
+use Rattle.theory.specs.Sets.{upd}
 
 -- what an access does: it faults, or gives the values of its outputs and the next memory
 pub data Touch (Val Mem Flt : Type 0) : Type 0 where
@@ -62,10 +63,6 @@ headOr z (v ∷ vs) = v
 abbrev pub tailOf : {A : Type 0} → List A → List A
 tailOf [] = []
 tailOf (v ∷ vs) = vs
-
--- a function changed at one number
-abbrev pub upd : {A : Type 0} → (ℕ → A) → ℕ → A → ℕ → A
-upd e o a v = cond (eqb o v) a (e v)
 
 -- the values of the inputs
 abbrev pub reads : {A : Type 0} → (ℕ → A) → List ℕ → List A
@@ -170,11 +167,6 @@ module _ (L : Lang) where
 
   abbrev pub Effects : Type 0
   Effects = Effect (L .Val) (L .Mem) (L .Out) (L .Flt)
-
--- each element of a list has a property
-abbrev pub All : {A : Type 0} → (A → Type 0) → List A → Type 0
-All P [] = Unit {0}
-All P (x ∷ xs) = P x × All P xs
 
 -- a run's end, the state that the completed ops left, the number of ops run, and the ops from the one that ended it on
 pub record Result (L : Lang) : Type 0 where

@@ -5,7 +5,7 @@ ghost use lib.ListN.{length, getD, set};
 ghost use Rattle.block.specs.Scan.{SetAt};
 ghost use Rattle.runs.specs.Evaluates.{envOf, PutAt, Computed, inputsAt, statesAt, valuesOf};
 ghost use Rattle.ops.specs.Rows.{outsIn, insIn, restIn};
-ghost use Rattle.ops.specs.Kinds.{kindTable};
+ghost use Rattle.ops.specs.Table.{kindTable};
 ghost use Rattle.theory.specs.Machine.{reads};
 use evaluate::eval;
 use marks::index;

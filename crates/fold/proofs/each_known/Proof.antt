@@ -4,7 +4,7 @@ use mathlib.Core.Path.{sym, _∙_}
 use Prim.Native.Nat.{_-_, _≤_}
 use native.Mathlib.Omega.{arith}
 use borrow.Author.Tests.{not-true, not-false}
-use Rattle.ops.specs.Ops.{bytesAt}
+use Rattle.ops.specs.Fields.{bytesAt}
 use Rattle.block.specs.Scan.{marked}
 use Rattle.block.proofs.Operands.{Left, left-start, left-next, left-stops, left-ends}
 use Rattle.passes.proofs.Knowing.{all-each}

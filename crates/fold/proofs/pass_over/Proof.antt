@@ -5,7 +5,7 @@ use native.Mathlib.Omega.{arith}
 use lib.ListN.{getD}
 use Rattle.memory.proofs.Numbers.{low-slice}
 use Rattle.ops.specs.Rows.{constant, roleOf}
-use Rattle.ops.specs.Kinds.{rowOf}
+use Rattle.ops.specs.Table.{rowOf}
 use Rattle.ops.proofs.Shapes.{outs-as, role-as}
 use Rattle.block.specs.Scan.{marked}
 use Rattle.block.proofs.MarkSets.{marked-none}

@@ -1,6 +1,6 @@
 -- `table` is document 01's: one computed comparison. Assumes nothing.
 use mathlib.Core.Path.{refl}
-use Rattle.ops.specs.Kinds.{kindTable}
+use Rattle.ops.specs.Table.{kindTable}
 use Rattle.kinds.proofs.table.Statement.{statement}
 use Rattle.kinds.proofs.table.Tie as tie
 

@@ -5,7 +5,7 @@ use native.Mathlib.Omega.{arith}
 use lib.ListN.{getD}
 use borrow.Author.Needs.{needs}
 use Rattle.ops.specs.Rows.{outsIn}
-use Rattle.ops.specs.Ops.{bytesAt}
+use Rattle.ops.specs.Fields.{bytesAt}
 use Rattle.ops.specs.Plans.{entryAt}
 use Rattle.ops.proofs.Shapes.{outs-as}
 use Rattle.passes.proofs.Before.{operands-inside}

@@ -1,6 +1,6 @@
 -- One or two bytes, or up to four. Assumes nothing.
 use borrow.Author.Needs.{needs}
-use Rattle.ops.specs.Ops.{bytesAt}
+use Rattle.ops.specs.Fields.{bytesAt}
 use Rattle.passes.proofs.Events.{timed-one, timed-none, timed-more, timed-as, two-bytes, four-bytes, counted}
 use Rattle.live.proofs.wake.Statement.{statement}
 use Rattle.live.proofs.wake.Tie as tie

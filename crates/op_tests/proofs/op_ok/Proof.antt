@@ -7,7 +7,7 @@ use lib.Dec.{ltb}
 use lib.ListN.{length, getD}
 use borrow.Author.Needs.{needs}
 use borrow.Author.Tests.{not-true, not-false}
-use Rattle.ops.specs.Kinds.{kindTable}
+use Rattle.ops.specs.Table.{kindTable}
 use Rattle.ops.specs.Limits.{maxOps}
 use Rattle.ops.specs.Plans.{byteTestBy, planOf, lengthIn, byteAtIn}
 use Rattle.ops.proofs.Plans.{plan-at, straight-so}

@@ -1,6 +1,6 @@
 -- `lengths` has the length of each kind's record: one computed comparison. Assumes nothing.
 use mathlib.Core.Path.{refl}
-use Rattle.ops.specs.Kinds.{kindTable}
+use Rattle.ops.specs.Table.{kindTable}
 use Rattle.plans.proofs.lengths.Statement.{statement}
 use Rattle.plans.proofs.lengths.Tie as tie
 

@@ -3,7 +3,7 @@ use mathlib.Core.Path.{_≡_}
 use Prim.Native.Nat.{ℕ, suc, _≤_}
 use native.Mathlib.Omega.{arith}
 use Rattle.ops.specs.Rows.{typesOf}
-use Rattle.ops.specs.Kinds.{kindTable}
+use Rattle.ops.specs.Table.{kindTable}
 use Rattle.ops.specs.Plans.{planOf, planAt}
 use Rattle.ops.proofs.Plans.{plan-none}
 use Rattle.plans.proofs.plan.Statement.{statement}

@@ -1,6 +1,6 @@
 -- `ranks` has the rank of each kind: one computed comparison. Assumes nothing.
 use mathlib.Core.Path.{refl}
-use Rattle.ops.specs.Kinds.{kindTable}
+use Rattle.ops.specs.Table.{kindTable}
 use Rattle.ops.specs.Plans.{rankOf}
 use Rattle.plans.proofs.ranks.Statement.{statement}
 use Rattle.plans.proofs.ranks.Tie as tie

@@ -7,7 +7,8 @@ use Rattle.runs.specs.Runs.{runOps, runOf}
 use Rattle.runs.proofs.Ran.{refused-ran, ready-by, unlent-ran, accepted-ran, ops-ran}
 use Rattle.run.proofs.run.Statement.{statement}
 use Rattle.run.proofs.run.Tie as tie
-use Rattle.ops.specs.Kinds.{rowOf, document01}
+use Rattle.ops.specs.Kinds.{document01}
+use Rattle.ops.specs.Table.{rowOf}
 
 -- what stood before the scan
 abbrev start : tie.After-scan → tie.Start

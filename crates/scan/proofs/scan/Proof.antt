@@ -2,7 +2,7 @@
 use borrow.Author.Needs.{needs}
 use Rattle.block.proofs.Scanned.{begins-by, scan-refused, scan-done}
 use Rattle.ops.proofs.Document01.{table-lawful}
-use Rattle.ops.specs.Kinds.{rowOf}
+use Rattle.ops.specs.Table.{rowOf}
 use Rattle.scan.proofs.scan.Statement.{statement}
 use Rattle.scan.proofs.scan.Tie as tie
 

@@ -6,7 +6,7 @@ use native.Mathlib.Omega.{arith}
 use lib.ListN.{length, getD}
 use borrow.Author.Tests.{not-true, not-false}
 use borrow.Author.Needs.{needs}
-use Rattle.ops.specs.Kinds.{kindTable, rowOf}
+use Rattle.ops.specs.Table.{kindTable, rowOf}
 use Rattle.ops.specs.Plans.{lengthBy, rankOf}
 use Rattle.ops.proofs.Plans.{rank-in, length-in}
 use Rattle.block.specs.Scan.{Reading}

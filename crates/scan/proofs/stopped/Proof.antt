@@ -5,7 +5,7 @@ use mathlib.Core.List.{List}
 use Prim.Native.Nat.{ℕ}
 use lib.ListN.{getD}
 use borrow.Author.Needs.{needs}
-use Rattle.ops.specs.Kinds.{kindTable}
+use Rattle.ops.specs.Table.{kindTable}
 use Rattle.block.specs.Scan.{entryRule}
 use Rattle.scan.proofs.stopped.Statement.{statement}
 use Rattle.scan.proofs.stopped.Tie as tie

@@ -1,6 +1,6 @@
 -- `table` has the shape of each kind: one computed comparison. Assumes nothing.
 use mathlib.Core.Path.{refl}
-use Rattle.ops.specs.Kinds.{kindTable}
+use Rattle.ops.specs.Table.{kindTable}
 use Rattle.ops.specs.Shapes.{shapeOf}
 use Rattle.shapes.proofs.table.Statement.{statement}
 use Rattle.shapes.proofs.table.Tie as tie
