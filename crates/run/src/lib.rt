@@ -1,12 +1,44 @@
 // The run of a block.
-ghost use Rattle.runs.specs.Runs.{Run};
+ghost use mathlib.Core.Path.{_≡_};
+ghost use Rattle.ops.specs.Kinds.{kindTable, rowOf, document01};
+ghost use Rattle.block.specs.Records.{recordsOf, opsFrom};
+ghost use Rattle.runs.specs.Runs.{ranAs, runOps, Run};
+ghost use Rattle.runs.specs.Steps.{ReadyToRun};
 use execute::execute;
 use kinds::table;
 use lending::lent_ok;
 use runs::Ending;
 use scan::scan;
 
-// Checks a block and runs it on the lent globals and memory, with temporaries that start at zero: the answer, and what is left in both.
+// Runs the ops of a block that the scan has accepted, on the lent globals and on temporaries that start at zero.
+fn run_ops(
+    kinds: &[u32; 256],
+    block: &[u8],
+    start: usize,
+    ops: usize,
+    places: &[u16; 256],
+    labels: &[u16; 32],
+    globals: &mut [u64],
+    memory: &mut [u8],
+) -> Ending
+    requires { ⌜ ReadyToRun (now block) (now places) (now labels) start ops × (now kinds ≡ kindTable) ⌝ }
+    ensures { λ r. ⌜ ranAs r (now (globals .exit)) (now (memory .exit)) ≡ runOps document01 (opsFrom (recordsOf rowOf (now (block .entry)))) (now (globals .entry)) (now (memory .entry)) ⌝ }
+{
+    let mut temps = [0u64; 256];
+    execute(
+        kinds,
+        block,
+        start,
+        ops,
+        places,
+        labels,
+        globals,
+        &mut temps,
+        memory,
+    )
+}
+
+// Checks a block and runs it: the answer, and the globals and memory that it leaves.
 pub fn run(block: &[u8], globals: &mut [u64], memory: &mut [u8]) -> Ending
     ensures { λ r. ⌜ Run (now (block .entry)) (now (globals .entry)) (now (memory .entry)) r (now (globals .exit)) (now (memory .exit)) ⌝ }
 {
@@ -27,17 +59,8 @@ pub fn run(block: &[u8], globals: &mut [u64], memory: &mut [u8]) -> Ending
             place: 0,
         };
     }
+    let start = s.start;
+    let ops = s.ops;
     let kinds = table();
-    let mut temps = [0u64; 256];
-    execute(
-        &kinds,
-        block,
-        s.start,
-        s.ops,
-        &places,
-        &labels,
-        globals,
-        &mut temps,
-        memory,
-    )
+    run_ops(&kinds, block, start, ops, &places, &labels, globals, memory)
 }

@@ -1,30 +1,25 @@
--- The lent globals: their copies, and rule 11. Assumes nothing.
-use mathlib.Core.Path.{_≡_, refl, sym, ap, ap₂, _∙_, fun-ext}
+-- Rule 11: the lent globals and memory. Assumes nothing.
+use mathlib.Core.Path.{_≡_, refl, sym, ap, ap₂, _∙_}
 use mathlib.Core.Bool.{not, Bool, true, false, cond, _&&_, _||_, Bool·beq}
 use mathlib.Core.List.{List, [], _∷_}
 use mathlib.Core.Logic.{_⊎_, inl, inr}
 use Prim.Native.Nat.{ℕ, zero, suc, _+_, _%_, _^_, _≤_, _<_}
 use native.Mathlib.Omega.{arith}
 use lib.Dec.{eqb, ltb, leb}
-use lib.ListN.{length, getD, drop, set, replicate, drop-of-length-le}
+use lib.ListN.{length, getD, drop, drop-of-length-le}
 use lib.Seq.{drop-cons}
-use borrow.Author.Tests.{ltb-true, ltb-false, eqb-true, eqb-false, lt-ltb, le-ltb, eq-eqb, ne-eqb}
-use native.Mathlib.Nat.{zero-add, add-zero}
+use borrow.Author.Tests.{ltb-true, ltb-false, lt-ltb, eq-eqb, ne-eqb}
+use native.Mathlib.Nat.{zero-add}
 use native.Mathlib.Numerals.{add-one}
-use lib.Arith.{lt-of-le-ne}
 use Rattle.theory.proofs.Sets.{and-l, and-r, tell}
 use Rattle.ops.specs.Limits.{maxMemory}
 use Rattle.ops.specs.Rows.{bitsOf, narrowOk}
-use Rattle.block.proofs.MarkSets.{set-here, at-place, zeros}
-use Rattle.runs.specs.Runs.{globalsFit, valuesFrom}
-use Rattle.runs.specs.Evaluates.{envOf}
+use Rattle.runs.specs.Runs.{globalsFit}
 use Rattle.runs.specs.Steps.{codeFits, codesFit, lentOk}
 use Rattle.theory.specs.Sets.{empty}
 use Rattle.ops.proofs.Ranges.{everyFrom, ranged, beq-same}
 use Rattle.block.specs.Rules.{keptIn}
 use Rattle.block.specs.Scan.{against, Coded}
-use lib.ListN.{List·getD-eq-default}
-use lib.Seq.{ext-getD}
 
 getD-any : (xs : List ℕ) (v d e : ℕ) → v < length xs → getD xs v d ≡ getD xs v e
 getD-any [] v d e h = absurd (omega arith)

@@ -4,14 +4,14 @@ use mathlib.Core.Bool.{Bool, true, false, cond, false≢true, true≢false}
 use mathlib.Core.Option.{Option, none, some}
 use mathlib.Core.List.{List, [], _∷_}
 use mathlib.Core.Logic.{_⊎_, inl, inr}
-use Prim.Native.Nat.{ℕ, zero, suc, _+_, _-_, _≤_, _<_}
+use Prim.Native.Nat.{ℕ, zero, suc, _+_, _-_, _<_}
 use native.Mathlib.Omega.{arith}
 use native.Mathlib.Nat.{zero-add}
 use lib.Dec.{ltb}
 use lib.ListN.{length, getD, drop, drop-of-length-le, length-drop}
 use lib.Seq.{drop-cons}
 use borrow.Author.Tests.{ltb-true, ltb-false}
-use Rattle.theory.specs.Machine.{always, when, to, out, Touch, faults, gives, Way, View, calc, access, label, flow, End, exit, fault, unstated, fell, spent, Effect, falls, jumps, stops}
+use Rattle.theory.specs.Machine.{always, when, to, out, Touch, faults, gives, Way, View, calc, access, label, flow, End, exit, fault, unstated, fell, spent, falls, jumps, stops}
 use Rattle.theory.specs.Machine.{isLabel, pure, computes, inputs, reads, afterCalc, afterAccess, sent, effect, State, St, Effects, Result, cost, goes, seek, moved, step, after, run}
 use Rattle.theory.proofs.Simulation.{proper}
 use Rattle.theory.proofs.Sets.{tell}
@@ -21,9 +21,9 @@ use Rattle.block.specs.Checks.{checkBy}
 use Rattle.block.specs.Records.{recordsOf, declarations, opsFrom}
 use Rattle.block.specs.declared.Verdict.the-variants.{Accepted}
 use Rattle.runs.specs.Runs.{fits, entry, Ran, noAnswer, answerOf, opsRun, runOps, runChecked, runBy}
-use Rattle.runs.specs.Meaning.{Path, here, on, StatesNothing, Answers, exits, faults as faulted, unstated as noneStated, Ended, OpsMean, RunMeans, RunsMean}
+use Rattle.runs.specs.Meaning.{PathTaken, here, on, Answers, exits, faults as faulted, unstated as noneStated, Ended, OpsMean, RunsMean}
 use Rattle.runs.specs.declared.Ending.{Ending}
-use Rattle.runs.specs.declared.Ending.the-variants.{Refused, Exit, Fault as Faulted, NoResult}
+use Rattle.runs.specs.declared.Ending.the-variants.{Refused}
 use Rattle.runs.proofs.Ends.{run-ends}
 
 -- only a pure op that states nothing ends a run so
@@ -70,7 +70,7 @@ record Stopped (D : Dialect) (b r : List (List ℕ)) (s : St (tcg D)) (x : Resul
   inside : position < length b
   left-is : x .left ≡ drop position b
   counts : x .count ≡ completed + cost (x .end)
-  path : Path D b completed r s (drop position b) (x .state)
+  path : PathTaken D b completed r s (drop position b) (x .state)
   ends : effect 0 (viewOf D (getD b position [])) (x .state) ≡ stops (x .end)
 
 module _ (D : Dialect) (b : List (List ℕ)) where
@@ -115,7 +115,7 @@ module _ (D : Dialect) (b : List (List ℕ)) where
           inside = l;
           left-is = sym first;
           counts = sym (zero-add (cost y));
-          path = subst (λ (q : List (List ℕ)). Path D b 0 (o ∷ rest) s q s) (sym first) here;
+          path = subst (λ (q : List (List ℕ)). PathTaken D b 0 (o ∷ rest) s q s) (sym first) here;
           ends = e;
         }
 

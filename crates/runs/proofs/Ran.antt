@@ -1,16 +1,15 @@
 -- The run's answer, from what the scan and the loop give. Assumes nothing.
 use mathlib.Core.Path.{_≡_, sym, ap, _∙_}
-use mathlib.Core.Bool.{Bool, true, false, cond, _&&_}
+use mathlib.Core.Bool.{Bool, true, false, cond}
 use mathlib.Core.Logic.{_⊎_, inl, inr}
 use mathlib.Core.List.{List, [], _∷_}
 use Prim.Native.Nat.{ℕ, suc, _-_, _≤_}
 use native.Mathlib.Omega.{arith}
-use lib.Dec.{eqb, leb}
+use lib.Dec.{eqb}
 use lib.ListN.{length, replicate}
 use borrow.Author.Tests.{eqb-true}
 use Rattle.theory.specs.Machine.{St, Result}
-use Rattle.theory.proofs.Sets.{and-l, tell}
-use Rattle.ops.specs.Limits.{maxMemory}
+use Rattle.theory.proofs.Sets.{tell}
 use Rattle.ops.specs.Ops.{tcg}
 use Rattle.ops.specs.Kinds.{document01}
 use Rattle.ops.specs.Table.{rowOf}
@@ -21,7 +20,7 @@ use Rattle.block.proofs.Scanned.{refuse-by, approve}
 use Rattle.runs.proofs.Lending.{codes-fit}
 use Rattle.runs.proofs.Variables.{lent-env, globals-left}
 use Rattle.runs.specs.Runs.{fits, valuesFrom, ranAs, answerOf, ranOf, opsRun, runOps, runRefused, runChecked, runOf, runBy}
-use Rattle.runs.specs.Steps.{stateOf, ReadyToRun, Executed, codesFit, lentOk}
+use Rattle.runs.specs.Steps.{stateOf, ReadyToRun, Executed, lentOk}
 use Rattle.runs.specs.declared.Ending.{Ending}
 use Rattle.runs.specs.declared.Ending.the-variants.{Refused}
 

@@ -13,7 +13,7 @@ use borrow.Author.Tests.{ltb-true, ltb-false, eqb-true, lt-ltb, le-ltb}
 use Rattle.theory.specs.Sets.{upd}
 use Rattle.theory.proofs.Sets.{tell}
 use Rattle.block.specs.Scan.{SetAt}
-use Rattle.block.proofs.MarkSets.{set-here, at-place, zeros}
+use Rattle.block.proofs.MarkSets.{at-place, zeros}
 use Rattle.runs.specs.Runs.{valuesFrom}
 use Rattle.runs.specs.Evaluates.{envOf, PutAt}
 

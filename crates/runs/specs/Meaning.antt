@@ -16,9 +16,9 @@ use Rattle.runs.specs.declared.Ending.{Ending}
 use Rattle.runs.specs.declared.Ending.the-variants.{Exit, Fault, NoResult}
 
 -- so many ops, completed one after the other "along the path taken", lead from the ops r and the state s to the ops r′ and the state s′
-pub data Path (D : Dialect) (ops : List (List ℕ)) : ℕ → List (List ℕ) → St (tcg D) → List (List ℕ) → St (tcg D) → Type 0 where
-  here : {r : List (List ℕ)} {s : St (tcg D)} → Path D ops 0 r s r s
-  on : {n : ℕ} {r q r′ : List (List ℕ)} {s t s′ : St (tcg D)} → step (tcg D) ops r s ≡ goes q t → Path D ops n q t r′ s′ → Path D ops (suc n) r s r′ s′
+pub data PathTaken (D : Dialect) (ops : List (List ℕ)) : ℕ → List (List ℕ) → St (tcg D) → List (List ℕ) → St (tcg D) → Type 0 where
+  here : {r : List (List ℕ)} {s : St (tcg D)} → PathTaken D ops 0 r s r s
+  on : {n : ℕ} {r q r′ : List (List ℕ)} {s t s′ : St (tcg D)} → step (tcg D) ops r s ≡ goes q t → PathTaken D ops n q t r′ s′ → PathTaken D ops (suc n) r s r′ s′
 
 -- the op is pure and states nothing of the values that its inputs have
 pub record StatesNothing (D : Dialect) (op : List ℕ) (s : St (tcg D)) : Type 0 where
@@ -40,7 +40,7 @@ pub record Ended (D : Dialect) (ops : List (List ℕ)) (s : St (tcg D)) (answer 
   pub position : ℕ
   pub completed : ℕ
   pub inside : position < length ops
-  pub path : Path D ops completed ops s (drop position ops) s′
+  pub path : PathTaken D ops completed ops s (drop position ops) s′
   pub answers : Answers D (getD ops position []) s′ position completed answer
 
 -- whatever the ops are, one of them ended the run, or it has no answer: it came past the last op, or was out of steps

@@ -30,7 +30,7 @@ fn store_value(values: &mut [u64], i: usize, x: u64)
     values[i] = x;
 }
 
-// A place of an array holds x.
+// A variable's place in an array holds x.
 pub fn put_value(values: &mut [u64; 256], v: u8, x: u64)
     ensures { λ _. ⌜ SetAt (now (values .entry)) v x (now (values .exit)) ⌝ }
 {

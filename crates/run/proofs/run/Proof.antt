@@ -4,7 +4,7 @@ use borrow.Author.Tests.{not-true, not-false}
 use borrow.Author.Needs.{needs}
 use Rattle.block.specs.Records.{recordsOf, opsFrom}
 use Rattle.runs.specs.Runs.{runOps, runOf}
-use Rattle.runs.proofs.Ran.{refused-ran, ready-by, unlent-ran, accepted-ran, ops-ran}
+use Rattle.runs.proofs.Ran.{refused-ran, ready-by, unlent-ran, accepted-ran}
 use Rattle.run.proofs.run.Statement.{statement}
 use Rattle.run.proofs.run.Tie as tie
 use Rattle.ops.specs.Kinds.{document01}
@@ -38,16 +38,16 @@ runs-ops c =
     let a = start s .args in
     accepted-ran (s .scan .ensures) (c .before .before .before .before .before .if1 .left) (a .globals .now) (a .memory .now) (c .before .lent-ok .ensures) (not-false _ (c .if2 .left))
 
-execute-requires : tie.Need-execute-requires
-execute-requires c κs =
-    let e = c .before .before .before .before .before .before .before in
-    (ready-by (scanned (e .before) .scan .ensures) (e .before .before .before .before .before .if1 .left) refl, c .before .before .before .before .before .before .table .ensures)
+run-ops-requires : tie.Need-run-ops-requires
+run-ops-requires c κs =
+    let e = c .before .before .before .before .before .before in
+    (ready-by (scanned (e .before) .scan .ensures) (e .before .before .before .before .before .if1 .left) refl, c .before .before .before .before .before .table .ensures)
 
 returns-3 : tie.Need-returns-3
-returns-3 c = ops-ran _ _ _ _ _ _ refl (search needs) (c .before .before .before .before .execute .ensures) ∙ runs-ops (c .before .before .before .before .before .before .before .before .before .before .before .before)
+returns-3 c = c .before .before .before .before .run-ops .ensures ∙ runs-ops (c .before .before .before .before .before .before .before .before .before .before .before)
 
 pub run-spec : {M : Type 1} → statement M
 run-spec =
     tie.close
-    (tie.spec (λ c κs. search needs) returns lent-ok-requires (λ c. search needs) (λ c. search needs) returns-2 (λ c κs. search needs) execute-requires (λ c. search needs)
+    (tie.spec (λ c κs. search needs) returns lent-ok-requires (λ c. search needs) (λ c. search needs) returns-2 (λ c κs. search needs) run-ops-requires (λ c. search needs)
     (λ c. search needs) returns-3)
