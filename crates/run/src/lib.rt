@@ -1,6 +1,7 @@
 // The run of a block.
 ghost use mathlib.Core.Path.{_≡_};
-ghost use Rattle.ops.specs.Kinds.{kindTable, rowOf, document01};
+ghost use Rattle.ops.specs.Kinds.{document01};
+ghost use Rattle.ops.specs.Table.{kindTable, rowOf};
 ghost use Rattle.block.specs.Records.{recordsOf, opsFrom};
 ghost use Rattle.runs.specs.Runs.{ranAs, runOps, Run};
 ghost use Rattle.runs.specs.Steps.{ReadyToRun};
