@@ -17,7 +17,7 @@ use Rattle.ops.specs.Plans.{noOp, lengthBy, lengthIn, planOf, rankOf, planAt, e
 use Rattle.ops.proofs.Entry.{Digits, digits}
 use Rattle.ops.proofs.Plans.{plan, Sorted, sorted, plan-at, RankedOp, ranked-op}
 use Rattle.block.specs.Rules.{markedBy}
-use Rattle.block.specs.Scan.{recordAt, Stands, SetAt, codesIn, openAll, FirstReady, marked, numbered, LabelMarks, setsLabel, jumpsTo, Marks}
+use Rattle.block.specs.Scan.{recordAt, Stands, SetAt, codesIn, openAll, FirstReady, marked, numbered, targetedBy, LabelMarks, setsLabel, jumpsTo, Marks}
 use Rattle.block.proofs.MarkSets.{numbered-upd, marked-upd}
 use Rattle.block.proofs.Scanning.{marks-open, marks-closed}
 
@@ -35,7 +35,7 @@ module _ (n l op : ℕ) (labels targets : List ℕ) {m : Bool} (e : m ≡ ltb ex
   label-none z =
       let t : ltb exitRank n ≡ false = sym e ∙ z in
       let s : eqb n settingRank ≡ false = ne-eqb n settingRank (λ q. omega (arith, ltb-false exitRank n t)) in
-      record { labels-so = sym (rw s); numbers-so = sym (rw s); targets-so = sym (rw t) }
+      record { labels-so = sym (rw s); numbers-so = sym (rw s); targets-so = sym (rw t); targets-are = sym (rw t) }
 
   module _ (two : m ≡ true) {s : Bool} (f : s ≡ eqb n settingRank) where
     has-one : ltb exitRank n ≡ true
@@ -45,13 +45,13 @@ module _ (n l op : ℕ) (labels targets : List ℕ) {m : Bool} (e : m ≡ ltb ex
     label-set {k} {labels′} t q w =
         let u = sym f ∙ t in
         let w′ : SetAt labels l (op + 1) labels′ = subst (λ (n : ℕ). SetAt labels n (op + 1) labels′) q w in
-        record { labels-so = numbered-upd w′ (omega arith) ∙ sym (rw u); numbers-so = w′ .becomes ∙ sym (rw u); targets-so = sym (rw (has-one, u)) }
+        record { labels-so = numbered-upd w′ (omega arith) ∙ sym (rw u); numbers-so = w′ .becomes ∙ sym (rw u); targets-so = sym (rw (has-one, u)); targets-are = sym (rw (has-one, u)) }
 
     pub label-jumped : {k : ℕ} {targets′ : List ℕ} → s ≡ false → k ≡ l → SetAt targets k 1 targets′ → LabelMarks (setsLabel n) (jumpsTo n) l op labels labels targets targets′
     label-jumped {k} {targets′} t q w =
         let u = sym f ∙ t in
         let w′ : SetAt targets l 1 targets′ = subst (λ (n : ℕ). SetAt targets n 1 targets′) q w in
-        record { labels-so = sym (rw u); numbers-so = sym (rw u); targets-so = marked-upd w′ ∙ sym (rw (has-one, u)) }
+        record { labels-so = sym (rw u); numbers-so = sym (rw u); targets-so = marked-upd w′ ∙ sym (rw (has-one, u)); targets-are = w′ .becomes ∙ sym (rw (has-one, u)) }
 
 -- by the entry: an op of a kind stands at a place
 module _ {b : List ℕ} {p k : ℕ} (st : Stands rowOf b p k) (n : noOp (getD kindTable k 0) ≡ false) where
@@ -107,3 +107,4 @@ module _ {b : List ℕ} {p k : ℕ} (st : Stands rowOf b p k) (n : noOp (getD ki
           numbers-so = m .numbers-so ∙ ap₂ (λ (s : Bool) (i : ℕ). cond s (set labels (getD b i 0) (num + 1)) labels) (flow .sets) l;
         })
         (m .targets-so ∙ ap₂ (λ (s : Bool) (i : ℕ). markedBy s (marked targets) (getD b i 0)) (flow .jumps) l)
+        (m .targets-are ∙ ap₂ (λ (s : Bool) (i : ℕ). targetedBy s (getD b i 0) targets) (flow .jumps) l)

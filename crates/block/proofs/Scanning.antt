@@ -27,7 +27,7 @@ use Rattle.block.specs.Records.{Cut, cons, cutOf, isDeclaration, classOf
 use Rattle.block.specs.Rules.{Seen, allGlobal, allBelow, rule3, rule4, markedBy, rule9, rule10, allSet}
 use Rattle.block.specs.Rules.{rule7end, passed, next}
 use Rattle.block.specs.Scan.{recordAt, Stands, checkAt, codesIn, openAll, codesBy, marked, numbered, LabelledAs, declaredSeen, recordRule, opTests, operandsOk, entryRule, opStands, opOk}
-use Rattle.block.specs.Scan.{labelledBy, placesFrom, labelsFrom, recordsAt, UpTo, ScannedBy, Marks, Begins, Reading}
+use Rattle.block.specs.Scan.{labelledBy, targetedBy, placesFrom, labelsFrom, recordsAt, UpTo, ScannedBy, Marks, Begins, Reading}
 use Rattle.block.proofs.Accepts.{allMet, none-broken, numbered-rules}
 use Rattle.block.proofs.Fields.{kind-at, below-left}
 use Rattle.block.proofs.Places.{places-more, labels-more}
@@ -337,13 +337,15 @@ module _ {T : Table} {b : List ℕ} {p k e : ℕ} (s : Stands T b p k) (d : Digi
   marks-by : {op : ℕ} {base vars vars′ labels labels′ targets targets′ : List ℕ} → codesIn vars′ ≡ codesBy (rowIn e) (codesIn base) (codesIn vars) (bytesAt b (p + 1) (outsIn e))
       → LabelledAs (rowIn e) (getD b (p + (outsIn e + insIn e + restIn e)) 0) op labels labels′
       → marked targets′ ≡ markedBy (isJumping (roleNo (roleIn e))) (marked targets) (getD b (p + (outsIn e + insIn e + restIn e)) 0)
+      → targets′ ≡ targetedBy (isJumping (roleNo (roleIn e))) (getD b (p + (outsIn e + insIn e + restIn e)) 0) targets
       → Marks T (recordAt T b p) op base vars vars′ labels labels′ targets targets′
-  marks-by {op} {base} {vars} {vars′} {labels} {labels′} {targets} w l t =
+  marks-by {op} {base} {vars} {vars′} {labels} {labels′} {targets} w l t u =
       record {
         codes-so = w ∙ sym (ap₂ (λ (row : Row) (os : List ℕ). codesBy row (codesIn base) (codesIn vars) os) row-is (output-bytes s ∙ ap (bytesAt b (p + 1)) (d .outs)));
         labelled = subst (λ (row : Row). LabelledAs row (labelBy (rowAt T (recordAt T b p)) (recordAt T b p)) op labels labels′) (sym row-is)
             (subst (λ (n : ℕ). LabelledAs (rowIn e) n op labels labels′) (sym label-is) l);
         targets-so = t ∙ sym (ap₂ (λ (row : Row) (n : ℕ). markedBy (isJumping (row .role)) (marked targets) n) row-is label-is);
+        targets-are = u ∙ sym (ap₂ (λ (row : Row) (n : ℕ). targetedBy (isJumping (row .role)) n targets) row-is label-is);
       }
 
   -- the basic block goes on, or ends
@@ -362,9 +364,10 @@ module _ {T : Table} {b : List ℕ} {p k e : ℕ} (s : Stands T b p k) (d : Digi
         let f = sym z ∙ c in
         marks-by (codes-open (rowIn e) (codesIn base) (codesIn vars) (bytesAt b (p + 1) (outsIn e)) z c (w ∙ ap (λ (n : ℕ). openAll (codesIn vars) (bytesAt b (p + 1) n)) m))
         (labelled-not (rowIn e) (getD b (p + (outsIn e + insIn e + restIn e)) 0) op refl (straight-sets f))
-        (target-not (getD b (p + (outsIn e + insIn e + restIn e)) 0) targets refl (straight-jumps f))
+        (target-not (getD b (p + (outsIn e + insIn e + restIn e)) 0) targets refl (straight-jumps f)) (sym (rw (straight-jumps f)))
 
     pub marks-closed : {labels labels′ targets targets′ : List ℕ} → t ≡ true → codesIn vars′ ≡ codesIn base → LabelledAs (rowIn e) (getD b (p + (outsIn e + insIn e + restIn e)) 0) op labels labels′
         → marked targets′ ≡ markedBy (isJumping (roleNo (roleIn e))) (marked targets) (getD b (p + (outsIn e + insIn e + restIn e)) 0)
+        → targets′ ≡ targetedBy (isJumping (roleNo (roleIn e))) (getD b (p + (outsIn e + insIn e + restIn e)) 0) targets
         → Marks T (recordAt T b p) op base vars vars′ labels labels′ targets targets′
     marks-closed c w l u = marks-by (codes-closed (rowIn e) (codesIn base) (codesIn vars) (bytesAt b (p + 1) (outsIn e)) z c w) l u

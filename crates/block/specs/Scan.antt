@@ -98,6 +98,10 @@ pub record LabelledAs (row : Row) (l op : ℕ) (labels labels′ : List ℕ) : T
   pub labels-so : numbered labels′ ≡ markedBy (isSetting (row .role)) (numbered labels) l
   pub numbers-so : labels′ ≡ labelledBy row l op labels
 
+-- the labels jumped to: the byte of a label to which an op may jump becomes 1
+abbrev pub targetedBy : Bool → ℕ → List ℕ → List ℕ
+targetedBy jumps l targets = cond jumps (set targets l 1) targets
+
 -- by the entry of its kind: the first operand of an op that has no output and closes no basic block may be read. By its rank: that the
 -- label of an op that has one is below the limit; whether the op sets its label, or may jump to it; what that leaves
 abbrev pub FirstReady : ℕ → List ℕ → ℕ → List ℕ → Type 0
@@ -116,6 +120,7 @@ pub record LabelMarks (sets jumps : Bool) (l op : ℕ) (labels labels′ targets
   pub labels-so : numbered labels′ ≡ markedBy sets (numbered labels) l
   pub numbers-so : labels′ ≡ cond sets (set labels l (op + 1)) labels
   pub targets-so : marked targets′ ≡ markedBy jumps (marked targets) l
+  pub targets-are : targets′ ≡ targetedBy jumps l targets
 
 -- what is seen after declarations of variables of these classes and types
 abbrev pub declaredSeen : List ℕ → List ℕ → Seen
@@ -304,6 +309,7 @@ pub record Marks (T : Table) (r : List ℕ) (op : ℕ) (base vars vars′ labels
   pub codes-so : codesIn vars′ ≡ codesBy (rowAt T r) (codesIn base) (codesIn vars) (outsBy (rowAt T r) r)
   pub labelled : LabelledAs (rowAt T r) (labelBy (rowAt T r) r) op labels labels′
   pub targets-so : marked targets′ ≡ markedBy (isJumping ((rowAt T r) .role)) (marked targets) (labelBy (rowAt T r) r)
+  pub targets-are : targets′ ≡ targetedBy (isJumping ((rowAt T r) .role)) (labelBy (rowAt T r) r) targets
 
 -- the ops begin at a place, after the declarations
 pub record Begins (T : Table) (block base : List ℕ) (place : ℕ) : Type 0 where
