@@ -5,7 +5,7 @@
 #   make demo       the incident, run
 #   make test       all tests but the proofs and their must-fail edits
 #   make test-c     the tests of the C kit
-#   make test-exported   docs/EXPORTED.md is as tests/exported prints it, and no exported function lacks a must-fail edit;
+#   make test-exported   the tables at the end of docs/TRUST.md are as tests/exported prints them, and no exported function lacks a must-fail edit;
 #                        the table of definitions in docs/ARCHITECTURE.md is as tests/believed prints it
 #   make compare    the comparison with the second interpreter; compare/run --help for longer ones
 #   make seeded     the comparison must find each fault of compare/faults
