@@ -33,7 +33,7 @@ use Rattle.block.proofs.Fields.{kind-at, below-left}
 use Rattle.block.proofs.Places.{places-more, labels-more}
 use Rattle.block.proofs.MarkSets.{marked-none, numbered-none, labelled-not, target-not}
 use Rattle.block.proofs.Steps.{cut-record, record-length, at-unknown, at-short, at-record, cut-end, at-end}
-use Rattle.block.specs.declared.Verdict.the-variants.{Accepted, Refused}
+use Rattle.block.specs.declared.Verdict.the-variants.{Accepted}
 
 -- a place's answer by the rule that its record breaks
 at-place : (T : Table) (s : Seen) (b : List ℕ) (p : ℕ) → p < length b

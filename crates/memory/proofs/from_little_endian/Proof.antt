@@ -1,6 +1,5 @@
 -- The first eight bytes of a slice, as a number. Assumes nothing.
 use mathlib.Core.Path.{_∙_}
-use Prim.Native.Nat.{_≤_}
 use native.Mathlib.Omega.{arith}
 use borrow.Author.Needs.{needs}
 use Rattle.memory.proofs.Numbers.{low-all}

@@ -1,8 +1,8 @@
 -- `rest_ok` is rule 6, by the number of the test. Assumes nothing.
-use mathlib.Core.Path.{_≡_, sym, ap, ap₂, _∙_}
-use mathlib.Core.Bool.{Bool, false, true, _&&_}
+use mathlib.Core.Path.{sym, ap, ap₂, _∙_}
+use mathlib.Core.Bool.{false, true, _&&_}
 use Prim.Native.Nat.{ℕ, _^_}
-use lib.Dec.{leb, ltb}
+use lib.Dec.{ltb}
 use borrow.Author.Needs.{needs}
 use Rattle.memory.specs.Access.{flagsOk}
 use Rattle.ops.specs.Rows.{condOk, labelOk}
