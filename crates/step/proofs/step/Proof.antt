@@ -53,7 +53,7 @@ narrow-op-requires c κs =
     (start .pre .0, start .pre .1, plain-else (start .args .kind) (search needs) (c .before .before .match .rest))
 
 same-length : tie.Need-same-length
-same-length c = search needs
+same-length c = c .before .before .constant-step .kept .1 .1 .0
 
 returns : tie.Need-returns
 returns c =
@@ -63,7 +63,7 @@ returns c =
     (c .before .before .constant-step .ensures .under (start .args .memory .now))
 
 same-length-2 : tie.Need-same-length-2
-same-length-2 c = search needs
+same-length-2 c = c .before .before .load-step .kept .1 .1 .1 .0
 
 same-length-3 : tie.Need-same-length-3
 same-length-3 c = search needs
@@ -80,7 +80,7 @@ same-length-4 : tie.Need-same-length-4
 same-length-4 c = search needs
 
 same-length-5 : tie.Need-same-length-5
-same-length-5 c = search needs
+same-length-5 c = c .before .before .store-step .kept .1 .1 .1 .1 .0
 
 returns-3 : tie.Need-returns-3
 returns-3 c =
@@ -117,7 +117,7 @@ returns-7 c =
     step-exits (start .pre .0) (envOf (start .args .globals .now) (start .args .temps .now)) _ (exit-kind (c .before .before .before .before .match .keys7)) (c .get .ensures)
 
 same-length-8 : tie.Need-same-length-8
-same-length-8 c = search needs
+same-length-8 c = c .before .before .narrow-op .kept .1 .1 .1 .1 .0
 
 returns-8 : tie.Need-returns-8
 returns-8 c = c .before .before .narrow-op .ensures .under (c .before .before .before .before .before .before .before .before .before .args .memory .now)
