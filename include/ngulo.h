@@ -1,8 +1,8 @@
 /*
  * ngulo: a checker, a reference runner and an optimiser for blocks of TCG ops.
  *
- * Link with libngulo.a. C99 or later, C++11 or later. The words here (block, record, op, kind, place, fault) and the
- * meaning of every number are document 01's.
+ * Link with libngulo.a or libngulo.so. C99 or later, C++11 or later. docs/FORMAT.md says what a block is, byte by byte,
+ * what every number here means, and what a run and the pass do.
  *
  * What the caller ensures, in every call:
  * - each pointer is valid for its length (report for four numbers), and not NULL even where the length is 0; the
@@ -12,16 +12,46 @@
  * - until the call is back, nobody else uses such a buffer, and nobody writes the block;
  * - no buffer is longer than PTRDIFF_MAX bytes.
  * Nothing else is asked. Whatever the bytes and numbers are, each call comes back with an answer. No call allocates,
- * keeps a pointer, or has state of its own, so calls on different buffers may run at the same time.
+ * keeps a pointer, or has state of its own, so calls on different buffers may run at the same time. Each takes less
+ * than 9 KB of stack (ngulo_pass_in_place: less than 12 KB).
+ *
+ * A later version may have more kinds, refusals and endings: have a default where you tell them apart.
  */
 #ifndef NGULO_H
 #define NGULO_H
 
 #include <stddef.h>
 #include <stdint.h>
+#include <string.h>
+
+/* The version of this header; ngulo_version() is that of the library. */
+#define NGULO_VERSION_MAJOR 0
+#define NGULO_VERSION_MINOR 2
+#define NGULO_VERSION_PATCH 0
+#define NGULO_VERSION "0.2.0"
+#define NGULO_VERSION_NUMBER (65536 * NGULO_VERSION_MAJOR + 256 * NGULO_VERSION_MINOR + NGULO_VERSION_PATCH)
+
+/* What stands before the library's functions. Define it yourself to have something else there. */
+#ifndef NGULO_API
+#if defined(__GNUC__)
+#define NGULO_API __attribute__((visibility("default")))
+#else
+#define NGULO_API
+#endif
+#endif
+
+/* A call's answer says whether it was refused: the compiler warns where it is not used. */
+#if defined(__GNUC__)
+#define NGULO_USE_ANSWER __attribute__((warn_unused_result))
+#else
+#define NGULO_USE_ANSWER
+#endif
 
 #ifdef __cplusplus
+#define NGULO_CAST(type, value) static_cast<type>(value)
 extern "C" {
+#else
+#define NGULO_CAST(type, value) ((type)(value))
 #endif
 
 /* Limits. A block that is accepted, and the result of a pass, is within all of them. */
@@ -30,6 +60,105 @@ extern "C" {
 #define NGULO_MAX_LABELS 32     /* labels 0 to 31 */
 #define NGULO_MAX_MEMORY 65536  /* bytes lent to a run */
 #define NGULO_MAX_RESULT 2752   /* bytes: 64 declarations of 3 and 256 ops of at most 10 */
+
+/* The first byte of a record. Operands are the numbers of variables, a byte each, outputs first. */
+enum ngulo_kind {
+    NGULO_KIND_DECL = 0x01,              /* class, type */
+    NGULO_KIND_SET_LABEL = 0x02,         /* label */
+    NGULO_KIND_BR = 0x03,                /* label */
+    NGULO_KIND_EXIT_TB = 0x04,           /* t */
+    NGULO_KIND_EXT_I32_I64 = 0x05,       /* d, a */
+    NGULO_KIND_EXTU_I32_I64 = 0x06,      /* d, a */
+    NGULO_KIND_TRUNC_I64_I32 = 0x07,     /* d, a */
+    NGULO_KIND_MOVI_I32 = 0x10,          /* d, constant of eight bytes, little-endian */
+    NGULO_KIND_MOV_I32 = 0x11,           /* d, a */
+    NGULO_KIND_NEG_I32 = 0x12,           /* d, a */
+    NGULO_KIND_NOT_I32 = 0x13,           /* d, a */
+    NGULO_KIND_ADD_I32 = 0x14,           /* d, a, b */
+    NGULO_KIND_SUB_I32 = 0x15,           /* d, a, b */
+    NGULO_KIND_MUL_I32 = 0x16,           /* d, a, b */
+    NGULO_KIND_AND_I32 = 0x17,           /* d, a, b */
+    NGULO_KIND_OR_I32 = 0x18,            /* d, a, b */
+    NGULO_KIND_XOR_I32 = 0x19,           /* d, a, b */
+    NGULO_KIND_ANDC_I32 = 0x1A,          /* d, a, b */
+    NGULO_KIND_ORC_I32 = 0x1B,           /* d, a, b */
+    NGULO_KIND_EQV_I32 = 0x1C,           /* d, a, b */
+    NGULO_KIND_NAND_I32 = 0x1D,          /* d, a, b */
+    NGULO_KIND_NOR_I32 = 0x1E,           /* d, a, b */
+    NGULO_KIND_DIVS_I32 = 0x1F,          /* d, a, b */
+    NGULO_KIND_DIVU_I32 = 0x20,          /* d, a, b */
+    NGULO_KIND_REMS_I32 = 0x21,          /* d, a, b */
+    NGULO_KIND_REMU_I32 = 0x22,          /* d, a, b */
+    NGULO_KIND_SHL_I32 = 0x23,           /* d, a, b */
+    NGULO_KIND_SHR_I32 = 0x24,           /* d, a, b */
+    NGULO_KIND_SAR_I32 = 0x25,           /* d, a, b */
+    NGULO_KIND_ROTL_I32 = 0x26,          /* d, a, b */
+    NGULO_KIND_ROTR_I32 = 0x27,          /* d, a, b */
+    NGULO_KIND_SETCOND_I32 = 0x28,       /* d, a, b, cond */
+    NGULO_KIND_MOVCOND_I32 = 0x29,       /* d, c1, c2, v1, v2, cond */
+    NGULO_KIND_BRCOND_I32 = 0x2A,        /* a, b, cond, label */
+    NGULO_KIND_QEMU_LD_I32 = 0x2B,       /* d, address, flags */
+    NGULO_KIND_QEMU_ST_I32 = 0x2C,       /* value, address, flags */
+    NGULO_KIND_MOVI_I64 = 0x90,          /* d, constant of eight bytes, little-endian */
+    NGULO_KIND_MOV_I64 = 0x91,           /* d, a */
+    NGULO_KIND_NEG_I64 = 0x92,           /* d, a */
+    NGULO_KIND_NOT_I64 = 0x93,           /* d, a */
+    NGULO_KIND_ADD_I64 = 0x94,           /* d, a, b */
+    NGULO_KIND_SUB_I64 = 0x95,           /* d, a, b */
+    NGULO_KIND_MUL_I64 = 0x96,           /* d, a, b */
+    NGULO_KIND_AND_I64 = 0x97,           /* d, a, b */
+    NGULO_KIND_OR_I64 = 0x98,            /* d, a, b */
+    NGULO_KIND_XOR_I64 = 0x99,           /* d, a, b */
+    NGULO_KIND_ANDC_I64 = 0x9A,          /* d, a, b */
+    NGULO_KIND_ORC_I64 = 0x9B,           /* d, a, b */
+    NGULO_KIND_EQV_I64 = 0x9C,           /* d, a, b */
+    NGULO_KIND_NAND_I64 = 0x9D,          /* d, a, b */
+    NGULO_KIND_NOR_I64 = 0x9E,           /* d, a, b */
+    NGULO_KIND_DIVS_I64 = 0x9F,          /* d, a, b */
+    NGULO_KIND_DIVU_I64 = 0xA0,          /* d, a, b */
+    NGULO_KIND_REMS_I64 = 0xA1,          /* d, a, b */
+    NGULO_KIND_REMU_I64 = 0xA2,          /* d, a, b */
+    NGULO_KIND_SHL_I64 = 0xA3,           /* d, a, b */
+    NGULO_KIND_SHR_I64 = 0xA4,           /* d, a, b */
+    NGULO_KIND_SAR_I64 = 0xA5,           /* d, a, b */
+    NGULO_KIND_ROTL_I64 = 0xA6,          /* d, a, b */
+    NGULO_KIND_ROTR_I64 = 0xA7,          /* d, a, b */
+    NGULO_KIND_SETCOND_I64 = 0xA8,       /* d, a, b, cond */
+    NGULO_KIND_MOVCOND_I64 = 0xA9,       /* d, c1, c2, v1, v2, cond */
+    NGULO_KIND_BRCOND_I64 = 0xAA,        /* a, b, cond, label */
+    NGULO_KIND_QEMU_LD_I64 = 0xAB,       /* d, address, flags */
+    NGULO_KIND_QEMU_ST_I64 = 0xAC        /* value, address, flags */
+};
+
+/* The 64-bit form of a kind from NGULO_KIND_MOVI_I32 to NGULO_KIND_QEMU_ST_I32 is so much more. */
+#define NGULO_KIND_WIDE 0x80
+
+/* A declaration's class: how long the variable lives. */
+enum ngulo_class {
+    NGULO_CLASS_GLOBAL = 0,    /* outlives the block */
+    NGULO_CLASS_LOCAL = 1,     /* a local temporary: lives through the block, and starts at zero */
+    NGULO_CLASS_TEMPORARY = 2  /* lives through one basic block, in which it is written before it is read */
+};
+
+/* A declaration's type: the variable's width. */
+enum ngulo_type {
+    NGULO_TYPE_I32 = 0,
+    NGULO_TYPE_I64 = 1
+};
+
+/* Conditions of setcond, movcond and brcond. */
+enum ngulo_cond {
+    NGULO_COND_EQ = 0,
+    NGULO_COND_NE = 1,
+    NGULO_COND_LT = 2,   /* signed */
+    NGULO_COND_GE = 3,   /* signed */
+    NGULO_COND_LE = 4,   /* signed */
+    NGULO_COND_GT = 5,   /* signed */
+    NGULO_COND_LTU = 6,  /* unsigned, as the three below */
+    NGULO_COND_GEU = 7,
+    NGULO_COND_LEU = 8,
+    NGULO_COND_GTU = 9
+};
 
 /* Refusal numbers. The place is where the record starts, if nothing else is said. */
 enum ngulo_refusal {
@@ -56,7 +185,7 @@ enum ngulo_ending {
 };
 
 /* The places of a report. */
-enum ngulo_report {
+enum ngulo_report_place {
     NGULO_REPORT_ENDING = 0,
     NGULO_REPORT_DETAIL = 1,  /* exit: value; fault: address; no stated result: the op's position among the ops, from 0 */
     NGULO_REPORT_ACCESS = 2,  /* fault: flags, and 256 more for a store; else 0 */
@@ -71,11 +200,14 @@ enum ngulo_flag {
     NGULO_FLAG_BIG_ENDIAN = 8
 };
 
+/* The version of the library: 65536 * major + 256 * minor + patch. */
+NGULO_API uint64_t ngulo_version(void);
+
 /*
  * Is the block accepted?
  * Answers 0 if it is, else number + 256 * place. Writes nothing.
  */
-uint64_t ngulo_check(const uint8_t *block, size_t block_length);
+NGULO_USE_ANSWER NGULO_API uint64_t ngulo_check(const uint8_t *block, size_t block_length);
 
 /*
  * Optimises the block: fold, then prune.
@@ -84,26 +216,52 @@ uint64_t ngulo_check(const uint8_t *block, size_t block_length);
  * The result is accepted, and does what the block did: same exit or same fault, same globals, same memory, in no
  * more ops; unless the block's run meets an op without a stated result.
  */
-uint64_t ngulo_pass(const uint8_t *block, size_t block_length, uint8_t *out, size_t out_length);
+NGULO_USE_ANSWER NGULO_API uint64_t ngulo_pass(const uint8_t *block, size_t block_length, uint8_t *out, size_t out_length);
 
 /*
  * Runs the block on globals (as many as it declares, a 32-bit one below 2^32) and memory (at most NGULO_MAX_MEMORY).
  * Answers 0 with how the run ended in report; globals and memory hold what the completed ops left.
  * Else number + 256 * place, and globals, memory and report stay as they were.
  */
-uint64_t ngulo_run(const uint8_t *block, size_t block_length, uint64_t *globals, size_t globals_length,
+NGULO_USE_ANSWER NGULO_API uint64_t ngulo_run(const uint8_t *block, size_t block_length, uint64_t *globals, size_t globals_length,
                    uint8_t *memory, size_t memory_length, uint64_t report[4]);
+
+/*
+ * The most bytes that the result of a block of this length can take, if you do not want to lend NGULO_MAX_RESULT.
+ * A result can be longer than its block: an op of 3 bytes may become one of 10.
+ */
+static inline size_t ngulo_result_bound(size_t block_length)
+{
+    size_t most = NGULO_MAX_RESULT;
+
+    return block_length < most && block_length + block_length / 3 * 7 < most ? block_length + block_length / 3 * 7 : most;
+}
+
+/*
+ * ngulo_pass onto the block itself, through a buffer on the stack. The buffer has room for buffer_length bytes, and the
+ * block is the first block_length of them. Answers as ngulo_pass with the whole buffer as out; a refusal leaves it as it was.
+ */
+NGULO_USE_ANSWER static inline uint64_t ngulo_pass_in_place(uint8_t *buffer, size_t block_length, size_t buffer_length)
+{
+    uint8_t result[NGULO_MAX_RESULT];
+    uint64_t answer = ngulo_pass(buffer, block_length, result, buffer_length < sizeof result ? buffer_length : sizeof result);
+
+    if ((answer & 255) == 0) {
+        memcpy(buffer, result, answer >> 8);
+    }
+    return answer;
+}
 
 /* The same calls, with any pointer allowed where the length is 0: NULL too. */
 
-static inline uint64_t ngulo_check_nullable(const uint8_t *block, size_t block_length)
+NGULO_USE_ANSWER static inline uint64_t ngulo_check_nullable(const uint8_t *block, size_t block_length)
 {
     const uint8_t none = 0;
 
     return ngulo_check(block_length == 0 ? &none : block, block_length);
 }
 
-static inline uint64_t ngulo_pass_nullable(const uint8_t *block, size_t block_length, uint8_t *out, size_t out_length)
+NGULO_USE_ANSWER static inline uint64_t ngulo_pass_nullable(const uint8_t *block, size_t block_length, uint8_t *out, size_t out_length)
 {
     const uint8_t none = 0;
     uint8_t no_out = 0;
@@ -111,7 +269,7 @@ static inline uint64_t ngulo_pass_nullable(const uint8_t *block, size_t block_le
     return ngulo_pass(block_length == 0 ? &none : block, block_length, out_length == 0 ? &no_out : out, out_length);
 }
 
-static inline uint64_t ngulo_run_nullable(const uint8_t *block, size_t block_length, uint64_t *globals,
+NGULO_USE_ANSWER static inline uint64_t ngulo_run_nullable(const uint8_t *block, size_t block_length, uint64_t *globals,
                                           size_t globals_length, uint8_t *memory, size_t memory_length,
                                           uint64_t report[4])
 {
@@ -134,19 +292,19 @@ static inline int ngulo_is_refused(uint64_t answer)
 /* The number of a refusal, 1 to 12; NGULO_REFUSAL_NONE if the call was not refused. */
 static inline unsigned ngulo_refusal_number(uint64_t answer)
 {
-    return (unsigned)(answer & 255);
+    return NGULO_CAST(unsigned, answer & 255);
 }
 
 /* The place of a refusal, at most the block's length. */
 static inline size_t ngulo_refusal_place(uint64_t answer)
 {
-    return (size_t)(answer >> 8);
+    return answer >> 8;
 }
 
 /* The length of the result, where ngulo_pass was not refused. */
 static inline size_t ngulo_result_length(uint64_t answer)
 {
-    return (size_t)(answer >> 8);
+    return answer >> 8;
 }
 
 /* A refusal's meaning in a few words. */
@@ -175,7 +333,7 @@ static inline const char *ngulo_refusal_text(unsigned number)
 /* NGULO_ENDING_EXIT, NGULO_ENDING_FAULT or NGULO_ENDING_NO_RESULT. */
 static inline unsigned ngulo_report_ending(const uint64_t report[4])
 {
-    return (unsigned)report[NGULO_REPORT_ENDING];
+    return NGULO_CAST(unsigned, report[NGULO_REPORT_ENDING]);
 }
 
 /* The number of ops run: the op that exits or faults counts, the op without a stated result does not. */
@@ -205,13 +363,25 @@ static inline int ngulo_report_fault_is_store(const uint64_t report[4])
 /* After a fault: the access's flags. */
 static inline unsigned ngulo_report_fault_flags(const uint64_t report[4])
 {
-    return (unsigned)(report[NGULO_REPORT_ACCESS] & 255);
+    return NGULO_CAST(unsigned, report[NGULO_REPORT_ACCESS] & 255);
 }
 
 /* After a fault: the access's size in bytes. */
 static inline unsigned ngulo_report_fault_size(const uint64_t report[4])
 {
     return 1u << (report[NGULO_REPORT_ACCESS] & NGULO_FLAG_SIZE);
+}
+
+/* After a fault: 1 if the access is a load that sign-extends, else 0. */
+static inline int ngulo_report_fault_is_signed(const uint64_t report[4])
+{
+    return (report[NGULO_REPORT_ACCESS] & NGULO_FLAG_SIGNED) != 0;
+}
+
+/* After a fault: 1 if the access is big-endian, 0 if it is little-endian. */
+static inline int ngulo_report_fault_is_big_endian(const uint64_t report[4])
+{
+    return (report[NGULO_REPORT_ACCESS] & NGULO_FLAG_BIG_ENDIAN) != 0;
 }
 
 /* After no stated result: the op's position, counted from 0 among the ops. */

@@ -6,7 +6,7 @@ ghost use Prim.Native.Nat.{_+_, _*_, _≤_};
 ghost use Rattle.block.specs.Checks.{checkOf};
 ghost use Rattle.runs.specs.Runs.{runOf};
 ghost use Rattle.passes.specs.Passes.{passOf};
-ghost use Rattle.ngulo.specs.Numbers.{refusal, checkNumber, passNumber, RunAnswer};
+ghost use Rattle.ngulo.specs.Numbers.{refusal, checkNumber, passNumber, RunAnswer, version};
 use block::Verdict;
 use checker::check;
 use pass::pass;
@@ -26,6 +26,14 @@ fn refused(number: u8, place: usize) -> u64
     ensures { λ r. ⌜ r ≡ refusal number place ⌝ }
 {
     wide(number) + 256 * place as u64
+}
+
+// The version of the library, as a number.
+#[no_mangle]
+pub extern "C" fn ngulo_version() -> u64
+    ensures { λ r. ⌜ r ≡ version ⌝ }
+{
+    65536 * 0 + 256 * 2 + 0
 }
 
 // 0 if the block is accepted, else number + 256 * place.
