@@ -69,7 +69,7 @@ static unsigned print_row(const char *title, const struct row *row)
     unsigned differ = 0;
     int i;
 
-    printf("  %-26s", title);
+    printf("  %-27s", title);
     for (i = 0; i < BLOCKS; i += 1) {
         int differs = strcmp(row->cell[i], row->cell[ORIGINAL]) != 0;
         int width = i + 1 == BLOCKS ? 0 : 18 - (int)strlen(row->cell[i]);
@@ -123,13 +123,13 @@ static unsigned print_later(const struct printer printers[BLOCKS])
         snprintf(row.cell[i], sizeof row.cell[i], "%u",
                  stored[0] + 256u * stored[1] + 65536u * stored[2] + 16777216u * stored[3]);
     }
-    return print_row("the later user's setting", &row);
+    return print_row("the later user's time-out", &row);
 }
 
 /* Ops run are fewer after a pass, and no difference to mark. */
 static void print_counts(const struct printer printers[BLOCKS])
 {
-    printf("  %-26s%-18u%-18u%u\n", "ops run", (unsigned)ngulo_report_count(printers[ORIGINAL].report),
+    printf("  %-27s%-18u%-18u%u\n", "ops run", (unsigned)ngulo_report_count(printers[ORIGINAL].report),
            (unsigned)ngulo_report_count(printers[HOMEMADE].report), (unsigned)ngulo_report_count(printers[OURS].report));
 }
 
@@ -149,8 +149,11 @@ static unsigned differ_elsewhere(const struct printer printers[BLOCKS])
     return differ;
 }
 
-/* The student's job at this address on three printers, then the later job. Answers which differ, a bit each. */
-static unsigned print_day(const struct story *story, uint64_t address)
+/*
+ * The student's job at this address on three printers, then the later job. Answers which printers differ, a bit each,
+ * and gives those on which the later user's time-out does.
+ */
+static unsigned print_day(const struct story *story, uint64_t address, unsigned *later)
 {
     struct printer printers[BLOCKS];
     unsigned differ;
@@ -162,7 +165,7 @@ static unsigned print_day(const struct story *story, uint64_t address)
         printers[i].globals[SETTING] = DEFAULT_SETTING;
         refused += !run_job(&printers[i], &story->jobs[i], address);
     }
-    printf("  %-26s%-18s%-18s%s\n", "", block_names[ORIGINAL], block_names[HOMEMADE], block_names[OURS]);
+    printf("  %-27s%-18s%-18s%s\n", "", block_names[ORIGINAL], block_names[HOMEMADE], block_names[OURS]);
     differ = print_endings(printers) | differ_elsewhere(printers);
     print_counts(printers);
     differ |= print_global("setting", printers, SETTING);
@@ -175,8 +178,8 @@ static unsigned print_day(const struct story *story, uint64_t address)
     for (i = 0; i < BLOCKS; i += 1) {
         refused += !run_job(&printers[i], &story->later, LATER_ADDRESS);
     }
-    differ |= print_later(printers);
-    return refused == 0 ? differ : ~0u;
+    *later = print_later(printers);
+    return refused == 0 ? differ | *later : ~0u;
 }
 
 /* The ops that the home-made pass dropped and ngulo_pass kept. Answers how many. */
@@ -199,16 +202,18 @@ static unsigned print_lost(const struct story *story)
 }
 
 static const char opening[] =
-    "A printer's jobs share a setting, and 5 is everybody's. A student's job wants 42 for itself: it saves\n"
-    "the setting, notes that a restore is due, sets its own, stores it where the student says, and puts the\n"
-    "old one back. If a job stops half way while a restore is due, the bench does the restore. Then a later\n"
-    "user's job comes, which asks for nothing and stores the setting as it finds it.\n";
+    "A printer's jobs share a time-out, and 5 is everybody's default. A student's job has the command\n"
+    "    SET TIMEOUT=42\n"
+    "which is to hold for that job alone. The controller's block for it saves the setting, notes that a\n"
+    "restore is due, sets 42, stores it at the address that the job gives, and puts the old setting back.\n"
+    "If a block stops half way while a restore is due, the bench does the restore. Then a later user's job\n"
+    "comes, which has no such command: its block stores the setting as it finds it.\n";
 
 static const char closing[] =
     "\n"
-    "The store faulted, so the op that overwrites it never ran, and the bench saw nothing to restore: one\n"
-    "student's setting became everybody's. The block of ngulo_pass is the shortest, and leaves what the\n"
-    "original leaves.\n";
+    "The store faulted, so the op that overwrites restore_due never ran, and the bench saw nothing to restore:\n"
+    "one student's setting became everybody's default. The block of ngulo_pass is the shortest, and leaves what\n"
+    "the original leaves.\n";
 
 static int unexpected(void)
 {
@@ -220,19 +225,20 @@ static int tell(const struct story *story, const char *folder)
 {
     unsigned served;
     unsigned faulting;
+    unsigned later;
     int status;
 
     fputs(opening, stdout);
-    puts("\nWhat the home-made pass did with the student's job:");
+    puts("\nWhat the home-made pass did with the student's block:");
     print_fates(&story->original, story->fates[HOMEMADE], global_names);
     puts("\nWhat ngulo_pass did with it:");
     print_fates(&story->original, story->fates[OURS], global_names);
-    puts("\nThe student says 0x8, within the memory: the store is served. (!) marks what differs from the original.");
-    served = print_day(story, 0x8);
-    puts("\nThe student says 0x1000, past the memory: the store faults.");
-    faulting = print_day(story, 0x1000);
+    puts("\nSET TIMEOUT=42 at 0x8, within the memory: the store is served. (!) marks what differs from the original.");
+    served = print_day(story, 0x8, &later);
+    puts("\nSET TIMEOUT=42 at 0x1000, past the memory: the store faults.");
+    faulting = print_day(story, 0x1000, &later);
     puts("\nDropped by the home-made pass and kept by ngulo_pass:");
-    if (print_lost(story) != 1 || served != 0 || faulting != 1u << HOMEMADE ||
+    if (print_lost(story) != 1 || served != 0 || faulting != 1u << HOMEMADE || later != faulting ||
         story->jobs[OURS].length >= story->jobs[HOMEMADE].length) {
         return unexpected();
     }
