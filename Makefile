@@ -14,7 +14,7 @@
 #   make valgrind   the C programs under valgrind
 #   make install PREFIX=/usr/local [DESTDIR=...]   and make uninstall
 
-VERSION = 0.1.0
+VERSION = 0.2.0
 PREFIX ?= /usr/local
 BINDIR ?= $(PREFIX)/bin
 INCLUDEDIR ?= $(PREFIX)/include
@@ -35,7 +35,7 @@ KIT = target/kit
 ARCHIVE = target/staticlib/libngulo.a
 HEADERS = $(wildcard include/*.h tool/*.h demo/*.h)
 TOOL = $(wildcard tool/*.c)
-DEMO = $(wildcard demo/*.c) tool/input.c
+DEMO = $(wildcard demo/*.c) $(addprefix tool/,input.c records.c listing.c explain.c probe.c differ.c words.c)
 VALGRIND = valgrind -q --error-exitcode=9 --leak-check=full --show-leak-kinds=all --errors-for-leak-kinds=all
 
 .PHONY: all archive tool demo test test-exported test-c test-calls test-tool test-demo test-install compare seeded fuzz \
@@ -69,7 +69,7 @@ $(KIT):
 	mkdir -p $@
 
 demo: $(KIT)/incident
-	@$(KIT)/incident samples/incident.hex
+	@$(KIT)/incident samples
 
 test: test-exported test-c compare seeded
 
