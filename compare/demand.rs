@@ -39,7 +39,7 @@ fn told(property: &str, expected: &str, found: String) -> Option<Difference> {
 
 /// At most the header's `ngulo_result_bound`.
 fn longer(block: &[u8], result: &[u8]) -> Option<Difference> {
-    let bound = RESULT.min(block.len() + block.len() / 3 * 7);
+    let bound = RESULT.min(10 * block.len() / 3);
     if result.len() <= bound {
         return None;
     }

@@ -228,13 +228,13 @@ NGULO_USE_ANSWER NGULO_API uint64_t ngulo_run(const uint8_t *block, size_t block
 
 /*
  * The most bytes that the result of a block of this length can take, if you do not want to lend NGULO_MAX_RESULT.
- * A result can be longer than its block: an op of 3 bytes may become one of 10.
+ * A result can be longer than its block: an op of 3 bytes may become one of 10. (Proved: crates/ngulo/specs/Bound.antt.)
  */
 static inline size_t ngulo_result_bound(size_t block_length)
 {
     size_t most = NGULO_MAX_RESULT;
 
-    return block_length < most && block_length + block_length / 3 * 7 < most ? block_length + block_length / 3 * 7 : most;
+    return block_length < most && 10 * block_length / 3 < most ? 10 * block_length / 3 : most;
 }
 
 /*
@@ -281,7 +281,7 @@ NGULO_USE_ANSWER static inline uint64_t ngulo_run_nullable(const uint8_t *block,
                      globals_length, memory_length == 0 ? &no_memory : memory, memory_length, report);
 }
 
-/* An answer taken apart, as crates/ngulo/specs/Apart.antt reads every answer back (proved). */
+/* An answer taken apart, as every answer can be read back (proved: crates/ngulo/specs/Apart.antt). */
 
 /* 1 if the call was refused, else 0. */
 static inline int ngulo_is_refused(uint64_t answer)

@@ -1,3 +1,4 @@
 pub mod Small
 pub mod Flags
 pub mod Apart
+pub mod Bound

@@ -82,7 +82,7 @@ abbrev pub SmallWritten : Written → Type 0
 SmallWritten (PassRefused number place) = place ≤ 4096
 SmallWritten (Length n) = n ≤ 4096
 
-result-small : (block : List ℕ) → checkOf block ≡ Accepted → length (resultOf document01 block) ≤ 2752
+pub result-small : (block : List ℕ) → checkOf block ≡ Accepted → length (resultOf document01 block) ≤ 2752
 result-small block h =
     let p = parts lawful block h in
     let e = result-of block (declarations (recordsOf rowOf block)) (opsFrom (recordsOf rowOf block)) p in

@@ -38,7 +38,7 @@ use Rattle.passes.specs.declared.Written.the-variants.{Refused, Length}
 use Rattle.ops.proofs.Document01.{lawful}
 
 -- an accepted block is its declarations and its ops
-accepted-bytes : (block : List ℕ) → checkOf block ≡ Accepted → recordBytes (declarations (recordsOf rowOf block)) ++ recordBytes (opsFrom (recordsOf rowOf block)) ≡ block
+pub accepted-bytes : (block : List ℕ) → checkOf block ≡ Accepted → recordBytes (declarations (recordsOf rowOf block)) ++ recordBytes (opsFrom (recordsOf rowOf block)) ≡ block
 unfolding checkBy cutOf
 accepted-bytes block h =
     let rs = recordsOf rowOf block in
