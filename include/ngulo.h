@@ -47,7 +47,7 @@
 #define NGULO_USE_ANSWER
 #endif
 
-/* static inline, for a function with too large a frame: gcc would warn that it is not inlined. */
+/* What a function with a large frame is, in place of static inline: gcc would warn that it does not inline it. */
 #if defined(__GNUC__) && !defined(__clang__)
 #define NGULO_STATIC __attribute__((unused)) static
 #else

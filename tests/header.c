@@ -251,7 +251,8 @@ static void in_place(void)
 {
     expect("in place: a result", written_in_place(256 * 2, 9), 2);
     expect("in place: a result that fills the room", written_in_place(256 * 9, 9), 9);
-    expect("in place: the longest result", written_in_place((uint64_t)256 * NGULO_MAX_RESULT, NGULO_MAX_RESULT + 8), NGULO_MAX_RESULT);
+    expect("in place: the longest result", written_in_place((uint64_t)256 * NGULO_MAX_RESULT, NGULO_MAX_RESULT + 8),
+           NGULO_MAX_RESULT);
     expect("in place: no room", written_in_place(NGULO_REFUSAL_NO_ROOM, 9), 0);
     expect("in place: a refusal with a place", written_in_place(NGULO_REFUSAL_UNDECLARED + 256 * 3, 9), 0);
 }
