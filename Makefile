@@ -183,14 +183,13 @@ uninstall:
 	[ ! -d '$(DESTDIR)$(DOCDIR)' ] || rmdir --ignore-fail-on-non-empty '$(DESTDIR)$(DOCDIR)'
 
 # The tarball is a prefix with examples and samples. The same bytes each time: names in order, no owner, one time for all.
+EXTRAS = examples/bench.c examples/bench.py $(shell find samples -name '*.hex')
 EPOCH = $(or $(SOURCE_DATE_EPOCH),$(shell git log -1 --format=%ct 2>/dev/null || stat -c %Y include/ngulo.h))
 dist: archive shared tool
 	rm -rf $(DIST)/$(NAME) $(TARBALL)
 	$(MAKE) --no-print-directory install DESTDIR=$(DIST) PREFIX=/$(NAME) BINDIR=/$(NAME)/bin \
 	    INCLUDEDIR=/$(NAME)/include LIBDIR=/$(NAME)/lib MANDIR=/$(NAME)/share/man DOCDIR=/$(NAME)/share/doc/ngulo
-	install -d $(DIST)/$(NAME)/examples $(DIST)/$(NAME)/samples
-	install -m 644 examples/bench.c examples/bench.py $(DIST)/$(NAME)/examples
-	install -m 644 samples/*.hex $(DIST)/$(NAME)/samples
+	for f in $(EXTRAS); do install -D -m 644 $$f $(DIST)/$(NAME)/$$f || exit 1; done
 	install -m 644 docs/KIT.md $(DIST)/$(NAME)/README.md
 	tar -C $(DIST) --format=ustar --sort=name --owner=0 --group=0 --numeric-owner --mode=u=rwX,go=rX \
 	    --mtime=@$(EPOCH) -cf $(TARBALL:.gz=) $(NAME)
