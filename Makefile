@@ -57,7 +57,7 @@ TARBALL = $(DIST)/$(NAME)-linux-x86_64.tar.gz
 DOCUMENTS = docs/FORMAT.md docs/TRUST.md CHANGELOG.md NOTICE
 HEADERS = $(wildcard include/*.h tool/*.h demo/*.h)
 TOOL = $(wildcard tool/*.c)
-DEMO = $(wildcard demo/*.c) tool/input.c
+DEMO = $(wildcard demo/*.c) $(addprefix tool/,input.c records.c listing.c explain.c probe.c differ.c words.c)
 VALGRIND = valgrind -q --error-exitcode=9 --leak-check=full --show-leak-kinds=all --errors-for-leak-kinds=all
 
 .PHONY: all archive shared tool demo check test test-exported test-c test-calls test-strict test-tool test-format \
@@ -100,7 +100,7 @@ $(KIT):
 	mkdir -p $@
 
 demo: $(KIT)/incident
-	@$(KIT)/incident samples/incident.hex
+	@$(KIT)/incident samples
 
 test: test-exported test-c compare seeded
 

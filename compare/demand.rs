@@ -23,7 +23,8 @@ pub fn broken(case: &Case) -> Option<Difference> {
     if accepted != 0 {
         return told("the result is accepted", "accepted", answer(accepted));
     }
-    runs_differ(case, result)
+    longer(&case.block, result)
+        .or_else(|| runs_differ(case, result))
         .or_else(|| work_remains(result))
         .or_else(|| again(result))
 }
@@ -34,6 +35,19 @@ fn told(property: &str, expected: &str, found: String) -> Option<Difference> {
         library: found,
         second: format!("(expected) {expected}"),
     })
+}
+
+/// At most the header's `ngulo_result_bound`.
+fn longer(block: &[u8], result: &[u8]) -> Option<Difference> {
+    let bound = RESULT.min(block.len() + block.len() / 3 * 7);
+    if result.len() <= bound {
+        return None;
+    }
+    told(
+        "the result is within the bound for its block",
+        &format!("at most {bound} bytes"),
+        format!("{} bytes", result.len()),
+    )
 }
 
 /// The same exit or fault, the same globals and memory, in no more ops.

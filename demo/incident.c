@@ -2,57 +2,65 @@
  * The incident: a home-made clean-up pass dropped a write as useless, because a later op overwrites it. A store
  * between the two faulted, so the later op never ran, and one student's job setting became everybody's default.
  *
- * Reads the block (samples/incident.hex) and runs it, the home-made pass's block and ngulo_pass's block side by side.
+ * Reads the jobs from a folder (samples) and runs them: the job as it was written, as the home-made pass left it and as
+ * ngulo_pass left it; after each a later user's job. Then the other mistakes of that sort, a sample each.
  * Answers 0 if ngulo_pass's block is the shortest and does what the original does, and the home-made one does not.
  */
+#include "../tool/explain.h"
 #include "../tool/input.h"
+#include "../tool/listing.h"
+#include "blocks.h"
 #include "homemade.h"
-#include "listing.h"
-#include "ngulo.h"
+#include "mistakes.h"
 
+#include <errno.h>
 #include <stdio.h>
-#include <stdlib.h>
 #include <string.h>
 
 enum { ADDRESS, SETTING, SAVED, RESTORE_DUE, GLOBALS };
 enum { ORIGINAL, HOMEMADE, OURS, BLOCKS };
-enum { MEMORY = 16, DEFAULT_SETTING = 5 };
+enum { MEMORY = 16, DEFAULT_SETTING = 5, LATER_ADDRESS = 4 };
 
 static const char *const block_names[] = {"original", "home-made", "ngulo_pass"};
-static const char *const global_names[] = {"address", "setting", "saved", "restore_due"};
+static const char global_names[] = "address,setting,saved,restore_due";
 
-struct block {
-    uint8_t bytes[NGULO_MAX_RESULT];
-    size_t length;
+/* The student's job in three forms, what became of its ops in each, and the later job. */
+struct story {
+    struct block jobs[BLOCKS];
+    struct records original;
+    struct fate fates[BLOCKS][NGULO_MAX_OPS];
+    struct block later;
 };
 
-/* What a run left. */
-struct run {
+/* The printer: what jobs leave is what the next one finds. */
+struct printer {
     uint64_t report[NGULO_REPORT_LENGTH];
     uint64_t globals[GLOBALS];
     uint8_t memory[MEMORY];
 };
 
-static void start_run(const struct block *block, uint64_t address, struct run *run)
+/* Runs a job that stores its setting at this address. Answers 1, or 0 if it was refused. */
+static int run_job(struct printer *printer, const struct block *job, uint64_t address)
 {
-    memset(run, 0, sizeof *run);
-    run->globals[ADDRESS] = address;
-    run->globals[SETTING] = DEFAULT_SETTING;
-    ngulo_run(block->bytes, block->length, run->globals, GLOBALS, run->memory, MEMORY, run->report);
+    uint64_t answer;
+
+    printer->globals[ADDRESS] = address;
+    answer = ngulo_run(job->bytes, job->length, printer->globals, GLOBALS, printer->memory, MEMORY, printer->report);
+    return !ngulo_is_refused(answer);
 }
 
 /* The bench after each job: puts the saved setting back if the job stopped before it could. */
-static void bench_clean_up(struct run *run)
+static void bench_clean_up(struct printer *printer)
 {
-    if (run->globals[RESTORE_DUE] != 0) {
-        run->globals[SETTING] = run->globals[SAVED];
-        run->globals[RESTORE_DUE] = 0;
+    if (printer->globals[RESTORE_DUE] != 0) {
+        printer->globals[SETTING] = printer->globals[SAVED];
+        printer->globals[RESTORE_DUE] = 0;
     }
 }
 
-/* The cells of a row, one for each block. */
+/* The cells of a row, one for each form of the job. */
 struct row {
-    char cell[BLOCKS][20];
+    char cell[BLOCKS][24];
 };
 
 /* Prints a row and marks the cells that differ from the original's. Answers which do, a bit each. */
@@ -61,10 +69,10 @@ static unsigned print_row(const char *title, const struct row *row)
     unsigned differ = 0;
     int i;
 
-    printf("  %-20s", title);
+    printf("  %-27s", title);
     for (i = 0; i < BLOCKS; i += 1) {
         int differs = strcmp(row->cell[i], row->cell[ORIGINAL]) != 0;
-        int width = i + 1 == BLOCKS ? 0 : 20 - (int)strlen(row->cell[i]);
+        int width = i + 1 == BLOCKS ? 0 : 18 - (int)strlen(row->cell[i]);
 
         printf("%s%*s", row->cell[i], differs ? -width : width, differs ? " (!)" : "");
         differ |= (unsigned)differs << i;
@@ -73,150 +81,219 @@ static unsigned print_row(const char *title, const struct row *row)
     return differ;
 }
 
-static unsigned print_endings(const struct run runs[BLOCKS])
+static unsigned print_endings(const struct printer printers[BLOCKS])
 {
     struct row row;
     int i;
 
     for (i = 0; i < BLOCKS; i += 1) {
-        const uint64_t *report = runs[i].report;
+        const uint64_t *report = printers[i].report;
 
         if (ngulo_report_ending(report) == NGULO_ENDING_EXIT) {
-            sprintf(row.cell[i], "exit %u", (unsigned)ngulo_report_exit_value(report));
+            snprintf(row.cell[i], sizeof row.cell[i], "exit %u", (unsigned)ngulo_report_exit_value(report));
         } else if (ngulo_report_ending(report) == NGULO_ENDING_FAULT) {
-            sprintf(row.cell[i], "fault at 0x%x", (unsigned)ngulo_report_fault_address(report));
+            snprintf(row.cell[i], sizeof row.cell[i], "fault at 0x%x", (unsigned)ngulo_report_fault_address(report));
         } else {
-            sprintf(row.cell[i], "no stated result");
+            snprintf(row.cell[i], sizeof row.cell[i], "no stated result");
         }
     }
-    return print_row("ending", &row);
+    return print_row("the job's ending", &row);
 }
 
-static unsigned print_global(const char *title, const struct run runs[BLOCKS], int global)
+static unsigned print_global(const char *title, const struct printer printers[BLOCKS], int global)
 {
     struct row row;
     int i;
 
     for (i = 0; i < BLOCKS; i += 1) {
-        sprintf(row.cell[i], "%u", (unsigned)runs[i].globals[global]);
+        snprintf(row.cell[i], sizeof row.cell[i], "%u", (unsigned)printers[i].globals[global]);
     }
     return print_row(title, &row);
 }
 
-/* Ops run are fewer after a pass, and no difference to mark. */
-static void print_counts(const struct run runs[BLOCKS])
+/* What the later job stored: four bytes, little-endian. */
+static unsigned print_later(const struct printer printers[BLOCKS])
 {
-    printf("  %-20s%-20u%-20u%u\n", "ops run", (unsigned)ngulo_report_count(runs[ORIGINAL].report),
-           (unsigned)ngulo_report_count(runs[HOMEMADE].report), (unsigned)ngulo_report_count(runs[OURS].report));
-}
-
-/* Which runs differ from the original's in what the rows do not show: the whole report but the count, and memory. */
-static unsigned differ_elsewhere(const struct run runs[BLOCKS])
-{
-    unsigned differ = 0;
-    size_t shown = NGULO_REPORT_COUNT * sizeof runs[0].report[0];
+    struct row row;
     int i;
 
     for (i = 0; i < BLOCKS; i += 1) {
-        int differs = memcmp(runs[i].report, runs[ORIGINAL].report, shown) != 0 ||
-                      memcmp(runs[i].memory, runs[ORIGINAL].memory, MEMORY) != 0;
+        const uint8_t *stored = printers[i].memory + LATER_ADDRESS;
+
+        snprintf(row.cell[i], sizeof row.cell[i], "%u",
+                 stored[0] + 256u * stored[1] + 65536u * stored[2] + 16777216u * stored[3]);
+    }
+    return print_row("the later user's time-out", &row);
+}
+
+/* Ops run are fewer after a pass, and no difference to mark. */
+static void print_counts(const struct printer printers[BLOCKS])
+{
+    printf("  %-27s%-18u%-18u%u\n", "ops run", (unsigned)ngulo_report_count(printers[ORIGINAL].report),
+           (unsigned)ngulo_report_count(printers[HOMEMADE].report), (unsigned)ngulo_report_count(printers[OURS].report));
+}
+
+/* Which printers differ from the original's in what the rows do not show: the whole report but the count, and memory. */
+static unsigned differ_elsewhere(const struct printer printers[BLOCKS])
+{
+    unsigned differ = 0;
+    size_t shown = NGULO_REPORT_COUNT * sizeof printers[0].report[0];
+    int i;
+
+    for (i = 0; i < BLOCKS; i += 1) {
+        int differs = memcmp(printers[i].report, printers[ORIGINAL].report, shown) != 0 ||
+                      memcmp(printers[i].memory, printers[ORIGINAL].memory, MEMORY) != 0;
 
         differ |= (unsigned)differs << i;
     }
     return differ;
 }
 
-/* Runs the three blocks at this address. Answers which differ from the original, a bit each. */
-static unsigned compare(const struct block blocks[BLOCKS], uint64_t address)
+/*
+ * The student's job at this address on three printers, then the later job. Answers which printers differ, a bit each,
+ * and gives those on which the later user's time-out does.
+ */
+static unsigned print_day(const struct story *story, uint64_t address, unsigned *later)
 {
-    struct run runs[BLOCKS];
+    struct printer printers[BLOCKS];
     unsigned differ;
+    int refused = 0;
     int i;
 
+    memset(printers, 0, sizeof printers);
     for (i = 0; i < BLOCKS; i += 1) {
-        start_run(&blocks[i], address, &runs[i]);
+        printers[i].globals[SETTING] = DEFAULT_SETTING;
+        refused += !run_job(&printers[i], &story->jobs[i], address);
     }
-    printf("  %-20s%-20s%-20s%s\n", "", block_names[ORIGINAL], block_names[HOMEMADE], block_names[OURS]);
-    differ = print_endings(runs) | differ_elsewhere(runs);
-    print_counts(runs);
-    differ |= print_global("setting", runs, SETTING);
-    differ |= print_global("saved", runs, SAVED);
-    differ |= print_global("restore_due", runs, RESTORE_DUE);
+    printf("  %-27s%-18s%-18s%s\n", "", block_names[ORIGINAL], block_names[HOMEMADE], block_names[OURS]);
+    differ = print_endings(printers) | differ_elsewhere(printers);
+    print_counts(printers);
+    differ |= print_global("setting", printers, SETTING);
+    differ |= print_global("saved", printers, SAVED);
+    differ |= print_global("restore_due", printers, RESTORE_DUE);
     for (i = 0; i < BLOCKS; i += 1) {
-        bench_clean_up(&runs[i]);
+        bench_clean_up(&printers[i]);
     }
-    differ |= print_global("next job's setting", runs, SETTING);
-    return differ;
+    differ |= print_global("setting after clean-up", printers, SETTING);
+    for (i = 0; i < BLOCKS; i += 1) {
+        refused += !run_job(&printers[i], &story->later, LATER_ADDRESS);
+    }
+    *later = print_later(printers);
+    return refused == 0 ? differ | *later : ~0u;
 }
 
-/* The block of the file, checked to be one that this story can be told with. */
-static int load_original(const char *path, struct block *into)
+/* The ops that the home-made pass dropped and ngulo_pass kept. Answers how many. */
+static unsigned print_lost(const struct story *story)
 {
-    struct bytes held;
-    struct run trial;
-    uint64_t answer;
+    char text[LISTING_SIZE];
+    unsigned lost = 0;
+    unsigned i;
 
-    if (read_block(path, 1, &held) != STATUS_DONE) {
-        return STATUS_USAGE;
+    for (i = 0; i < story->original.ops; i += 1) {
+        if (!story->fates[HOMEMADE][i].kept && story->fates[OURS][i].kept && !story->fates[OURS][i].folded) {
+            list_record(op_at(&story->original, i), text);
+            printf("  op %u, %s, writes ", i, text);
+            print_variable(op_at(&story->original, i)[1], global_names);
+            putchar('\n');
+            lost += 1;
+        }
     }
-    memset(&trial, 0, sizeof trial);
-    answer = ngulo_run(held.data, held.length, trial.globals, GLOBALS, trial.memory, MEMORY, trial.report);
-    if (!ngulo_is_refused(answer)) {
-        memcpy(into->bytes, held.data, held.length);
-        into->length = held.length;
-    }
-    free(held.data);
-    return ngulo_is_refused(answer) ? complain("%s: not the incident's block", path) : STATUS_DONE;
+    return lost;
 }
 
 static const char opening[] =
-    "A job changes a setting that all jobs share, stores it, and puts the default back.\n"
-    "While restore_due is 1, the bench puts the default back itself if the job stops half way.\n";
+    "A printer's jobs share a time-out, and 5 is everybody's default. A student's job has the command\n"
+    "    SET TIMEOUT=42\n"
+    "which is to hold for that job alone. The controller's block for it saves the setting, notes that a\n"
+    "restore is due, sets 42, stores it at the address that the job gives, and puts the old setting back.\n"
+    "If a block stops half way while a restore is due, the bench does the restore. Then a later user's job\n"
+    "comes, which has no such command: its block stores the setting as it finds it.\n";
 
 static const char closing[] =
     "\n"
-    "The home-made pass dropped 'movi_i32 restore_due, $1' as useless, since a later op overwrites it.\n"
-    "After the fault the bench saw nothing to put back: one job's setting became everybody's default.\n"
-    "The block of ngulo_pass is the shortest, and leaves what the original leaves.\n";
+    "The store faulted, so the op that overwrites restore_due never ran, and the bench saw nothing to restore:\n"
+    "one student's setting became everybody's default. The block of ngulo_pass is the shortest, and leaves what\n"
+    "the original leaves.\n";
 
-static int tell(const struct block blocks[BLOCKS])
+static int unexpected(void)
+{
+    puts("\nThis is not what the demonstration should show.");
+    return STATUS_REFUSED;
+}
+
+static int tell(const struct story *story, const char *folder)
 {
     unsigned served;
     unsigned faulting;
-    int i;
+    unsigned later;
+    int status;
 
     fputs(opening, stdout);
-    for (i = 0; i < BLOCKS; i += 1) {
-        printf("\n%s: %u ops\n", block_names[i], count_ops(blocks[i].bytes, blocks[i].length));
-        print_ops(blocks[i].bytes, blocks[i].length, global_names, GLOBALS);
-    }
-    printf("\nThe default is %d, the job's setting 42. (!) marks what differs from the original.\n", DEFAULT_SETTING);
-    puts("\nThe address is 0x8, within the memory: the store is served.");
-    served = compare(blocks, 0x8);
-    puts("\nThe address is 0x1000, past the memory: the store faults.");
-    faulting = compare(blocks, 0x1000);
-    if (served != 0 || faulting != 1u << HOMEMADE || blocks[OURS].length >= blocks[HOMEMADE].length) {
-        puts("\nThis is not what the demonstration should show.");
-        return 1;
+    puts("\nWhat the home-made pass did with the student's block:");
+    print_fates(&story->original, story->fates[HOMEMADE], global_names);
+    puts("\nWhat ngulo_pass did with it:");
+    print_fates(&story->original, story->fates[OURS], global_names);
+    puts("\nSET TIMEOUT=42 at 0x8, within the memory: the store is served. (!) marks what differs from the original.");
+    served = print_day(story, 0x8, &later);
+    puts("\nSET TIMEOUT=42 at 0x1000, past the memory: the store faults.");
+    faulting = print_day(story, 0x1000, &later);
+    puts("\nDropped by the home-made pass and kept by ngulo_pass:");
+    if (print_lost(story) != 1 || served != 0 || faulting != 1u << HOMEMADE || later != faulting ||
+        story->jobs[OURS].length >= story->jobs[HOMEMADE].length) {
+        return unexpected();
     }
     fputs(closing, stdout);
-    return 0;
+    puts("\nOther mistakes of this sort, each on a block of samples/mistakes, with 16 bytes of memory:");
+    status = tell_mistakes(folder);
+    return status == STATUS_REFUSED ? unexpected() : status;
+}
+
+static int prepare(struct story *story, const char *folder)
+{
+    struct records result;
+    struct printer trial;
+    int i;
+
+    memset(&trial, 0, sizeof trial);
+    if (load_block(folder, "incident.hex", &story->jobs[ORIGINAL]) != STATUS_DONE ||
+        load_block(folder, "later-job.hex", &story->later) != STATUS_DONE ||
+        optimise(&story->jobs[ORIGINAL], &story->jobs[OURS]) != STATUS_DONE) {
+        return STATUS_USAGE;
+    }
+    if (!run_job(&trial, &story->jobs[ORIGINAL], 0) || !run_job(&trial, &story->later, 0)) {
+        return complain("%s: the jobs are not those of the incident", folder);
+    }
+    story->jobs[HOMEMADE].length =
+        homemade_pass(story->jobs[ORIGINAL].bytes, story->jobs[ORIGINAL].length, story->jobs[HOMEMADE].bytes);
+    cut_block(story->jobs[ORIGINAL].bytes, story->jobs[ORIGINAL].length, &story->original);
+    for (i = HOMEMADE; i < BLOCKS; i += 1) {
+        start_fates(&story->original, story->fates[i]);
+        if (i == OURS) {
+            find_forms(&story->original, story->fates[i]);
+        }
+        cut_block(story->jobs[i].bytes, story->jobs[i].length, &result);
+        if (!find_kept(&story->original, &result, story->fates[i])) {
+            return complain("%s: the result is not what is left of the job", block_names[i]);
+        }
+    }
+    return STATUS_DONE;
 }
 
 int main(int argc, char **argv)
 {
-    static struct block blocks[BLOCKS];
-    uint64_t answer;
+    static struct story story;
+    int status;
 
     if (argc != 2) {
-        return complain("usage: incident FILE, a block in hex text");
+        return complain("usage: incident FOLDER, the samples");
     }
-    if (load_original(argv[1], &blocks[ORIGINAL]) != STATUS_DONE) {
-        return STATUS_USAGE;
+    status = prepare(&story, argv[1]);
+    if (status == STATUS_DONE) {
+        status = tell(&story, argv[1]);
     }
-    blocks[HOMEMADE].length =
-        homemade_pass(blocks[ORIGINAL].bytes, blocks[ORIGINAL].length, blocks[HOMEMADE].bytes);
-    answer = ngulo_pass(blocks[ORIGINAL].bytes, blocks[ORIGINAL].length, blocks[OURS].bytes, NGULO_MAX_RESULT);
-    blocks[OURS].length = ngulo_result_length(answer);
-    return tell(blocks);
+    errno = 0;
+    if (fflush(stdout) != 0 || ferror(stdout)) {
+        return complain("standard output: cannot write: %s", errno != 0 ? strerror(errno) : "an earlier write failed");
+    }
+    return status;
 }

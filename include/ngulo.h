@@ -172,7 +172,7 @@ enum ngulo_refusal {
     NGULO_REFUSAL_NONE = 0,
     NGULO_REFUSAL_RECORD_CUT = 1,       /* a record runs past the end */
     NGULO_REFUSAL_UNKNOWN_KIND = 2,     /* unknown kind, 00 included */
-    NGULO_REFUSAL_BAD_DECLARATION = 3,  /* after an op, bad class or type, global after a temporary, 65th variable */
+    NGULO_REFUSAL_BAD_DECLARATION = 3,  /* after an op, bad class or type, global after a non-global, 65th variable */
     NGULO_REFUSAL_UNDECLARED = 4,       /* variable not declared */
     NGULO_REFUSAL_WRONG_WIDTH = 5,      /* an operand has the wrong width */
     NGULO_REFUSAL_BAD_FIELD = 6,        /* cond above 9, bad flags, label above 31, 32-bit movi of 2^32 or more */

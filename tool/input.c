@@ -197,6 +197,25 @@ static int decode_hex(struct bytes *held, const char *name)
     return STATUS_DONE;
 }
 
+int looks_like_hex(const struct bytes *held)
+{
+    struct cursor c;
+    int found = 0;
+
+    c.text = held->data;
+    c.length = held->length;
+    c.at = 0;
+    c.line = 1;
+    for (skip_blank(&c); c.at < c.length; skip_blank(&c)) {
+        if (digit_value(c.text[c.at]) < 0) {
+            return 0;
+        }
+        found = 1;
+        c.at += 1;
+    }
+    return found;
+}
+
 int read_block(const char *path, int hex, struct bytes *into)
 {
     int status = read_bytes(path, into);

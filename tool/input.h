@@ -29,6 +29,9 @@ int read_bytes(const char *path, struct bytes *into);
 /* The same, of a file that holds a block: raw bytes, or hex text. */
 int read_block(const char *path, int hex, struct bytes *into);
 
+/* Could these bytes be hex text, with at least one byte in it? */
+int looks_like_hex(const struct bytes *held);
+
 /* A number, decimal or hex after 0x, below 2^64: 1 if the text is one, else 0. */
 int parse_number(const char *text, uint64_t *into);
 

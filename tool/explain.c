@@ -1,0 +1,129 @@
+#include "explain.h"
+
+#include "listing.h"
+#include "probe.h"
+
+#include <stdio.h>
+#include <string.h>
+
+/*
+ * What fold makes of an op that is no edge, knowing what the ops of its basic block before it wrote: the probe ends
+ * after it, with all variables live, so that nothing drops it.
+ */
+static void find_form(const struct records *block, unsigned start, unsigned position, uint8_t form[LONGEST_RECORD])
+{
+    struct probe probe;
+    struct records made;
+    uint8_t result[NGULO_MAX_RESULT];
+    uint64_t answer;
+    unsigned i;
+
+    start_probe(&probe, block);
+    for (i = start; i <= position; i += 1) {
+        add_record(&probe, op_at(block, i));
+    }
+    add_record(&probe, last_op(block));
+    answer = ngulo_pass(probe.bytes, probe.length, result, sizeof result);
+    cut_block(result, ngulo_is_refused(answer) ? 0 : ngulo_result_length(answer), &made);
+    if (made.ops >= 2) {
+        memcpy(form, op_at(&made, made.ops - 2), record_length(op_at(&made, made.ops - 2)[0]));
+    }
+}
+
+static int same_record(const uint8_t *a, const uint8_t *b)
+{
+    return a[0] == b[0] && memcmp(a, b, record_length(a[0])) == 0;
+}
+
+void start_fates(const struct records *block, struct fate fates[NGULO_MAX_OPS])
+{
+    unsigned i;
+
+    memset(fates, 0, NGULO_MAX_OPS * sizeof *fates);
+    for (i = 0; i < block->ops; i += 1) {
+        memcpy(fates[i].form, op_at(block, i), record_length(op_at(block, i)[0]));
+    }
+}
+
+void find_forms(const struct records *block, struct fate fates[NGULO_MAX_OPS])
+{
+    unsigned start = 0;
+    unsigned i;
+
+    for (i = 0; i < block->ops; i += 1) {
+        if (is_edge(op_at(block, i)[0])) {
+            start = i + 1;
+        } else {
+            find_form(block, start, i, fates[i].form);
+            fates[i].folded = !same_record(fates[i].form, op_at(block, i));
+        }
+    }
+}
+
+/* Of like ops with nothing kept between them the last is the one that is kept: the same is live after each. */
+int find_kept(const struct records *block, const struct records *result, struct fate fates[NGULO_MAX_OPS])
+{
+    unsigned left = result->ops;
+    unsigned i;
+
+    for (i = block->ops; i > 0; i -= 1) {
+        if (left > 0 && same_record(fates[i - 1].form, op_at(result, left - 1))) {
+            fates[i - 1].kept = 1;
+            left -= 1;
+        }
+    }
+    return left == 0;
+}
+
+/* Why the output of a dropped op is dead: an op that is left writes it first, or its life ends. */
+static void print_reason(const struct records *block, const struct fate fates[NGULO_MAX_OPS], unsigned position,
+                         const char *names)
+{
+    unsigned variable = op_at(block, position)[1];
+    unsigned i = position + 1;
+
+    while (!(fates[i].kept && (is_edge(fates[i].form[0]) ||
+                               (shape_of(fates[i].form[0])->outputs == 1 && fates[i].form[1] == variable)))) {
+        i += 1;
+    }
+    if (!is_edge(fates[i].form[0])) {
+        printf("op %u writes ", i);
+        print_variable(variable, names);
+        fputs(" before any op that is left reads it", stdout);
+        return;
+    }
+    fputs("no op that is left reads ", stdout);
+    print_variable(variable, names);
+    printf(" before %s, at op %u",
+           class_of(block, variable) == NGULO_CLASS_LOCAL ? "the block is left" : "its basic block ends", i);
+}
+
+static void print_fate(const struct records *block, const struct fate fates[NGULO_MAX_OPS], unsigned position,
+                       const char *names)
+{
+    const struct fate *fate = &fates[position];
+    char text[LISTING_SIZE];
+
+    list_record(op_at(block, position), text);
+    printf("%3u  %-34s  ", position, text);
+    if (fate->folded) {
+        list_record(fate->form, text);
+        printf("folded to %s%s", text, fate->kept ? "" : ", then ");
+    } else if (fate->kept) {
+        fputs("kept", stdout);
+    }
+    if (!fate->kept) {
+        fputs("dropped: ", stdout);
+        print_reason(block, fates, position, names);
+    }
+    putchar('\n');
+}
+
+void print_fates(const struct records *block, const struct fate fates[NGULO_MAX_OPS], const char *names)
+{
+    unsigned i;
+
+    for (i = 0; i < block->ops; i += 1) {
+        print_fate(block, fates, i, names);
+    }
+}

@@ -1,0 +1,53 @@
+/* Records by their kind, and an accepted block cut into its records. */
+#ifndef NGULO_RECORDS_H
+#define NGULO_RECORDS_H
+
+#include "ngulo.h"
+
+#include <stddef.h>
+#include <stdint.h>
+
+/* The body of a record: operands, outputs first, then bytes that are no variables. */
+struct shape {
+    const char *name; /* as in a listing, without the width */
+    unsigned outputs;
+    unsigned inputs;
+    unsigned after;
+};
+
+enum { MOST_RECORDS = NGULO_MAX_VARIABLES + NGULO_MAX_OPS, LONGEST_RECORD = 10 };
+
+/* An accepted block, whose bytes stay its owner's. */
+struct records {
+    const uint8_t *at[MOST_RECORDS]; /* declarations, then ops */
+    unsigned variables;
+    unsigned globals;
+    unsigned ops;
+};
+
+/* NULL for an unknown kind. */
+const struct shape *shape_of(uint8_t kind);
+
+/* The kind of the 32-bit form. */
+uint8_t narrow_kind(uint8_t kind);
+
+/* The length of a record, its kind known. */
+size_t record_length(uint8_t kind);
+
+/* Does the op end a basic block, or start one: set_label, br, exit_tb or brcond? */
+int is_edge(uint8_t kind);
+
+/* qemu_ld or qemu_st? */
+int is_access(uint8_t kind);
+
+void cut_block(const uint8_t *block, size_t length, struct records *into);
+
+/* An op by its position, and the last one, which is an exit_tb. */
+const uint8_t *op_at(const struct records *block, unsigned position);
+const uint8_t *last_op(const struct records *block);
+
+/* The class and the type that a variable is declared with. */
+unsigned class_of(const struct records *block, unsigned variable);
+unsigned type_of(const struct records *block, unsigned variable);
+
+#endif

@@ -1,0 +1,38 @@
+#include "words.h"
+
+#include "ngulo.h"
+
+#include <inttypes.h>
+#include <stdio.h>
+
+void access_words(const uint64_t report[4], char text[ACCESS_SIZE])
+{
+    int store = ngulo_report_fault_is_store(report);
+    const char *sign = store ? "" : ngulo_report_fault_is_signed(report) ? ", signed" : ", unsigned";
+    unsigned size = ngulo_report_fault_size(report);
+
+    snprintf(text, ACCESS_SIZE, "%s of %u byte%s at 0x%" PRIx64 "%s, %s-endian", store ? "store" : "load", size,
+             size == 1 ? "" : "s", ngulo_report_fault_address(report), sign,
+             ngulo_report_fault_is_big_endian(report) ? "big" : "little");
+}
+
+void ending_words(const uint64_t report[4], char text[ENDING_SIZE])
+{
+    char access[ACCESS_SIZE];
+
+    switch (ngulo_report_ending(report)) {
+    case NGULO_ENDING_EXIT:
+        snprintf(text, ENDING_SIZE, "exit 0x%" PRIx64, ngulo_report_exit_value(report));
+        break;
+    case NGULO_ENDING_FAULT:
+        access_words(report, access);
+        snprintf(text, ENDING_SIZE, "fault, %s", access);
+        break;
+    case NGULO_ENDING_NO_RESULT:
+        snprintf(text, ENDING_SIZE, "no stated result at op %" PRIu64, ngulo_report_position(report));
+        break;
+    default:
+        snprintf(text, ENDING_SIZE, "ending %u, which this program does not know", ngulo_report_ending(report));
+        break;
+    }
+}
