@@ -61,7 +61,7 @@ DEMO = $(wildcard demo/*.c) $(addprefix tool/,input.c records.c listing.c explai
 VALGRIND = valgrind -q --error-exitcode=9 --leak-check=full --show-leak-kinds=all --errors-for-leak-kinds=all
 
 .PHONY: all archive shared tool demo check test test-exported test-c test-calls test-strict test-tool test-format \
-    test-demo test-install test-dist compare seeded fuzz bench valgrind dist install uninstall clean help
+    test-demo test-readme test-install test-dist compare seeded fuzz bench valgrind dist install uninstall clean help
 .DELETE_ON_ERROR:
 
 all: archive shared tool $(KIT)/incident
@@ -109,7 +109,7 @@ test-exported:
 	tests/believed --check
 
 check: test-c
-test-c: test-calls test-strict test-tool test-format test-demo test-install test-dist
+test-c: test-calls test-strict test-tool test-format test-demo test-readme test-install test-dist
 
 # The calls and the header, as C and as C++.
 test-calls: $(KIT)/calls $(KIT)/calls-cpp $(KIT)/header $(KIT)/header-cpp
@@ -131,6 +131,10 @@ test-format: $(KIT)/ngulo
 test-demo: $(KIT)/incident $(KIT)/incident-cpp
 	tests/demo $(KIT)/incident
 	tests/demo $(KIT)/incident-cpp
+
+# The commands of README.md call make themselves.
+test-readme: $(KIT)/ngulo $(KIT)/incident
+	env -u MAKEFLAGS -u MAKELEVEL tests/readme
 
 test-install: all
 	CC='$(CC)' CXX='$(CXX)' tests/install
