@@ -1,48 +1,73 @@
-# The C bench kit (header, archive, command-line tool, demonstration) and what compares it with plain Rust.
+# The C kit (header, archive, shared library, command-line tool, demonstration) and what compares it with plain Rust.
 # What is built goes to target/.
 #
-#   make            archive, tool and demonstration
+#   make            archive, shared library, tool and demonstration
 #   make demo       the incident, run
+#   make check      the tests of the C kit and its tarball, without proofs; the same as make test-c
 #   make test       all tests but the proofs and their must-fail edits
-#   make test-c     the tests of the C kit
-#   make test-exported   the tables at the end of docs/TRUST.md are as tests/exported prints them, and no exported function lacks a must-fail edit;
-#                        the table of definitions in docs/ARCHITECTURE.md is as tests/believed prints it
+#   make dist       target/dist/ngulo-VERSION-linux-x86_64.tar.gz, for machines without the Rattle kit
+#   make install    below PREFIX=/usr/local; also DESTDIR, BINDIR, INCLUDEDIR, LIBDIR, MANDIR, DOCDIR
+#   make uninstall  takes that away again, with the same variables
+#   make clean      removes target/kit and target/dist, and not the proved archive
+#   make help       this list
+#
+#   make test-exported  the tables at the end of docs/TRUST.md are as tests/exported prints them, and no exported
+#                   function lacks a must-fail edit; docs/ARCHITECTURE.md has the table that tests/believed prints
 #   make compare    the comparison with the second interpreter; compare/run --help for longer ones
 #   make seeded     the comparison must find each fault of compare/faults
-#   make fuzz       the same comparison by libFuzzer (clang); fuzz/run SECONDS for longer
+#   make fuzz       the same comparison by libFuzzer; fuzz/run SECONDS for longer
 #   make bench      check, pass and run, timed beside plain Rust
 #   make valgrind   the C programs under valgrind
-#   make install PREFIX=/usr/local [DESTDIR=...]   and make uninstall
+#
+# Needed: a C and a C++ compiler and GNU make; for the archive rt, the Rattle kit; for check also pkg-config and
+# python3; for compare, seeded and bench rustc; for fuzz rustc and clang with libFuzzer; for valgrind valgrind.
+# CC, CXX, CPPFLAGS, CFLAGS, CXXFLAGS and LDFLAGS may come from the environment.
 
-VERSION = 0.2.0
+VERSION := $(shell sed -n 's/^.define NGULO_VERSION "\(.*\)"$$/\1/p' include/ngulo.h)
+MAJOR := $(shell sed -n 's/^.define NGULO_VERSION_MAJOR //p' include/ngulo.h)
 PREFIX ?= /usr/local
 BINDIR ?= $(PREFIX)/bin
 INCLUDEDIR ?= $(PREFIX)/include
 LIBDIR ?= $(PREFIX)/lib
+MANDIR ?= $(PREFIX)/share/man
+DOCDIR ?= $(PREFIX)/share/doc/ngulo
 DESTDIR ?=
 
+ifeq ($(origin CC),default)
 CC = gcc
+endif
+ifeq ($(origin CXX),default)
 CXX = g++
+endif
 CFLAGS ?= -O2
 CXXFLAGS ?= -O2
 STRICT = -Wall -Wextra -Werror -pedantic -Iinclude
-C99 = $(CC) -std=c99 $(STRICT) $(CFLAGS)
-CPP11 = $(CXX) -x c++ -std=c++11 $(STRICT) $(CXXFLAGS)
+C99 = $(CC) -std=c99 $(STRICT) $(CPPFLAGS) $(CFLAGS) $(LDFLAGS)
+CPP11 = $(CXX) -x c++ -std=c++11 $(STRICT) $(CPPFLAGS) $(CXXFLAGS) $(LDFLAGS)
 # -x none ends -x c++, so that the archive is taken as one
 LINK_CPP = -x none $(ARCHIVE)
 
 KIT = target/kit
+DIST = target/dist
 ARCHIVE = target/staticlib/libngulo.a
+SONAME = libngulo.so.$(MAJOR)
+SHARED = $(KIT)/libngulo.so.$(VERSION)
+NAME = ngulo-$(VERSION)
+TARBALL = $(DIST)/$(NAME)-linux-x86_64.tar.gz
+DOCUMENTS = docs/FORMAT.md docs/TRUST.md CHANGELOG.md NOTICE
 HEADERS = $(wildcard include/*.h tool/*.h demo/*.h)
 TOOL = $(wildcard tool/*.c)
 DEMO = $(wildcard demo/*.c) $(addprefix tool/,input.c records.c listing.c explain.c probe.c differ.c words.c)
 VALGRIND = valgrind -q --error-exitcode=9 --leak-check=full --show-leak-kinds=all --errors-for-leak-kinds=all
 
-.PHONY: all archive tool demo test test-exported test-c test-calls test-tool test-demo test-install compare seeded fuzz \
-    bench valgrind install uninstall clean-kit
+.PHONY: all archive shared tool demo check test test-exported test-c test-calls test-strict test-tool test-format \
+    test-demo test-readme test-install test-dist compare seeded fuzz bench valgrind dist install uninstall clean help
 .DELETE_ON_ERROR:
 
-all: archive tool $(KIT)/incident
+all: archive shared tool $(KIT)/incident
+
+help:
+	@sed -n '4,/^$$/s/^# \{0,1\}//p' $(firstword $(MAKEFILE_LIST))
 
 # Proved and built again only if something it is made of changed.
 PROVED = crates.txt $(shell find crates -type f \( -path '*/src/*' -o -path '*/specs/*' -o -path '*/proofs/*' \))
@@ -51,7 +76,13 @@ $(ARCHIVE): $(PROVED)
 	touch $@
 
 archive: $(ARCHIVE)
+shared: $(SHARED)
 tool: $(KIT)/ngulo
+
+# The archive whole. No start-up code: the library has no state that would need it.
+$(SHARED): $(ARCHIVE) Makefile ngulo.map include/ngulo.h | $(KIT)
+	$(CC) -shared -nostartfiles $(CFLAGS) $(LDFLAGS) -Wl,-soname,$(SONAME) -Wl,--version-script,ngulo.map \
+	    -Wl,-z,defs,-z,text,-z,noexecstack,-z,relro,-z,now -Wl,--whole-archive $(ARCHIVE) -Wl,--no-whole-archive -o $@
 
 $(KIT)/ngulo: $(TOOL) $(HEADERS) $(ARCHIVE) | $(KIT)
 	$(C99) $(TOOL) $(ARCHIVE) -o $@
@@ -77,7 +108,8 @@ test-exported:
 	tests/exported --check
 	tests/believed --check
 
-test-c: test-calls test-tool test-demo test-install
+check: test-c
+test-c: test-calls test-strict test-tool test-format test-demo test-readme test-install test-dist
 
 # The calls and the header, as C and as C++.
 test-calls: $(KIT)/calls $(KIT)/calls-cpp $(KIT)/header $(KIT)/header-cpp
@@ -86,16 +118,29 @@ test-calls: $(KIT)/calls $(KIT)/calls-cpp $(KIT)/header $(KIT)/header-cpp
 	$(KIT)/calls
 	$(KIT)/calls-cpp
 
+test-strict:
+	CC='$(CC)' CXX='$(CXX)' tests/strict
+
 test-tool: $(KIT)/ngulo $(KIT)/ngulo-cpp
 	tests/tool $(KIT)/ngulo
 	tests/tool $(KIT)/ngulo-cpp
+
+test-format: $(KIT)/ngulo
+	tests/format $(KIT)/ngulo
 
 test-demo: $(KIT)/incident $(KIT)/incident-cpp
 	tests/demo $(KIT)/incident
 	tests/demo $(KIT)/incident-cpp
 
+# The commands of README.md call make themselves.
+test-readme: $(KIT)/ngulo $(KIT)/incident
+	env -u MAKEFLAGS -u MAKELEVEL tests/readme
+
 test-install: all
 	CC='$(CC)' CXX='$(CXX)' tests/install
+
+test-dist: dist
+	CC='$(CC)' CXX='$(CXX)' tests/dist $(TARBALL)
 
 compare seeded fuzz bench: archive
 compare:
@@ -113,19 +158,48 @@ valgrind: $(KIT)/ngulo $(KIT)/incident $(KIT)/calls $(KIT)/header
 	tests/demo $(VALGRIND) $(KIT)/incident
 	tests/tool $(VALGRIND) $(KIT)/ngulo
 
-install: archive tool
-	$(if $(filter-out /%,$(PREFIX)),$(error PREFIX is not an absolute path without spaces: $(PREFIX)))
-	install -d '$(DESTDIR)$(BINDIR)' '$(DESTDIR)$(INCLUDEDIR)' '$(DESTDIR)$(LIBDIR)/pkgconfig'
+# ngulo.pc goes by its own place in the usual layout, so that the folder can be moved; any other place it names in full.
+PC_PREFIX = $(if $(filter $(PREFIX)/lib,$(LIBDIR)),$${pcfiledir}/../..,$(PREFIX))
+below_prefix = $(patsubst $(PREFIX)/%,$${prefix}/%,$(1))
+
+install: archive shared tool
+	$(foreach v,PREFIX BINDIR INCLUDEDIR LIBDIR MANDIR DOCDIR,$(if $(filter-out /%,$($(v))),$(error \
+	    $(v) is not an absolute path without spaces: $($(v)))))
+	install -d '$(DESTDIR)$(BINDIR)' '$(DESTDIR)$(INCLUDEDIR)' '$(DESTDIR)$(LIBDIR)/pkgconfig' \
+	    '$(DESTDIR)$(MANDIR)/man1' '$(DESTDIR)$(DOCDIR)'
+	install -m 755 $(KIT)/ngulo '$(DESTDIR)$(BINDIR)/ngulo'
 	install -m 644 include/ngulo.h '$(DESTDIR)$(INCLUDEDIR)/ngulo.h'
 	install -m 644 $(ARCHIVE) '$(DESTDIR)$(LIBDIR)/libngulo.a'
-	install -m 755 $(KIT)/ngulo '$(DESTDIR)$(BINDIR)/ngulo'
-	sed -e 's|@PREFIX@|$(PREFIX)|' -e 's|@INCLUDEDIR@|$(INCLUDEDIR)|' -e 's|@LIBDIR@|$(LIBDIR)|' \
-	    -e 's|@VERSION@|$(VERSION)|' ngulo.pc.in >$(KIT)/ngulo.pc
-	install -m 644 $(KIT)/ngulo.pc '$(DESTDIR)$(LIBDIR)/pkgconfig/ngulo.pc'
+	install -m 755 $(SHARED) '$(DESTDIR)$(LIBDIR)/libngulo.so.$(VERSION)'
+	ln -sf libngulo.so.$(VERSION) '$(DESTDIR)$(LIBDIR)/$(SONAME)'
+	ln -sf $(SONAME) '$(DESTDIR)$(LIBDIR)/libngulo.so'
+	sed -e 's|@PREFIX@|$(PC_PREFIX)|' -e 's|@INCLUDEDIR@|$(call below_prefix,$(INCLUDEDIR))|' \
+	    -e 's|@LIBDIR@|$(call below_prefix,$(LIBDIR))|' -e 's|@VERSION@|$(VERSION)|' ngulo.pc.in \
+	    >'$(DESTDIR)$(LIBDIR)/pkgconfig/ngulo.pc'
+	chmod 644 '$(DESTDIR)$(LIBDIR)/pkgconfig/ngulo.pc'
+	install -m 644 docs/ngulo.1 '$(DESTDIR)$(MANDIR)/man1/ngulo.1'
+	install -m 644 $(DOCUMENTS) '$(DESTDIR)$(DOCDIR)'
 
+LIBRARY = libngulo.a libngulo.so $(SONAME) libngulo.so.$(VERSION) pkgconfig/ngulo.pc
 uninstall:
-	rm -f '$(DESTDIR)$(BINDIR)/ngulo' '$(DESTDIR)$(INCLUDEDIR)/ngulo.h' '$(DESTDIR)$(LIBDIR)/libngulo.a' \
-	    '$(DESTDIR)$(LIBDIR)/pkgconfig/ngulo.pc'
+	rm -f '$(DESTDIR)$(BINDIR)/ngulo' '$(DESTDIR)$(INCLUDEDIR)/ngulo.h' '$(DESTDIR)$(MANDIR)/man1/ngulo.1' \
+	    $(foreach f,$(LIBRARY),'$(DESTDIR)$(LIBDIR)/$(f)') $(foreach f,$(notdir $(DOCUMENTS)),'$(DESTDIR)$(DOCDIR)/$(f)')
+	[ ! -d '$(DESTDIR)$(DOCDIR)' ] || rmdir --ignore-fail-on-non-empty '$(DESTDIR)$(DOCDIR)'
 
-clean-kit:
-	rm -rf $(KIT)
+# The tarball is a prefix with examples and samples. The same bytes each time: names in order, no owner, one time for all.
+EXTRAS = examples/bench.c examples/bench.py $(shell find samples -name '*.hex')
+EPOCH = $(or $(SOURCE_DATE_EPOCH),$(shell git log -1 --format=%ct 2>/dev/null || stat -c %Y include/ngulo.h))
+dist: archive shared tool
+	rm -rf $(DIST)/$(NAME) $(TARBALL)
+	$(MAKE) --no-print-directory install DESTDIR=$(DIST) PREFIX=/$(NAME) BINDIR=/$(NAME)/bin \
+	    INCLUDEDIR=/$(NAME)/include LIBDIR=/$(NAME)/lib MANDIR=/$(NAME)/share/man DOCDIR=/$(NAME)/share/doc/ngulo
+	for f in $(EXTRAS); do install -D -m 644 $$f $(DIST)/$(NAME)/$$f || exit 1; done
+	install -m 644 docs/KIT.md $(DIST)/$(NAME)/README.md
+	tar -C $(DIST) --format=ustar --sort=name --owner=0 --group=0 --numeric-owner --mode=u=rwX,go=rX \
+	    --mtime=@$(EPOCH) -cf $(TARBALL:.gz=) $(NAME)
+	gzip -9nf $(TARBALL:.gz=)
+	rm -rf $(DIST)/$(NAME)
+
+clean:
+	rm -rf $(KIT) $(DIST)
+	@echo "The proved archive stays; rm -rf target removes it too, and it takes minutes to make."

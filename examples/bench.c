@@ -4,14 +4,29 @@
 #include <inttypes.h>
 #include <stdio.h>
 
-/* Case 12 of document 01: four globals, a temporary, five ops. */
+/* Four globals, a temporary, five ops. docs/FORMAT.md says what the bytes of each record are. */
 static const uint8_t block[] = {
-    0x01, 0x00, 0x01, 0x01, 0x00, 0x00, 0x01, 0x00, 0x00, 0x01, 0x00, 0x00, 0x01, 0x02, 0x00, /* declarations */
-    0x10, 0x04, 0x01, 0x00, 0x00, 0x00, 0x00, 0x00, 0x00, 0x00,                               /* movi_i32 v4, 1 */
-    0x14, 0x01, 0x02, 0x03,                                                                   /* add_i32 v1, v2, v3 */
-    0x14, 0x01, 0x01, 0x04,                                                                   /* add_i32 v1, v1, v4 */
-    0x11, 0x01, 0x04,                                                                         /* mov_i32 v1, v4 */
-    0x04, 0x00};                                                                              /* exit_tb v0 */
+    NGULO_KIND_DECL, NGULO_CLASS_GLOBAL, NGULO_TYPE_I64,    /* v0 */
+    NGULO_KIND_DECL, NGULO_CLASS_GLOBAL, NGULO_TYPE_I32,    /* v1 */
+    NGULO_KIND_DECL, NGULO_CLASS_GLOBAL, NGULO_TYPE_I32,    /* v2 */
+    NGULO_KIND_DECL, NGULO_CLASS_GLOBAL, NGULO_TYPE_I32,    /* v3 */
+    NGULO_KIND_DECL, NGULO_CLASS_TEMPORARY, NGULO_TYPE_I32, /* v4 */
+    NGULO_KIND_MOVI_I32, 4, 1, 0, 0, 0, 0, 0, 0, 0,         /* v4 = 1 */
+    NGULO_KIND_ADD_I32, 1, 2, 3,                            /* v1 = v2 + v3 */
+    NGULO_KIND_ADD_I32, 1, 1, 4,                            /* v1 = v1 + v4 */
+    NGULO_KIND_MOV_I32, 1, 4,                               /* v1 = v4 */
+    NGULO_KIND_EXIT_TB, 0};                                 /* leave with v0 */
+
+/* The header that a program was compiled with and the library it runs with may differ. */
+static void compare_versions(void)
+{
+    unsigned version = (unsigned)ngulo_version();
+
+    if (version != NGULO_VERSION_NUMBER) {
+        fprintf(stderr, "bench: compiled with ngulo.h %s, running with library %u.%u.%u\n", NGULO_VERSION, version >> 16,
+                version >> 8 & 255, version & 255);
+    }
+}
 
 static int refused(const char *call, uint64_t answer)
 {
@@ -48,6 +63,7 @@ int main(void)
     uint8_t result[NGULO_MAX_RESULT];
     uint64_t answer = ngulo_check(block, sizeof block);
 
+    compare_versions();
     if (ngulo_is_refused(answer)) {
         return refused("check", answer);
     }

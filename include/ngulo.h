@@ -47,6 +47,13 @@
 #define NGULO_USE_ANSWER
 #endif
 
+/* What a function with a large frame is, in place of static inline: gcc would warn that it does not inline it. */
+#if defined(__GNUC__) && !defined(__clang__)
+#define NGULO_STATIC __attribute__((unused)) static
+#else
+#define NGULO_STATIC static inline
+#endif
+
 #ifdef __cplusplus
 #define NGULO_CAST(type, value) static_cast<type>(value)
 extern "C" {
@@ -241,7 +248,7 @@ static inline size_t ngulo_result_bound(size_t block_length)
  * ngulo_pass onto the block itself, through a buffer on the stack. The buffer has room for buffer_length bytes, and the
  * block is the first block_length of them. Answers as ngulo_pass with the whole buffer as out; a refusal leaves it as it was.
  */
-NGULO_USE_ANSWER static inline uint64_t ngulo_pass_in_place(uint8_t *buffer, size_t block_length, size_t buffer_length)
+NGULO_USE_ANSWER NGULO_STATIC uint64_t ngulo_pass_in_place(uint8_t *buffer, size_t block_length, size_t buffer_length)
 {
     uint8_t result[NGULO_MAX_RESULT];
     uint64_t answer = ngulo_pass(buffer, block_length, result, buffer_length < sizeof result ? buffer_length : sizeof result);

@@ -1,4 +1,7 @@
-/* The calls for C on case 12 of document 01, on a fault, on an op without a stated result, on every refusal, and with no bytes lent. Answers 0 if all are as they should be. */
+/*
+ * The calls for C on case 12, on a fault, on an op without a stated result, on every refusal, with no bytes lent, and in
+ * place. Answers 0 if all are as they should be.
+ */
 #include "ngulo.h"
 
 #include <stdio.h>
@@ -62,6 +65,50 @@ static void runs(void)
     expect("case 12: global 1", globals[1], 1);
     expect("too few globals", ngulo_run_nullable(case12, sizeof case12, globals, 3, NULL, 0, report), 11);
     expect_report("a refused run's report", report, 1, 7, 0, 2);
+}
+
+/* The pass onto the block itself gives the bytes of the pass, or leaves the buffer. */
+static void optimises_in_place(void)
+{
+    uint8_t buffer[64];
+    size_t i;
+
+    memset(buffer, 0xEE, sizeof buffer);
+    memcpy(buffer, case12, sizeof case12);
+    expect("in place", ngulo_pass_in_place(buffer, sizeof case12, sizeof buffer), 256 * sizeof case12_out);
+    expect("in place: result", (uint64_t)memcmp(buffer, case12_out, sizeof case12_out), 0);
+    for (i = sizeof case12_out; i < sizeof buffer; i += 1) {
+        expect("in place: bytes after the result", buffer[i], i < sizeof case12 ? case12[i] : 0xEE);
+    }
+    memcpy(buffer, case12, sizeof case12);
+    expect("in place: exact room", ngulo_pass_in_place(buffer, sizeof case12, sizeof case12), 256 * sizeof case12_out);
+    expect("in place: the result again", ngulo_pass_in_place(buffer, sizeof case12_out, sizeof case12), 256 * sizeof case12_out);
+    expect("in place: the result again", (uint64_t)memcmp(buffer, case12_out, sizeof case12_out), 0);
+}
+
+/* a constant to one global, a copy of it to another, an exit: the copy becomes a constant, and the block longer */
+static const uint8_t longer[] = {0x01, 0x00, 0x01, 0x01, 0x00, 0x01, 0x90, 0x00, 0x07, 0x00, 0x00, 0x00,
+                                 0x00, 0x00, 0x00, 0x00, 0x91, 0x01, 0x00, 0x04, 0x01};
+
+/* A result longer than its block is refused without room, and the buffer left; with room it is the bytes of the pass. */
+static void grows_in_place(void)
+{
+    uint8_t out[NGULO_MAX_RESULT];
+    uint8_t buffer[NGULO_MAX_RESULT];
+    uint64_t answer = ngulo_pass(longer, sizeof longer, out, sizeof out);
+    size_t length = ngulo_result_length(answer);
+
+    expect("a longer result", answer, 256 * (sizeof longer + 7));
+    expect("a longer result: bound", length <= ngulo_result_bound(sizeof longer), 1);
+    memcpy(buffer, longer, sizeof longer);
+    expect("no room in place", ngulo_pass_in_place(buffer, sizeof longer, length - 1), NGULO_REFUSAL_NO_ROOM);
+    expect("no room in place: buffer", (uint64_t)memcmp(buffer, longer, sizeof longer), 0);
+    expect("room in place", ngulo_pass_in_place(buffer, sizeof longer, length), answer);
+    expect("room in place: result", (uint64_t)memcmp(buffer, out, length), 0);
+    memcpy(buffer, longer, sizeof longer);
+    buffer[0] = 0xFF;
+    expect("refused in place", ngulo_pass_in_place(buffer, sizeof longer, sizeof buffer), NGULO_REFUSAL_UNKNOWN_KIND);
+    expect("refused in place: buffer", (uint64_t)memcmp(buffer + 1, longer + 1, sizeof longer - 1) || buffer[0] != 0xFF, 0);
 }
 
 /* a global written, a 4-byte store past the memory, an exit */
@@ -190,6 +237,40 @@ static void limits(void)
     expect_report("65,536 bytes", report, NGULO_ENDING_EXIT, 7, 0, 1);
 }
 
+/* So many globals, the first given a constant and every other one a copy of it; an exit. */
+static size_t fill_known(uint8_t *bytes, size_t globals)
+{
+    size_t i;
+    size_t at = fill(bytes, globals, 0) - 2;
+
+    memset(bytes + at, 0, 10);
+    bytes[at] = NGULO_KIND_MOVI_I64;
+    at += 10;
+    for (i = 1; i < globals; i += 1, at += 3) {
+        bytes[at] = NGULO_KIND_MOV_I64;
+        bytes[at + 1] = (uint8_t)i;
+        bytes[at + 2] = 0;
+    }
+    bytes[at] = NGULO_KIND_EXIT_TB;
+    bytes[at + 1] = 0;
+    return at + 2;
+}
+
+/* Each copy becomes a constant, 7 bytes longer, and the bound has room for all. */
+static void bounded(void)
+{
+    uint8_t bytes[6 * NGULO_MAX_VARIABLES + 12];
+    uint8_t out[NGULO_MAX_RESULT];
+    size_t globals;
+
+    for (globals = 1; globals <= NGULO_MAX_VARIABLES; globals += 1) {
+        size_t length = fill_known(bytes, globals);
+        uint64_t answer = ngulo_pass(bytes, length, out, ngulo_result_bound(length));
+
+        expect("copies of a constant", answer, 256 * (length + 7 * (globals - 1)));
+    }
+}
+
 /* Any pointer will do where the length is 0. */
 static void lends_nothing(void)
 {
@@ -224,7 +305,11 @@ static void lends_all(void)
 
 int main(void)
 {
+    expect("version", ngulo_version(), NGULO_VERSION_NUMBER);
     optimises();
+    optimises_in_place();
+    grows_in_place();
+    bounded();
     runs();
     stops();
     refuses();

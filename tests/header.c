@@ -1,4 +1,7 @@
-/* The header by itself, as C and as C++: its constants, answers and reports taken apart, and what the nullable calls pass on. The library's calls are stood in for here. */
+/*
+ * The header by itself, as C and as C++: its constants, answers and reports taken apart, and what the nullable calls and
+ * the pass in place pass on. The library's calls are stood in for here.
+ */
 #include "ngulo.h"
 #include "ngulo.h"
 
@@ -36,7 +39,58 @@ static void constants(void)
     expect("exit", NGULO_ENDING_EXIT, 1);
     expect("fault", NGULO_ENDING_FAULT, 2);
     expect("no result", NGULO_ENDING_NO_RESULT, 3);
+    expect("report: ending", NGULO_REPORT_ENDING, 0);
+    expect("report: detail", NGULO_REPORT_DETAIL, 1);
+    expect("report: access", NGULO_REPORT_ACCESS, 2);
+    expect("report: count", NGULO_REPORT_COUNT, 3);
     expect("report", NGULO_REPORT_LENGTH, 4);
+}
+
+/* The numbers of kinds are compared one by one elsewhere, with docs/FORMAT.md. */
+static void numbers(void)
+{
+    expect("first kind", NGULO_KIND_DECL, 0x01);
+    expect("first op by width", NGULO_KIND_MOVI_I32, 0x10);
+    expect("last op by width", NGULO_KIND_QEMU_ST_I32, 0x2C);
+    expect("first wide op", NGULO_KIND_MOVI_I64, NGULO_KIND_MOVI_I32 + NGULO_KIND_WIDE);
+    expect("last wide op", NGULO_KIND_QEMU_ST_I64, NGULO_KIND_QEMU_ST_I32 + NGULO_KIND_WIDE);
+    expect("global", NGULO_CLASS_GLOBAL, 0);
+    expect("local temporary", NGULO_CLASS_LOCAL, 1);
+    expect("temporary", NGULO_CLASS_TEMPORARY, 2);
+    expect("32 bits", NGULO_TYPE_I32, 0);
+    expect("64 bits", NGULO_TYPE_I64, 1);
+    expect("first condition", NGULO_COND_EQ, 0);
+    expect("first unsigned condition", NGULO_COND_LTU, 6);
+    expect("last condition", NGULO_COND_GTU, 9);
+    expect("flags", NGULO_FLAG_SIZE + NGULO_FLAG_SIGNED + NGULO_FLAG_BIG_ENDIAN, 15);
+}
+
+/* The version is said once in words and once in numbers. */
+static void versions(void)
+{
+    char words[32];
+
+    sprintf(words, "%d.%d.%d", NGULO_VERSION_MAJOR, NGULO_VERSION_MINOR, NGULO_VERSION_PATCH);
+    expect("version in words", (uint64_t)strcmp(words, NGULO_VERSION), 0);
+    expect("version: major", NGULO_VERSION_NUMBER / 65536, NGULO_VERSION_MAJOR);
+    expect("version: minor", NGULO_VERSION_NUMBER / 256 % 256, NGULO_VERSION_MINOR);
+    expect("version: patch", NGULO_VERSION_NUMBER % 256, NGULO_VERSION_PATCH);
+}
+
+/* Every 3 bytes may become 10, but no result is longer than NGULO_MAX_RESULT. */
+static void bounds(void)
+{
+    expect("bound of 0", ngulo_result_bound(0), 0);
+    expect("bound of 2", ngulo_result_bound(2), 2);
+    expect("bound of 5", ngulo_result_bound(5), 12);
+    expect("bound of 38", ngulo_result_bound(38), 122);
+    expect("bound of 825", ngulo_result_bound(825), 2750);
+    expect("bound of 827", ngulo_result_bound(827), NGULO_MAX_RESULT);
+    expect("bound of 828", ngulo_result_bound(828), NGULO_MAX_RESULT);
+    expect("bound of 1000", ngulo_result_bound(1000), NGULO_MAX_RESULT);
+    expect("bound of 2752", ngulo_result_bound(2752), NGULO_MAX_RESULT);
+    expect("bound that size_t cannot hold", ngulo_result_bound((SIZE_MAX / 10 + 1) * 3), NGULO_MAX_RESULT);
+    expect("bound of SIZE_MAX", ngulo_result_bound(SIZE_MAX), NGULO_MAX_RESULT);
 }
 
 static void answers(void)
@@ -57,7 +111,8 @@ static void reports(void)
 {
     static const uint64_t leaves[NGULO_REPORT_LENGTH] = {1, UINT64_MAX, 0, 5};
     static const uint64_t loads[NGULO_REPORT_LENGTH] = {2, UINT64_MAX - 1, 0x0F, 3};
-    static const uint64_t stores[NGULO_REPORT_LENGTH] = {2, 16, 0x08 + 256, 256};
+    static const uint64_t stores[NGULO_REPORT_LENGTH] = {2, 16, 0x0A + 256, 256};
+    static const uint64_t little[NGULO_REPORT_LENGTH] = {2, 16, 0x04, 1};
     static const uint64_t unstated[NGULO_REPORT_LENGTH] = {3, 4, 0, 2};
 
     expect("exit", ngulo_report_ending(leaves), NGULO_ENDING_EXIT);
@@ -68,10 +123,17 @@ static void reports(void)
     expect("load: store", (uint64_t)ngulo_report_fault_is_store(loads), 0);
     expect("load: flags", ngulo_report_fault_flags(loads), NGULO_FLAG_BIG_ENDIAN + NGULO_FLAG_SIGNED + 3);
     expect("load: size", ngulo_report_fault_size(loads), 8);
+    expect("load: signed", (uint64_t)ngulo_report_fault_is_signed(loads), 1);
+    expect("load: big-endian", (uint64_t)ngulo_report_fault_is_big_endian(loads), 1);
     expect("store: address", ngulo_report_fault_address(stores), 16);
     expect("store: store", (uint64_t)ngulo_report_fault_is_store(stores), 1);
-    expect("store: flags", ngulo_report_fault_flags(stores), NGULO_FLAG_BIG_ENDIAN);
-    expect("store: size", ngulo_report_fault_size(stores), 1);
+    expect("store: flags", ngulo_report_fault_flags(stores), NGULO_FLAG_BIG_ENDIAN + 2);
+    expect("store: size", ngulo_report_fault_size(stores), 4);
+    expect("store: signed", (uint64_t)ngulo_report_fault_is_signed(stores), 0);
+    expect("store: big-endian", (uint64_t)ngulo_report_fault_is_big_endian(stores), 1);
+    expect("little-endian", (uint64_t)ngulo_report_fault_is_big_endian(little), 0);
+    expect("little-endian: signed", (uint64_t)ngulo_report_fault_is_signed(little), 1);
+    expect("little-endian: size", ngulo_report_fault_size(little), 1);
     expect("store: count", ngulo_report_count(stores), 256);
     expect("no result", ngulo_report_ending(unstated), NGULO_ENDING_NO_RESULT);
     expect("no result: position", ngulo_report_position(unstated), 4);
@@ -84,25 +146,34 @@ static struct lent {
     size_t block_length, out_length, globals_length, memory_length;
 } lent;
 
-uint64_t ngulo_check(const uint8_t *block, size_t block_length)
+static uint64_t pass_answer = 102;
+
+static void lend_block(const uint8_t *block, size_t block_length)
 {
     lent.block = block;
     lent.block_length = block_length;
+}
+
+uint64_t ngulo_check(const uint8_t *block, size_t block_length)
+{
+    lend_block(block, block_length);
     return 101;
 }
 
+/* Fills out whatever it answers, so that one sees what is taken from there. */
 uint64_t ngulo_pass(const uint8_t *block, size_t block_length, uint8_t *out, size_t out_length)
 {
-    ngulo_check(block, block_length);
+    lend_block(block, block_length);
     lent.out = out;
     lent.out_length = out_length;
-    return 102;
+    memset(out, 0xAA, out_length);
+    return pass_answer;
 }
 
 uint64_t ngulo_run(const uint8_t *block, size_t block_length, uint64_t *globals, size_t globals_length,
                    uint8_t *memory, size_t memory_length, uint64_t report[4])
 {
-    ngulo_check(block, block_length);
+    lend_block(block, block_length);
     lent.globals = globals;
     lent.globals_length = globals_length;
     lent.memory = memory;
@@ -152,6 +223,40 @@ static void nullable_with_all(void)
     expect("run: report", lent.report == report, 1);
 }
 
+/* The pass answers so and writes all it is lent: how many bytes of a buffer with this room are written over? */
+static size_t written_in_place(uint64_t answer, size_t room)
+{
+    static uint8_t buffer[NGULO_MAX_RESULT + 8];
+    size_t written = 0;
+    size_t i;
+
+    memset(&lent, 0, sizeof lent);
+    memset(buffer, 0xEE, sizeof buffer);
+    pass_answer = answer;
+    expect("in place", ngulo_pass_in_place(buffer, 3, room), answer);
+    pass_answer = 102;
+    expect("in place: block", lent.block == buffer && lent.block_length == 3, 1);
+    expect("in place: out", lent.out != buffer && lent.out != NULL, 1);
+    expect("in place: room", lent.out_length, room < NGULO_MAX_RESULT ? room : NGULO_MAX_RESULT);
+    while (written < sizeof buffer && buffer[written] == 0xAA) {
+        written += 1;
+    }
+    for (i = written; i < sizeof buffer; i += 1) {
+        expect("in place: bytes after the result", buffer[i], 0xEE);
+    }
+    return written;
+}
+
+static void in_place(void)
+{
+    expect("in place: a result", written_in_place(256 * 2, 9), 2);
+    expect("in place: a result that fills the room", written_in_place(256 * 9, 9), 9);
+    expect("in place: the longest result", written_in_place((uint64_t)256 * NGULO_MAX_RESULT, NGULO_MAX_RESULT + 8),
+           NGULO_MAX_RESULT);
+    expect("in place: no room", written_in_place(NGULO_REFUSAL_NO_ROOM, 9), 0);
+    expect("in place: a refusal with a place", written_in_place(NGULO_REFUSAL_UNDECLARED + 256 * 3, 9), 0);
+}
+
 /* Each number has words of its own. */
 static void texts(void)
 {
@@ -171,10 +276,14 @@ static void texts(void)
 int main(void)
 {
     constants();
+    numbers();
+    versions();
+    bounds();
     answers();
     reports();
     nullable_with_nothing();
     nullable_with_all();
+    in_place();
     texts();
     if (failures == 0) {
         puts("header: as it should be");
