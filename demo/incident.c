@@ -130,10 +130,11 @@ static unsigned print_later(const struct printer printers[BLOCKS])
 static void print_counts(const struct printer printers[BLOCKS])
 {
     printf("  %-27s%-18u%-18u%u\n", "ops run", (unsigned)ngulo_report_count(printers[ORIGINAL].report),
-           (unsigned)ngulo_report_count(printers[HOMEMADE].report), (unsigned)ngulo_report_count(printers[OURS].report));
+           (unsigned)ngulo_report_count(printers[HOMEMADE].report),
+           (unsigned)ngulo_report_count(printers[OURS].report));
 }
 
-/* Which printers differ from the original's in what the rows do not show: the whole report but the count, and memory. */
+/* Which printers differ from the original's in what no row shows: the whole report but the count, and memory. */
 static unsigned differ_elsewhere(const struct printer printers[BLOCKS])
 {
     unsigned differ = 0;

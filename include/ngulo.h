@@ -194,7 +194,7 @@ enum ngulo_ending {
 /* The places of a report. */
 enum ngulo_report_place {
     NGULO_REPORT_ENDING = 0,
-    NGULO_REPORT_DETAIL = 1,  /* exit: value; fault: address; no stated result: the op's position among the ops, from 0 */
+    NGULO_REPORT_DETAIL = 1,  /* exit: value; fault: address; no stated result: the op's position, from 0 */
     NGULO_REPORT_ACCESS = 2,  /* fault: flags, and 256 more for a store; else 0 */
     NGULO_REPORT_COUNT = 3,   /* ops run */
     NGULO_REPORT_LENGTH = 4
@@ -223,19 +223,21 @@ NGULO_USE_ANSWER NGULO_API uint64_t ngulo_check(const uint8_t *block, size_t blo
  * The result is accepted, and does what the block did: same exit or same fault, same globals, same memory, in no
  * more ops; unless the block's run meets an op without a stated result.
  */
-NGULO_USE_ANSWER NGULO_API uint64_t ngulo_pass(const uint8_t *block, size_t block_length, uint8_t *out, size_t out_length);
+NGULO_USE_ANSWER NGULO_API uint64_t ngulo_pass(const uint8_t *block, size_t block_length, uint8_t *out,
+                                               size_t out_length);
 
 /*
  * Runs the block on globals (as many as it declares, a 32-bit one below 2^32) and memory (at most NGULO_MAX_MEMORY).
  * Answers 0 with how the run ended in report; globals and memory hold what the completed ops left.
  * Else number + 256 * place, and globals, memory and report stay as they were.
  */
-NGULO_USE_ANSWER NGULO_API uint64_t ngulo_run(const uint8_t *block, size_t block_length, uint64_t *globals, size_t globals_length,
-                   uint8_t *memory, size_t memory_length, uint64_t report[4]);
+NGULO_USE_ANSWER NGULO_API uint64_t ngulo_run(const uint8_t *block, size_t block_length, uint64_t *globals,
+                                              size_t globals_length, uint8_t *memory, size_t memory_length,
+                                              uint64_t report[4]);
 
 /*
  * The most bytes that the result of a block of this length can take, if you do not want to lend NGULO_MAX_RESULT.
- * A result can be longer than its block: an op of 3 bytes may become one of 10. (Proved: crates/ngulo/specs/Bound.antt.)
+ * A result can be longer than its block: an op of 3 bytes may become one of 10 (proved: crates/ngulo/specs/Bound.antt).
  */
 static inline size_t ngulo_result_bound(size_t block_length)
 {
@@ -246,12 +248,14 @@ static inline size_t ngulo_result_bound(size_t block_length)
 
 /*
  * ngulo_pass onto the block itself, through a buffer on the stack. The buffer has room for buffer_length bytes, and the
- * block is the first block_length of them. Answers as ngulo_pass with the whole buffer as out; a refusal leaves it as it was.
+ * block is the first block_length of them. Answers as ngulo_pass with the whole buffer as out; a refusal leaves it as
+ * it was.
  */
 NGULO_USE_ANSWER NGULO_STATIC uint64_t ngulo_pass_in_place(uint8_t *buffer, size_t block_length, size_t buffer_length)
 {
     uint8_t result[NGULO_MAX_RESULT];
-    uint64_t answer = ngulo_pass(buffer, block_length, result, buffer_length < sizeof result ? buffer_length : sizeof result);
+    size_t room = buffer_length < sizeof result ? buffer_length : sizeof result;
+    uint64_t answer = ngulo_pass(buffer, block_length, result, room);
 
     if ((answer & 255) == 0) {
         memcpy(buffer, result, answer >> 8);
@@ -268,7 +272,8 @@ NGULO_USE_ANSWER static inline uint64_t ngulo_check_nullable(const uint8_t *bloc
     return ngulo_check(block_length == 0 ? &none : block, block_length);
 }
 
-NGULO_USE_ANSWER static inline uint64_t ngulo_pass_nullable(const uint8_t *block, size_t block_length, uint8_t *out, size_t out_length)
+NGULO_USE_ANSWER static inline uint64_t ngulo_pass_nullable(const uint8_t *block, size_t block_length, uint8_t *out,
+                                                            size_t out_length)
 {
     const uint8_t none = 0;
     uint8_t no_out = 0;
@@ -277,8 +282,8 @@ NGULO_USE_ANSWER static inline uint64_t ngulo_pass_nullable(const uint8_t *block
 }
 
 NGULO_USE_ANSWER static inline uint64_t ngulo_run_nullable(const uint8_t *block, size_t block_length, uint64_t *globals,
-                                          size_t globals_length, uint8_t *memory, size_t memory_length,
-                                          uint64_t report[4])
+                                                           size_t globals_length, uint8_t *memory,
+                                                           size_t memory_length, uint64_t report[4])
 {
     const uint8_t none = 0;
     uint64_t no_globals = 0;

@@ -81,12 +81,11 @@ static void versions(void)
 static void bounds(void)
 {
     expect("bound of 0", ngulo_result_bound(0), 0);
-    expect("bound of 2", ngulo_result_bound(2), 2);
-    expect("bound of 5", ngulo_result_bound(5), 12);
-    expect("bound of 38", ngulo_result_bound(38), 122);
+    expect("bound of 2", ngulo_result_bound(2), 6);
+    expect("bound of 5", ngulo_result_bound(5), 16);
+    expect("bound of 38", ngulo_result_bound(38), 126);
     expect("bound of 825", ngulo_result_bound(825), 2750);
-    expect("bound of 827", ngulo_result_bound(827), NGULO_MAX_RESULT);
-    expect("bound of 828", ngulo_result_bound(828), NGULO_MAX_RESULT);
+    expect("bound of 826", ngulo_result_bound(826), NGULO_MAX_RESULT);
     expect("bound of 1000", ngulo_result_bound(1000), NGULO_MAX_RESULT);
     expect("bound of 2752", ngulo_result_bound(2752), NGULO_MAX_RESULT);
     expect("bound that size_t cannot hold", ngulo_result_bound((SIZE_MAX / 10 + 1) * 3), NGULO_MAX_RESULT);

@@ -13,8 +13,10 @@
 
 int judge_names(const struct request *request, const struct records *block)
 {
-    if (count_names(request->names) > block->globals) {
-        return complain("--names: %u names, the block declares %u globals", count_names(request->names), block->globals);
+    unsigned names = count_names(request->names);
+
+    if (names > block->globals) {
+        return complain("--names: %u names, the block declares %u globals", names, block->globals);
     }
     return STATUS_DONE;
 }

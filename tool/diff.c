@@ -109,8 +109,8 @@ static int diff_seeded(const struct request *request, const struct side sides[2]
         endings[ngulo_report_ending(reports[0]) & 3] += 1;
     }
     if (endings[NGULO_ENDING_NO_RESULT] == runs) {
-        printf("nothing to compare in %" PRIu64 " runs from seed %" PRIu64 ": %s meets an op without a stated result\n", runs,
-               seed, sides[0].name);
+        printf("nothing to compare in %" PRIu64 " runs from seed %" PRIu64 ": %s meets an op without a stated result\n",
+               runs, seed, sides[0].name);
         return STATUS_DONE;
     }
     printf("no difference in %" PRIu64 " runs from seed %" PRIu64 ": exits %" PRIu64 ", faults %" PRIu64

@@ -25,9 +25,9 @@ enum difference { SAME, DIFFERENT, EXEMPT };
 int print_other_globals(const struct side sides[2]);
 
 /*
- * Runs both sides, each on a copy of a state that fits them. EXEMPT if the first side's run meets an op without a stated
- * result: then nothing is asked of the second. DIFFERENT if anything else is not alike, or the second side runs more
- * ops: then the first difference is printed in words, without a line feed.
+ * Runs both sides, each on a copy of a state that fits them. EXEMPT if the first side's run meets an op without a
+ * stated result: then nothing is asked of the second. DIFFERENT if anything else is not alike, or the second side runs
+ * more ops: then the first difference is printed in words, without a line feed.
  */
 enum difference compare_runs(const struct side sides[2], const struct start *start,
                              uint64_t reports[2][NGULO_REPORT_LENGTH]);

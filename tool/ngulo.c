@@ -113,8 +113,8 @@ static int say_version(void)
 {
     uint64_t version = ngulo_version();
 
-    printf("ngulo %s, library %" PRIu64 ".%" PRIu64 ".%" PRIu64 "\n", NGULO_VERSION, version / 65536, version / 256 % 256,
-           version % 256);
+    printf("ngulo %s, library %" PRIu64 ".%" PRIu64 ".%" PRIu64 "\n", NGULO_VERSION, version / 65536,
+           version / 256 % 256, version % 256);
     return STATUS_DONE;
 }
 

@@ -164,7 +164,8 @@ static int judge(const struct command *command, const struct request *request)
         return complain("--memory and --memory-file: only one of them can be given");
     }
     if (is_stdin(request->files[0]) + is_stdin(request->files[1]) + is_stdin(request->memory_file) > 1) {
-        return complain("standard input can only be one of %s and --memory-file", command->files == 1 ? "FILE" : "A, B");
+        return complain("standard input can only be one of %s and --memory-file",
+                        command->files == 1 ? "FILE" : "A, B");
     }
     if (request->explain && is_stdin(request->out)) {
         return complain("--explain: OUT cannot be standard output, which has the explanation");
