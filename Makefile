@@ -20,7 +20,7 @@
 #   make valgrind   the C programs under valgrind
 #
 # Needed: a C and a C++ compiler and GNU make; for the archive rt, the Rattle kit; for check also pkg-config and
-# python3; for compare, seeded and bench rustc; for fuzz rustc and clang with libFuzzer; for valgrind valgrind.
+# python3; for test-sweep, compare, seeded and bench rustc; for fuzz rustc and clang with libFuzzer; for valgrind valgrind.
 # CC, CXX, CPPFLAGS, CFLAGS, CXXFLAGS and LDFLAGS may come from the environment.
 
 VERSION := $(shell sed -n 's/^.define NGULO_VERSION "\(.*\)"$$/\1/p' include/ngulo.h)
@@ -58,9 +58,10 @@ DOCUMENTS = docs/FORMAT.md docs/TRUST.md CHANGELOG.md NOTICE
 HEADERS = $(wildcard include/*.h tool/*.h demo/*.h)
 TOOL = $(wildcard tool/*.c)
 DEMO = $(wildcard demo/*.c) $(addprefix tool/,input.c records.c listing.c explain.c probe.c differ.c words.c)
-VALGRIND = valgrind -q --error-exitcode=9 --leak-check=full --show-leak-kinds=all --errors-for-leak-kinds=all
+VALGRIND = valgrind -q --error-exitcode=9 --leak-check=full --show-leak-kinds=all --errors-for-leak-kinds=all \
+    --vgdb=no
 
-.PHONY: all archive shared tool demo check test test-exported test-c test-calls test-strict test-tool test-format \
+.PHONY: all archive shared tool demo check test test-exported test-c test-calls test-strict test-tool test-sweep test-format \
     test-demo test-readme test-install test-dist compare seeded fuzz bench valgrind dist install uninstall clean help
 .DELETE_ON_ERROR:
 
@@ -102,7 +103,7 @@ $(KIT):
 demo: $(KIT)/incident
 	@$(KIT)/incident samples
 
-test: test-exported test-c compare seeded
+test: test-exported test-c test-sweep compare seeded
 
 test-exported:
 	tests/exported --check
@@ -135,6 +136,10 @@ test-demo: $(KIT)/incident $(KIT)/incident-cpp
 # The commands of README.md call make themselves.
 test-readme: $(KIT)/ngulo $(KIT)/incident
 	env -u MAKEFLAGS -u MAKELEVEL tests/readme
+
+# Listings, traces, explanations and diff on blocks of the comparison.
+test-sweep: $(KIT)/ngulo
+	tests/sweep $(KIT)/ngulo
 
 test-install: all
 	CC='$(CC)' CXX='$(CXX)' tests/install
