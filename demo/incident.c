@@ -13,7 +13,6 @@
 #include "homemade.h"
 #include "mistakes.h"
 
-#include <errno.h>
 #include <stdio.h>
 #include <string.h>
 
@@ -292,9 +291,5 @@ int main(int argc, char **argv)
     if (status == STATUS_DONE) {
         status = tell(&story, argv[1]);
     }
-    errno = 0;
-    if (fflush(stdout) != 0 || ferror(stdout)) {
-        return complain("standard output: cannot write: %s", errno != 0 ? strerror(errno) : "an earlier write failed");
-    }
-    return status;
+    return finish(status);
 }

@@ -18,6 +18,15 @@ int complain(const char *format, ...)
     return STATUS_USAGE;
 }
 
+int finish(int status)
+{
+    errno = 0;
+    if (fflush(stdout) != 0 || ferror(stdout)) {
+        return complain("standard output: cannot write: %s", errno != 0 ? strerror(errno) : "an earlier write failed");
+    }
+    return status;
+}
+
 const char *shown_name(const char *path)
 {
     return strcmp(path, "-") == 0 ? "standard input" : path;
@@ -118,6 +127,17 @@ struct cursor {
     size_t line;
 };
 
+static struct cursor start_of(const struct bytes *held)
+{
+    struct cursor c;
+
+    c.text = held->data;
+    c.length = held->length;
+    c.at = 0;
+    c.line = 1;
+    return c;
+}
+
 /* Past white space and comments. */
 static void skip_blank(struct cursor *c)
 {
@@ -180,13 +200,9 @@ static int take_pair(struct cursor *c, const char *name, uint8_t *into)
 /* Hex text to bytes, in place: the text is always ahead of the bytes. */
 static int decode_hex(struct bytes *held, const char *name)
 {
-    struct cursor c;
+    struct cursor c = start_of(held);
     size_t length = 0;
 
-    c.text = held->data;
-    c.length = held->length;
-    c.at = 0;
-    c.line = 1;
     for (skip_blank(&c); c.at < c.length; skip_blank(&c)) {
         if (take_pair(&c, name, &held->data[length]) != STATUS_DONE) {
             return STATUS_USAGE;
@@ -199,13 +215,9 @@ static int decode_hex(struct bytes *held, const char *name)
 
 int looks_like_hex(const struct bytes *held)
 {
-    struct cursor c;
+    struct cursor c = start_of(held);
     int found = 0;
 
-    c.text = held->data;
-    c.length = held->length;
-    c.at = 0;
-    c.line = 1;
     for (skip_blank(&c); c.at < c.length; skip_blank(&c)) {
         if (digit_value(c.text[c.at]) < 0) {
             return 0;

@@ -1,4 +1,5 @@
-/* What the tool and the demonstration read: files, hex text, numbers. Every failure is said on standard error. */
+/* What the tool and the demonstration read: files, hex text, numbers. Every failure is said on standard error, also to
+   write standard output. */
 #ifndef NGULO_INPUT_H
 #define NGULO_INPUT_H
 
@@ -19,6 +20,9 @@ struct bytes {
 
 /* Writes "ngulo: ", the message and a line feed to standard error. Answers STATUS_USAGE. */
 int complain(const char *format, ...);
+
+/* Flushes standard output. Answers the status given, or STATUS_USAGE if something could not be written. */
+int finish(int status);
 
 /* What to call a file in messages: "-" is standard input. */
 const char *shown_name(const char *path);

@@ -3,7 +3,6 @@
 #include "input.h"
 #include "ngulo.h"
 
-#include <errno.h>
 #include <inttypes.h>
 #include <stdio.h>
 #include <stdlib.h>
@@ -197,11 +196,5 @@ static int answer(int argc, char **argv)
 
 int main(int argc, char **argv)
 {
-    int status = answer(argc, argv);
-
-    errno = 0;
-    if (fflush(stdout) != 0 || ferror(stdout)) {
-        return complain("standard output: cannot write: %s", errno != 0 ? strerror(errno) : "an earlier write failed");
-    }
-    return status;
+    return finish(answer(argc, argv));
 }
