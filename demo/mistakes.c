@@ -32,40 +32,50 @@ static const struct mistake mistakes[] = {
      {1, 0}, 2},
 };
 
-/*
- * Runs a block and what became of it. Answers 1 if they differ, and prints how. A source without a stated result is no
- * difference to the library, which leaves such an op alone; here it is one if the other block ends in another way.
- */
-static int differ(const struct mistake *mistake, const struct block *source, const char *name,
-                  const struct block *target)
+static void print_endings(const struct side sides[2], uint64_t reports[2][NGULO_REPORT_LENGTH])
 {
-    static const uint8_t memory[MEMORY] = {0};
+    char first[ENDING_SIZE];
+    char second[ENDING_SIZE];
+
+    ending_words(reports[0], first);
+    ending_words(reports[1], second);
+    printf(": %s: %s; %s: %s", sides[0].name, first, sides[1].name, second);
+}
+
+/*
+ * Runs a block and what became of it on the mistake's state. The one difference beside those of compare_runs: a block
+ * whose run meets an op without a stated result, and a target whose run does not.
+ */
+static enum difference compare(const struct mistake *mistake, const struct block *source, const char *name,
+                               const struct block *target)
+{
+    uint8_t memory[MEMORY] = {0};
+    uint64_t globals[2];
     uint64_t reports[2][NGULO_REPORT_LENGTH];
     struct side sides[2];
-    struct start start;
-    char ending[ENDING_SIZE];
+    struct state state;
+    enum difference found;
 
+    memcpy(globals, mistake->globals, sizeof globals);
     sides[0].name = "the block";
     sides[0].block = source->bytes;
     sides[0].length = source->length;
     sides[1].name = name;
     sides[1].block = target->bytes;
     sides[1].length = target->length;
-    start.globals = mistake->globals;
-    start.globals_length = mistake->globals_length;
-    start.memory = memory;
-    start.memory_length = sizeof memory;
-    switch (compare_runs(sides, &start, reports)) {
-    case SAME: return 0;
-    case DIFFERENT: return 1;
-    case EXEMPT: break;
+    state.globals = globals;
+    state.globals_length = mistake->globals_length;
+    state.memory.data = memory;
+    state.memory.length = sizeof memory;
+    found = compare_runs(sides, &state, reports);
+    if (found == EXEMPT && ngulo_report_ending(reports[1]) != NGULO_ENDING_NO_RESULT) {
+        fputs("the runs end differently", stdout);
+        found = DIFFERENT;
     }
-    if (ngulo_report_ending(reports[1]) == NGULO_ENDING_NO_RESULT) {
-        return 0;
+    if (found == DIFFERENT && memcmp(reports[0], reports[1], NGULO_REPORT_COUNT * sizeof reports[0][0]) != 0) {
+        print_endings(sides, reports);
     }
-    ending_words(reports[1], ending);
-    printf("ending of the block: no stated result; of %s: %s", name, ending);
-    return 1;
+    return found;
 }
 
 static int tell_mistake(const char *folder, const struct mistake *mistake)
@@ -73,18 +83,20 @@ static int tell_mistake(const char *folder, const struct mistake *mistake)
     static struct block source;
     static struct block wrong;
     static struct block ours;
+    enum difference found;
 
     if (load_block(folder, mistake->source, &source) != STATUS_DONE ||
         load_block(folder, mistake->wrong, &wrong) != STATUS_DONE || optimise(&source, &ours) != STATUS_DONE) {
         return STATUS_USAGE;
     }
     printf("  %s\n    ", mistake->name);
-    if (!differ(mistake, &source, "the mistake", &wrong)) {
+    if (compare(mistake, &source, "the mistake", &wrong) != DIFFERENT) {
         puts("no difference");
         return STATUS_REFUSED;
     }
     fputs("\n    ", stdout);
-    if (differ(mistake, &source, "ngulo_pass's block", &ours)) {
+    found = compare(mistake, &source, "ngulo_pass's block", &ours);
+    if (found != SAME && found != EXEMPT) {
         putchar('\n');
         return STATUS_REFUSED;
     }

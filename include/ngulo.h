@@ -195,17 +195,28 @@ enum ngulo_ending {
 enum ngulo_report_place {
     NGULO_REPORT_ENDING = 0,
     NGULO_REPORT_DETAIL = 1,  /* exit: value; fault: address; no stated result: the op's position, from 0 */
-    NGULO_REPORT_ACCESS = 2,  /* fault: flags, and 256 more for a store; else 0 */
+    NGULO_REPORT_ACCESS = 2,  /* fault: flags, and NGULO_ACCESS_STORE more for a store; else 0 */
     NGULO_REPORT_COUNT = 3,   /* ops run */
     NGULO_REPORT_LENGTH = 4
 };
 
 /* Bits of an access's flags. */
 enum ngulo_flag {
-    NGULO_FLAG_SIZE = 3,       /* 0 to 3: 1, 2, 4 or 8 bytes */
+    NGULO_FLAG_SIZE = 3,       /* one of the sizes below */
     NGULO_FLAG_SIGNED = 4,     /* a load that sign-extends */
     NGULO_FLAG_BIG_ENDIAN = 8
 };
+
+/* The size of an access: these bits of its flags. */
+enum ngulo_size {
+    NGULO_SIZE_1 = 0,
+    NGULO_SIZE_2 = 1,
+    NGULO_SIZE_4 = 2,
+    NGULO_SIZE_8 = 3
+};
+
+/* report[NGULO_REPORT_ACCESS] after the fault of a store has this more than its flags. */
+#define NGULO_ACCESS_STORE 256
 
 /* The version of the library: 65536 * major + 256 * minor + patch. */
 NGULO_API uint64_t ngulo_version(void);
@@ -369,7 +380,7 @@ static inline uint64_t ngulo_report_fault_address(const uint64_t report[4])
 /* After a fault: 1 for a store, 0 for a load. */
 static inline int ngulo_report_fault_is_store(const uint64_t report[4])
 {
-    return (report[NGULO_REPORT_ACCESS] & 256) != 0;
+    return (report[NGULO_REPORT_ACCESS] & NGULO_ACCESS_STORE) != 0;
 }
 
 /* After a fault: the access's flags. */

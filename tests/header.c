@@ -44,6 +44,8 @@ static void constants(void)
     expect("report: access", NGULO_REPORT_ACCESS, 2);
     expect("report: count", NGULO_REPORT_COUNT, 3);
     expect("report", NGULO_REPORT_LENGTH, 4);
+    expect("sizes", NGULO_SIZE_1 + NGULO_SIZE_2 + NGULO_SIZE_4 + NGULO_SIZE_8, 0 + 1 + 2 + 3);
+    expect("a store's more", NGULO_ACCESS_STORE, 256);
 }
 
 /* The numbers of kinds are compared one by one elsewhere, with docs/FORMAT.md. */

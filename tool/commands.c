@@ -9,7 +9,6 @@
 
 #include <stdio.h>
 #include <stdlib.h>
-#include <string.h>
 
 int judge_names(const struct request *request, const struct records *block)
 {
@@ -62,10 +61,13 @@ int command_list(const struct request *request)
         return STATUS_USAGE;
     }
     answer = ngulo_check(block.data, block.length);
+    if (request->offsets) {
+        print_places(block.data, ngulo_is_refused(answer) ? ngulo_refusal_place(answer) : block.length);
+    }
     if (ngulo_is_refused(answer)) {
         status = say_refusal(stderr, request, request->files[0], &block, answer);
     } else {
-        status = list(request, &block);
+        status = request->offsets ? STATUS_DONE : list(request, &block);
     }
     free(block.data);
     return status;
@@ -96,9 +98,13 @@ static int explain(const struct request *request, const struct bytes *block, con
 
 static int hand_out(const struct request *request, const struct bytes *block, const uint8_t *result, size_t length)
 {
-    int to_stdout = request->out == NULL || strcmp(request->out, "-") == 0;
+    int to_stdout = request->out == NULL || is_stdout(request->out);
 
-    if (request->explain && explain(request, block, result, length) != STATUS_DONE) {
+    if (request->explain && request->out != NULL && to_stdout) {
+        return complain("--explain: OUT cannot be standard output, which has the explanation");
+    }
+    /* OUT stays as it was if the explanation cannot be written. */
+    if (request->explain && finish(explain(request, block, result, length)) != STATUS_DONE) {
         return STATUS_USAGE;
     }
     if (!to_stdout) {

@@ -4,7 +4,6 @@
 #include "input.h"
 #include "refusal.h"
 #include "seeded.h"
-#include "state.h"
 #include "words.h"
 
 #include <inttypes.h>
@@ -14,35 +13,46 @@
 #define DEFAULT_SEED UINT64_C(1)
 #define DEFAULT_RUNS UINT64_C(1000)
 
-/* On the state that the request lends. */
-static int diff_once(const struct side sides[2], const struct state *state)
+static void say_endings(const struct side sides[2], uint64_t reports[2][NGULO_REPORT_LENGTH])
 {
-    uint64_t reports[2][NGULO_REPORT_LENGTH];
     char ending[ENDING_SIZE];
-    struct start start;
+    int i;
 
-    start.globals = state->globals;
-    start.globals_length = state->globals_length;
-    start.memory = state->memory.data;
-    start.memory_length = state->memory.length;
-    switch (compare_runs(sides, &start, reports)) {
-    case DIFFERENT:
-        putchar('\n');
-        return STATUS_REFUSED;
-    case EXEMPT:
-        printf("nothing to compare: %s has ", sides[0].name);
-        break;
-    case SAME:
-        fputs("no difference: ", stdout);
-        break;
+    for (i = 0; i < 2; i += 1) {
+        ending_words(reports[i], ending);
+        printf("\n%s: %s", sides[i].name, ending);
     }
-    ending_words(reports[0], ending);
-    puts(ending);
-    return STATUS_DONE;
+    putchar('\n');
+}
+
+/* What was found on one state; a difference is printed already. Answers the exit status. */
+static int say_found(enum difference found, const struct side sides[2], uint64_t reports[2][NGULO_REPORT_LENGTH])
+{
+    int status = STATUS_REFUSED;
+
+    switch (found) {
+    case SAME:
+        fputs("no difference", stdout);
+        status = STATUS_DONE;
+        break;
+    case MORE_OPS:
+        printf("more ops run by %s", sides[1].name);
+        break;
+    case DIFFERENT:
+        break;
+    case EXEMPT:
+        printf("nothing to compare: %s meets an op without a stated result", sides[0].name);
+        status = STATUS_USAGE;
+        break;
+    case UNFIT:
+        return complain("the state does not fit both blocks");
+    }
+    say_endings(sides, reports);
+    return status;
 }
 
 /* Does the state fit the first block? Its globals are declared as the second's are. */
-static int fits(const struct request *request, const struct bytes *block, const struct state *state)
+static int judge_state(const struct request *request, const struct bytes *block, const struct state *state)
 {
     struct state tried;
     uint64_t report[NGULO_REPORT_LENGTH];
@@ -57,66 +67,116 @@ static int fits(const struct request *request, const struct bytes *block, const 
     return ngulo_is_refused(answer) ? say_refusal(stdout, request, request->files[0], block, answer) : STATUS_DONE;
 }
 
+/* On the state that the request lends. */
 static int diff_given(const struct request *request, const struct bytes *first, const struct side sides[2])
 {
+    uint64_t reports[2][NGULO_REPORT_LENGTH];
     struct state state;
     int status;
 
     if (take_state(request, &state) != STATUS_DONE) {
         return STATUS_USAGE;
     }
-    status = fits(request, first, &state);
+    status = judge_state(request, first, &state);
     if (status == STATUS_DONE) {
-        status = diff_once(sides, &state);
+        status = say_found(compare_runs(sides, &state, reports), sides, reports);
     }
     free_state(&state);
     return status;
 }
 
-static void say_seeded(uint64_t seed, const struct seeded *state, unsigned globals)
-{
-    unsigned i;
+/* What many runs came to. */
+struct tally {
+    uint64_t seed;
+    uint64_t runs;
+    uint64_t endings[NGULO_ENDING_NO_RESULT + 1];
+    uint64_t more_ops; /* runs in which the second side has more ops, and nothing else */
+    uint64_t more_ops_seed; /* the first of them */
+};
 
-    printf("\nwith seed %" PRIu64 " (alone: --seed %" PRIu64 " --runs 1): globals", seed, seed);
-    for (i = 0; i < globals; i += 1) {
+/* A state that tells the sides apart, and how to have it again. */
+static void say_state_of(uint64_t seed, const struct request *request, const struct state *state)
+{
+    size_t i;
+
+    printf("with seed %" PRIu64 " (alone: diff --seed %" PRIu64 " --runs 1, run --seed %" PRIu64, seed, seed, seed);
+    if (request->memory_text != NULL) {
+        printf(", each with --memory %lu", (unsigned long)request->memory_length);
+    }
+    fputs("): globals", stdout);
+    for (i = 0; i < state->globals_length; i += 1) {
         printf(" 0x%" PRIx64, state->globals[i]);
     }
-    printf("; %lu bytes of memory\n", (unsigned long)state->memory_length);
+    printf(", %lu bytes of memory\n", (unsigned long)state->memory.length);
+}
+
+/* Runs from seed to seed, until a difference. Answers a status. */
+static int count_runs(const struct request *request, const struct side sides[2], const struct records *block,
+                      struct state *state, struct tally *tally)
+{
+    uint64_t reports[2][NGULO_REPORT_LENGTH];
+    uint64_t i;
+
+    for (i = 0; i < tally->runs; i += 1) {
+        enum difference found;
+
+        seed_state(tally->seed + i, request, block, state);
+        found = compare_runs(sides, state, reports);
+        if (found == DIFFERENT || found == UNFIT) {
+            int status = say_found(found, sides, reports);
+
+            say_state_of(tally->seed + i, request, state);
+            return status;
+        }
+        tally->endings[ngulo_report_ending(reports[0]) % (NGULO_ENDING_NO_RESULT + 1)] += 1;
+        if (found == MORE_OPS) {
+            tally->more_ops_seed = tally->more_ops == 0 ? tally->seed + i : tally->more_ops_seed;
+            tally->more_ops += 1;
+        }
+    }
+    return STATUS_DONE;
+}
+
+static int say_tally(const struct side sides[2], const struct tally *tally)
+{
+    uint64_t exits = tally->endings[NGULO_ENDING_EXIT];
+    uint64_t faults = tally->endings[NGULO_ENDING_FAULT];
+    uint64_t exempt = tally->endings[NGULO_ENDING_NO_RESULT];
+
+    if (tally->more_ops > 0) {
+        printf("more ops run by %s, first with seed %" PRIu64 ", and no other difference: ", sides[1].name,
+               tally->more_ops_seed);
+    } else {
+        fputs(exempt == tally->runs ? "nothing to compare: " : "no difference: ", stdout);
+    }
+    printf("runs %" PRIu64 ", from seed %" PRIu64 "; exits %" PRIu64 ", faults %" PRIu64
+           ", no stated result %" PRIu64 "%s\n",
+           tally->runs, tally->seed, exits, faults, exempt, exempt > 0 ? ", not compared" : "");
+    if (tally->more_ops > 0) {
+        return STATUS_REFUSED;
+    }
+    if (exits == 0 && faults > 0) {
+        puts("none came to an exit: try a state of your own, or --memory");
+    }
+    return exempt == tally->runs ? STATUS_USAGE : STATUS_DONE;
 }
 
 static int diff_seeded(const struct request *request, const struct side sides[2])
 {
-    uint64_t seed = request->seed_text == NULL ? DEFAULT_SEED : request->seed;
-    uint64_t runs = request->runs_text == NULL ? DEFAULT_RUNS : request->runs;
-    uint64_t endings[NGULO_ENDING_NO_RESULT + 1] = {0, 0, 0, 0};
-    uint64_t reports[2][NGULO_REPORT_LENGTH];
+    struct tally tally = {0, 0, {0, 0, 0, 0}, 0, 0};
     struct records block;
-    struct seeded state;
-    struct start start;
-    uint64_t i;
+    struct state state;
+    int status;
 
+    if (make_room_for_seeded(&state) != STATUS_DONE) {
+        return STATUS_USAGE;
+    }
+    tally.seed = request->seed_text == NULL ? DEFAULT_SEED : request->seed;
+    tally.runs = request->runs_text == NULL ? DEFAULT_RUNS : request->runs;
     cut_block(sides[0].block, sides[0].length, &block);
-    for (i = 0; i < runs; i += 1) {
-        make_state(seed + i, &block, &state);
-        start.globals = state.globals;
-        start.globals_length = block.globals;
-        start.memory = state.memory;
-        start.memory_length = state.memory_length;
-        if (compare_runs(sides, &start, reports) == DIFFERENT) {
-            say_seeded(seed + i, &state, block.globals);
-            return STATUS_REFUSED;
-        }
-        endings[ngulo_report_ending(reports[0]) & 3] += 1;
-    }
-    if (endings[NGULO_ENDING_NO_RESULT] == runs) {
-        printf("nothing to compare in %" PRIu64 " runs from seed %" PRIu64 ": %s meets an op without a stated result\n",
-               runs, seed, sides[0].name);
-        return STATUS_DONE;
-    }
-    printf("no difference in %" PRIu64 " runs from seed %" PRIu64 ": exits %" PRIu64 ", faults %" PRIu64
-           ", no stated result and so not compared %" PRIu64 "\n",
-           runs, seed, endings[NGULO_ENDING_EXIT], endings[NGULO_ENDING_FAULT], endings[NGULO_ENDING_NO_RESULT]);
-    return STATUS_DONE;
+    status = count_runs(request, sides, &block, &state, &tally);
+    free_state(&state);
+    return status == STATUS_DONE ? say_tally(sides, &tally) : status;
 }
 
 static int diff_blocks(const struct request *request, const struct bytes blocks[2])
@@ -138,10 +198,7 @@ static int diff_blocks(const struct request *request, const struct bytes blocks[
         putchar('\n');
         return STATUS_REFUSED;
     }
-    if (request->globals_length > 0 || request->memory_text != NULL || request->memory_file != NULL) {
-        return diff_given(request, &blocks[0], sides);
-    }
-    return diff_seeded(request, sides);
+    return has_state(request) ? diff_given(request, &blocks[0], sides) : diff_seeded(request, sides);
 }
 
 int command_diff(const struct request *request)

@@ -1,7 +1,5 @@
 #include "differ.h"
 
-#include "words.h"
-
 #include <inttypes.h>
 #include <stdio.h>
 #include <string.h>
@@ -34,33 +32,26 @@ int print_other_globals(const struct side sides[2])
     return 0;
 }
 
-/* A run on a copy of the state; one that is refused leaves a report of zeros. */
-static void run_side(const struct side *side, const struct start *start, struct outcome *outcome,
-                     uint64_t report[NGULO_REPORT_LENGTH])
+/* A run on a copy of the state: 1, or 0 if it is refused. */
+static int run_side(const struct side *side, const struct state *state, struct outcome *outcome,
+                    uint64_t report[NGULO_REPORT_LENGTH])
 {
-    uint64_t answer;
-
-    memcpy(outcome->globals, start->globals, start->globals_length * sizeof *start->globals);
-    memcpy(outcome->memory, start->memory, start->memory_length);
-    answer = ngulo_run(side->block, side->length, outcome->globals, start->globals_length, outcome->memory,
-                       start->memory_length, report);
-    if (ngulo_is_refused(answer)) {
-        memset(report, 0, NGULO_REPORT_LENGTH * sizeof *report);
+    if (state->globals_length > NGULO_MAX_VARIABLES || state->memory.length > NGULO_MAX_MEMORY) {
+        return 0;
     }
+    memcpy(outcome->globals, state->globals, state->globals_length * sizeof *state->globals);
+    memcpy(outcome->memory, state->memory.data, state->memory.length);
+    return !ngulo_is_refused(ngulo_run(side->block, side->length, outcome->globals, state->globals_length,
+                                       outcome->memory, state->memory.length, report));
 }
 
 /* Everything of a report but the count. */
-static int endings_differ(const struct side sides[2], uint64_t reports[2][NGULO_REPORT_LENGTH])
+static int endings_differ(uint64_t reports[2][NGULO_REPORT_LENGTH])
 {
-    char first[ENDING_SIZE];
-    char second[ENDING_SIZE];
-
     if (memcmp(reports[0], reports[1], NGULO_REPORT_COUNT * sizeof(uint64_t)) == 0) {
         return 0;
     }
-    ending_words(reports[0], first);
-    ending_words(reports[1], second);
-    printf("ending of %s: %s; of %s: %s", sides[0].name, first, sides[1].name, second);
+    fputs("the runs end differently", stdout);
     return 1;
 }
 
@@ -92,31 +83,21 @@ static int memories_differ(const struct side sides[2], const struct outcome outc
     return 0;
 }
 
-static int runs_more(const struct side sides[2], uint64_t reports[2][NGULO_REPORT_LENGTH])
-{
-    uint64_t first = ngulo_report_count(reports[0]);
-    uint64_t second = ngulo_report_count(reports[1]);
-
-    if (second <= first) {
-        return 0;
-    }
-    printf("ops run: %" PRIu64 " by %s, more by %s: %" PRIu64, first, sides[0].name, sides[1].name, second);
-    return 1;
-}
-
-enum difference compare_runs(const struct side sides[2], const struct start *start,
+enum difference compare_runs(const struct side sides[2], const struct state *state,
                              uint64_t reports[2][NGULO_REPORT_LENGTH])
 {
     static struct outcome outcomes[2];
 
-    run_side(&sides[0], start, &outcomes[0], reports[0]);
-    run_side(&sides[1], start, &outcomes[1], reports[1]);
+    if (!run_side(&sides[0], state, &outcomes[0], reports[0]) ||
+        !run_side(&sides[1], state, &outcomes[1], reports[1])) {
+        return UNFIT;
+    }
     if (ngulo_report_ending(reports[0]) == NGULO_ENDING_NO_RESULT) {
         return EXEMPT;
     }
-    if (endings_differ(sides, reports) || globals_differ(sides, outcomes, start->globals_length) ||
-        memories_differ(sides, outcomes, start->memory_length) || runs_more(sides, reports)) {
+    if (endings_differ(reports) || globals_differ(sides, outcomes, state->globals_length) ||
+        memories_differ(sides, outcomes, state->memory.length)) {
         return DIFFERENT;
     }
-    return SAME;
+    return ngulo_report_count(reports[1]) > ngulo_report_count(reports[0]) ? MORE_OPS : SAME;
 }

@@ -3,6 +3,7 @@
 #define NGULO_DIFFER_H
 
 #include "records.h"
+#include "state.h"
 
 /* An accepted block, and what to call it. */
 struct side {
@@ -11,25 +12,18 @@ struct side {
     size_t length;
 };
 
-/* The state that both sides start from. */
-struct start {
-    const uint64_t *globals;
-    size_t globals_length;
-    const uint8_t *memory;
-    size_t memory_length;
-};
-
-enum difference { SAME, DIFFERENT, EXEMPT };
+/* EXEMPT: the first side's run meets an op without a stated result, so nothing is asked of the second. */
+enum difference { SAME, MORE_OPS, DIFFERENT, EXEMPT, UNFIT };
 
 /* Prints how the declared globals of two sides differ, without a line feed: 1 if they do, else 0. */
 int print_other_globals(const struct side sides[2]);
 
 /*
- * Runs both sides, each on a copy of a state that fits them. EXEMPT if the first side's run meets an op without a
- * stated result: then nothing is asked of the second. DIFFERENT if anything else is not alike, or the second side runs
- * more ops: then the first difference is printed in words, without a line feed.
+ * Runs both sides, each on a copy of the state. UNFIT if one refuses it. DIFFERENT if the endings, globals or memories
+ * are not alike: then the first difference is printed in words, without a line feed. MORE_OPS if that is all that the
+ * second side has.
  */
-enum difference compare_runs(const struct side sides[2], const struct start *start,
+enum difference compare_runs(const struct side sides[2], const struct state *state,
                              uint64_t reports[2][NGULO_REPORT_LENGTH]);
 
 #endif

@@ -20,11 +20,17 @@ int complain(const char *format, ...)
 
 int finish(int status)
 {
+    static int said;
+
     errno = 0;
-    if (fflush(stdout) != 0 || ferror(stdout)) {
-        return complain("standard output: cannot write: %s", errno != 0 ? strerror(errno) : "an earlier write failed");
+    if (fflush(stdout) == 0 && !ferror(stdout)) {
+        return status;
     }
-    return status;
+    if (!said) {
+        complain("standard output: cannot write: %s", errno != 0 ? strerror(errno) : "an earlier write failed");
+    }
+    said = 1;
+    return STATUS_USAGE;
 }
 
 const char *shown_name(const char *path)
@@ -125,6 +131,7 @@ struct cursor {
     size_t length;
     size_t at;
     size_t line;
+    size_t line_start;
 };
 
 static struct cursor start_of(const struct bytes *held)
@@ -135,6 +142,7 @@ static struct cursor start_of(const struct bytes *held)
     c.length = held->length;
     c.at = 0;
     c.line = 1;
+    c.line_start = 0;
     return c;
 }
 
@@ -152,6 +160,7 @@ static void skip_blank(struct cursor *c)
         if (now == '\n') {
             comment = 0;
             c->line += 1;
+            c->line_start = c->at + 1;
         }
         if (!comment && !is_blank(now)) {
             return;
@@ -162,15 +171,14 @@ static void skip_blank(struct cursor *c)
 static int bad_digit(const struct cursor *c, const char *name)
 {
     unsigned found = c->text[c->at];
-    char shown[8];
+    unsigned long column = (unsigned long)(c->at - c->line_start + 1);
 
     if (found > ' ' && found < 127) {
-        sprintf(shown, "'%c'", (int)found);
-    } else {
-        sprintf(shown, "0x%02x", found);
+        return complain("%s: line %lu, column %lu: '%c' is not a hex digit", name, (unsigned long)c->line, column,
+                        (int)found);
     }
-    return complain("%s: line %lu, offset %lu: %s is not a hex digit", name, (unsigned long)c->line,
-                    (unsigned long)c->at, shown);
+    return complain("%s: line %lu, column %lu: byte %02x is not a hex digit: is it a raw block, without --hex?", name,
+                    (unsigned long)c->line, column, found);
 }
 
 /* The byte at the cursor, which then stands after it. */
@@ -185,8 +193,8 @@ static int take_pair(struct cursor *c, const char *name, uint8_t *into)
     }
     c->at += 1;
     if (c->at == c->length || is_blank(c->text[c->at]) || c->text[c->at] == '#') {
-        return complain("%s: line %lu, offset %lu: one hex digit where a byte has two", name, (unsigned long)c->line,
-                        (unsigned long)first);
+        return complain("%s: line %lu, column %lu: one hex digit where a byte has two", name, (unsigned long)c->line,
+                        (unsigned long)(first - c->line_start + 1));
     }
     low = digit_value(c->text[c->at]);
     if (low < 0) {

@@ -21,7 +21,7 @@ struct bytes {
 /* Writes "ngulo: ", the message and a line feed to standard error. Answers STATUS_USAGE. */
 int complain(const char *format, ...);
 
-/* Flushes standard output. Answers the status given, or STATUS_USAGE if something could not be written. */
+/* Flushes standard output. Answers the status given, or STATUS_USAGE if something could not be written; said once. */
 int finish(int status);
 
 /* What to call a file in messages: "-" is standard input. */

@@ -45,7 +45,7 @@ void list_record(const uint8_t *record, char text[LISTING_SIZE])
 
 unsigned count_names(const char *names)
 {
-    unsigned count = names != NULL;
+    unsigned count = names != NULL && *names != '\0';
 
     for (; names != NULL && *names != '\0'; names += 1) {
         count += *names == ',';
@@ -53,8 +53,7 @@ unsigned count_names(const char *names)
     return count;
 }
 
-/* The name of a variable, and its length: 0 if it has none. */
-static size_t find_name(const char *names, unsigned variable, const char **name)
+size_t find_name(const char *names, unsigned variable, const char **name)
 {
     if (names == NULL) {
         return 0;
@@ -75,20 +74,17 @@ void print_variable(unsigned variable, const char *names)
     printf("v%u%s%.*s", variable, length == 0 ? "" : " ", (int)length, name);
 }
 
-static void print_record(const uint8_t *record, const char *names)
+/* Beside a text of some length: variables that have names. */
+static void print_beside(size_t length, const uint8_t *variables, unsigned count, const char *names)
 {
-    const struct shape *shape = shape_of(record[0]);
-    char text[LISTING_SIZE];
     const char *name;
     int beside = 0;
     unsigned k;
 
-    list_record(record, text);
-    fputs(text, stdout);
-    for (k = 1; k <= shape->outputs + shape->inputs; k += 1) {
-        if (find_name(names, record[k], &name) > 0) {
-            printf("%*s%s", beside ? 0 : 32 - (int)strlen(text), "", beside ? ", " : "# ");
-            print_variable(record[k], names);
+    for (k = 0; k < count; k += 1) {
+        if (find_name(names, variables[k], &name) > 0) {
+            printf("%*s%s", beside ? 0 : length < 31 ? 32 - (int)length : 1, "", beside ? ", " : "# ");
+            print_variable(variables[k], names);
             beside = 1;
         }
     }
@@ -97,9 +93,39 @@ static void print_record(const uint8_t *record, const char *names)
 
 void print_listing(const struct records *block, const char *names)
 {
+    char text[LISTING_SIZE];
     unsigned i;
 
     for (i = 0; i < block->variables + block->ops; i += 1) {
-        print_record(block->at[i], names);
+        const uint8_t *record = block->at[i];
+        const struct shape *shape = shape_of(record[0]);
+        uint8_t declared = (uint8_t)i;
+
+        list_record(record, text);
+        fputs(text, stdout);
+        if (record[0] == NGULO_KIND_DECL) {
+            print_beside(strlen(text), &declared, 1, names);
+        } else {
+            print_beside(strlen(text), record + 1, shape->outputs + shape->inputs, names);
+        }
+    }
+}
+
+void print_places(const uint8_t *block, size_t length)
+{
+    char text[LISTING_SIZE];
+    unsigned ops = 0;
+    size_t at = 0;
+
+    while (at < length && shape_of(block[at]) != NULL && record_length(block[at]) <= length - at) {
+        list_record(block + at, text);
+        printf("%5lu  ", (unsigned long)at);
+        if (block[at] == NGULO_KIND_DECL) {
+            printf("     %s\n", text);
+        } else {
+            printf("%3u  %s\n", ops, text);
+            ops += 1;
+        }
+        at += record_length(block[at]);
     }
 }

@@ -15,10 +15,19 @@ void list_record(const uint8_t *record, char text[LISTING_SIZE]);
 /* How many names there are. */
 unsigned count_names(const char *names);
 
+/* The name of a variable, and its length: 0 if it has none. */
+size_t find_name(const char *names, unsigned variable, const char **name);
+
 /* Prints a variable: "v1", with a name "v1 setting". */
 void print_variable(unsigned variable, const char *names);
 
-/* Prints the records of a block, one a line, with its named operands beside it after "# ". */
+/* Prints the records of a block, one a line, with its named variables beside it after "# ". */
 void print_listing(const struct records *block, const char *names);
+
+/*
+ * Prints the records up to a place of any bytes, as far as they are whole, each after the place where it starts and an
+ * op's position among the ops.
+ */
+void print_places(const uint8_t *block, size_t length);
 
 #endif

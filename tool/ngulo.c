@@ -29,15 +29,17 @@ static const struct command commands[] = {
      "  block.hex: refusal 7 at 31: label set twice, ...\n"
      "with the record at that place on the next line.\n"
      "\n" FILE_AND_HEX PLAIN "'refusal 7 at 31'\n"},
-    {"list", command_list, 1, TAKES_PLAIN | TAKES_NAMES,
-     "usage: ngulo list FILE [--names A,B,...] [--plain] [--hex]\n"
+    {"list", command_list, 1, TAKES_PLAIN | TAKES_NAMES | TAKES_OFFSETS,
+     "usage: ngulo list FILE [--names A,B,... | --offsets] [--plain] [--hex]\n"
      "\n"
      "Writes the block as text, a record a line: its name, then its fields. Variables\n"
      "are v and constants $, as in 'brcond_i32 v2, v1, $1, $0'.\n"
      "A refused block is answered on standard error.\n"
-     "\n" FILE_AND_HEX NAMES PLAIN "'refusal 7 at 31'\n"},
-    {"run", command_run, 1, TAKES_PLAIN | TAKES_NAMES | TAKES_STATE | TAKES_RUN,
-     "usage: ngulo run FILE [--global V]... [--memory N | --memory-file F]\n"
+     "\n" FILE_AND_HEX NAMES
+     "  --offsets        before each record the place where it starts, and an op's\n"
+     "                   position; a refused block is listed up to the refused record\n" PLAIN "'refusal 7 at 31'\n"},
+    {"run", command_run, 1, TAKES_PLAIN | TAKES_NAMES | TAKES_STATE | TAKES_RUN | TAKES_SEED,
+     "usage: ngulo run FILE [--global V]... [--memory N | --memory-file F] | [--seed S]\n"
      "                 [--trace] [--names A,B,...] [--dump-memory] [--plain] [--hex]\n"
      "\n"
      "Says how the run ended, in one line of these:\n"
@@ -47,6 +49,7 @@ static const struct command commands[] = {
      "  block.hex: refusal 11 at 0: globals or memory do not fit the block: ...\n"
      "Unless it was refused, the globals follow, one a line.\n"
      "\n" FILE_AND_HEX STATE
+     "  --seed S         the globals and memory that 'ngulo diff' makes of seed S\n"
      "  --trace          before that, a line for each op as it runs, with the values that\n"
      "                   it read and wrote\n" NAMES
      "  --dump-memory    show the memory after the run, 16 bytes a line\n" PLAIN "these\n"
@@ -58,28 +61,31 @@ static const struct command commands[] = {
      "usage: ngulo opt FILE [-o OUT] [--explain] [--names A,B,...] [--plain] [--hex]\n"
      "\n"
      "Writes the optimised block to standard output, or to OUT. A refused block is\n"
-     "answered on standard error; OUT is then untouched, as after any failure.\n"
+     "answered on standard error. After any failure OUT is as it was.\n"
      "\n" FILE_AND_HEX
      "                   The result is hex text then too\n"
      "  -o OUT           where the result goes, also --output; - is standard output\n"
      "  --explain        say for each op whether it was kept, what it was folded to, or\n"
      "                   why it was dropped; the block is then written to OUT alone\n" NAMES PLAIN
      "'refusal 7 at 31'\n"},
-    {"diff", command_diff, 2, TAKES_PLAIN | TAKES_STATE | TAKES_SEEDS,
+    {"diff", command_diff, 2, TAKES_PLAIN | TAKES_STATE | TAKES_SEED | TAKES_RUNS,
      "usage: ngulo diff A B [--global V]... [--memory N | --memory-file F]\n"
      "                  [--seed S] [--runs N] [--plain] [--hex]\n"
      "\n"
      "Runs two blocks on the same globals and memory, and says the first thing in which\n"
-     "B differs from A: the ending, a global, the memory, or more ops run. Without\n"
-     "globals and memory given, on 1000 seeded ones. Where A meets an op without a stated\n"
-     "result nothing is asked of B.\n"
+     "B differs from A: the ending, a global, the memory; or that B runs more ops. Without\n"
+     "globals and memory given, on those of 1000 seeds: edge values, and memories of at most\n"
+     "64, 4096 or 65536 bytes. Where A meets an op without a stated result nothing is asked\n"
+     "of B.\n"
      "\n"
      "  A, B             the blocks, say one and what your own pass made of it\n"
      "  --hex            both are hex text\n" STATE
-     "  --seed S         the first seed, 1 if not given\n"
+     "  --seed S         the first seed, 1 if not given; with it or --runs, --memory N is\n"
+     "                   the length of each memory\n"
      "  --runs N         how many seeds, one after the other, 1000 if not given\n" PLAIN "'refusal 7 at 31'\n"
      "\n"
-     "Exit status: 0 no difference, 1 a difference or a refusal, 2 anything else.\n" NUMBERS},
+     "Exit status: 0 no difference, 1 a difference or a refusal, 2 nothing compared (A\n"
+     "always met an op without a stated result), or anything else.\n" NUMBERS},
 };
 
 static const char overview[] =
@@ -92,7 +98,8 @@ static const char overview[] =
     "       ngulo --version\n"
     "\n"
     "Checks, lists, runs, optimises and compares blocks of TCG ops. FILE is raw bytes, or hex\n"
-    "text with --hex; - is standard input. docs/FORMAT.md says what a block is.\n"
+    "text with --hex; - is standard input. FORMAT.md (in docs/ or share/doc/ngulo/) says what\n"
+    "a block is.\n"
     "Exit status: 0 done, 1 refused or different, 2 anything else (usage, files, numbers).\n"
     "\n"
     "Refusals:\n";
@@ -179,14 +186,14 @@ static int answer(int argc, char **argv)
     if (argc < 2) {
         return complain("no command given; see 'ngulo --help'");
     }
-    if (is_help(argv[1]) || (strcmp(argv[1], "help") == 0 && argc == 2)) {
+    if (is_help(argv[1]) || (strcmp(argv[1], "help") == 0 && (argc == 2 || is_help(argv[2])))) {
         return say_overview();
     }
     if (strcmp(argv[1], "--version") == 0) {
-        return say_version();
+        return argc == 2 ? say_version() : complain("--version: nothing goes with it");
     }
     if (strcmp(argv[1], "help") == 0) {
-        return say_help(argv[2]);
+        return argc == 3 ? say_help(argv[2]) : complain("help: of one command at a time");
     }
     if (find_command(argv[1]) == NULL || asks_help(argv + 2, argv + argc)) {
         return say_help(argv[1]);

@@ -12,6 +12,9 @@ void put_hex(FILE *stream, const uint8_t *data, size_t length);
 /* The same as hex text or as raw bytes. */
 void put_block(FILE *stream, int hex, const uint8_t *data, size_t length);
 
+/* Does the path lead to what standard output is: "-", or the same file? */
+int is_stdout(const char *path);
+
 /*
  * Writes a block to a file, through a temporary file beside it that takes its place when all is written: no failure
  * leaves half a file or destroys one. A device or pipe is written to itself. Answers a status.

@@ -1,6 +1,7 @@
 #include "refusal.h"
 
-#include "listing.h"
+#include "reasons.h"
+#include "records.h"
 
 #include <inttypes.h>
 
@@ -25,18 +26,6 @@ static void print_unfit(FILE *stream, const struct request *request, const struc
     fprintf(stream, ": more than %d bytes of memory given", NGULO_MAX_MEMORY);
 }
 
-/* The record at a place of the block, if it is a whole one. */
-static void print_place(FILE *stream, const struct bytes *block, size_t place)
-{
-    char text[LISTING_SIZE];
-
-    if (place < block->length && shape_of(block->data[place]) != NULL &&
-        record_length(block->data[place]) <= block->length - place) {
-        list_record(block->data + place, text);
-        fprintf(stream, "  at %lu: %s\n", (unsigned long)place, text);
-    }
-}
-
 int say_refusal(FILE *stream, const struct request *request, const char *file, const struct bytes *block,
                 uint64_t answer)
 {
@@ -53,7 +42,7 @@ int say_refusal(FILE *stream, const struct request *request, const char *file, c
     }
     fputc('\n', stream);
     if (number < NGULO_REFUSAL_UNFIT_STATE) {
-        print_place(stream, block, place);
+        print_reason_of(stream, block, number, place);
     }
     if (!request->hex && looks_like_hex(block)) {
         complain("%s looks like hex text: is --hex missing?", shown_name(file));

@@ -1,10 +1,12 @@
 #include "request.h"
 
 #include "input.h"
+#include "ngulo.h"
 
 #include <string.h>
 
-enum option_number { HEX, PLAIN, OUT, EXPLAIN, NAMES, GLOBAL, MEMORY, MEMORY_FILE, TRACE, DUMP_MEMORY, SEED, RUNS };
+enum option_number { HEX, PLAIN, OUT, EXPLAIN, NAMES, GLOBAL, MEMORY, MEMORY_FILE, TRACE, DUMP_MEMORY, SEED, RUNS,
+                     OFFSETS };
 
 struct option {
     const char *name;
@@ -25,8 +27,9 @@ static const struct option options[] = {
     {"--memory-file", MEMORY_FILE, TAKES_STATE, 1},
     {"--trace", TRACE, TAKES_RUN, 0},
     {"--dump-memory", DUMP_MEMORY, TAKES_RUN, 0},
-    {"--seed", SEED, TAKES_SEEDS, 1},
-    {"--runs", RUNS, TAKES_SEEDS, 1},
+    {"--seed", SEED, TAKES_SEED, 1},
+    {"--runs", RUNS, TAKES_RUNS, 1},
+    {"--offsets", OFFSETS, TAKES_OFFSETS, 0},
 };
 
 /* The option that a word names, before any =; NULL if the command has none. */
@@ -98,6 +101,7 @@ static int take_option(const struct option *option, const char *value, struct re
     case HEX: request->hex = 1; break;
     case PLAIN: request->plain = 1; break;
     case EXPLAIN: request->explain = 1; break;
+    case OFFSETS: request->offsets = 1; break;
     case TRACE: request->trace = 1; break;
     case DUMP_MEMORY: request->dump_memory = 1; break;
     case OUT: return take_text(option->name, value, &request->out);
@@ -150,6 +154,27 @@ static int is_stdin(const char *file)
     return file != NULL && strcmp(file, "-") == 0;
 }
 
+int has_state(const struct request *request)
+{
+    int seeded = request->seed_text != NULL || request->runs_text != NULL;
+
+    return request->globals_length > 0 || request->memory_file != NULL || (request->memory_text != NULL && !seeded);
+}
+
+static int judge_seeds(const struct request *request)
+{
+    if (request->seed_text == NULL && request->runs_text == NULL) {
+        return STATUS_DONE;
+    }
+    if (has_state(request)) {
+        return complain("--seed and --runs: not with --global or --memory-file");
+    }
+    if (request->memory_length > NGULO_MAX_MEMORY) {
+        return complain("--memory: with --seed or --runs at most %d", NGULO_MAX_MEMORY);
+    }
+    return request->runs_text != NULL && request->runs == 0 ? complain("--runs: 0 runs show nothing") : STATUS_DONE;
+}
+
 /* What the arguments leave open or ask twice. */
 static int judge(const struct command *command, const struct request *request)
 {
@@ -167,17 +192,10 @@ static int judge(const struct command *command, const struct request *request)
         return complain("standard input can only be one of %s and --memory-file",
                         command->files == 1 ? "FILE" : "A, B");
     }
-    if (request->explain && is_stdin(request->out)) {
-        return complain("--explain: OUT cannot be standard output, which has the explanation");
+    if (request->names != NULL && command->options & TAKES_OUT && !request->explain) {
+        return complain("--names: only with --explain");
     }
-    if ((request->seed_text != NULL || request->runs_text != NULL) &&
-        (request->globals_length > 0 || request->memory_text != NULL || request->memory_file != NULL)) {
-        return complain("--seed and --runs: not with globals or memory of your own");
-    }
-    if (request->runs_text != NULL && request->runs == 0) {
-        return complain("--runs: 0 runs show nothing");
-    }
-    return STATUS_DONE;
+    return judge_seeds(request);
 }
 
 int read_request(const struct command *command, char **next, char **end, struct request *request)

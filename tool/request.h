@@ -11,6 +11,7 @@ struct request {
     int hex;
     int plain;
     int explain;
+    int offsets;
     int trace;
     int dump_memory;
     const char *out;          /* NULL or "-" for standard output */
@@ -33,7 +34,9 @@ enum {
     TAKES_NAMES = 4,
     TAKES_STATE = 8,    /* --global, --memory, --memory-file */
     TAKES_RUN = 16,     /* --trace, --dump-memory */
-    TAKES_SEEDS = 32    /* --seed, --runs */
+    TAKES_SEED = 32,
+    TAKES_RUNS = 64,
+    TAKES_OFFSETS = 128
 };
 
 /* A command: how many files and which options it takes. All take --hex. */
@@ -44,6 +47,9 @@ struct command {
     unsigned options;
     const char *help;
 };
+
+/* Are globals and memory given, and not left to seeds? */
+int has_state(const struct request *request);
 
 /*
  * Reads the arguments of a command, whose globals have room for as many values as there are words. Answers a status;

@@ -4,7 +4,7 @@
 #include "listing.h"
 #include "output.h"
 #include "refusal.h"
-#include "state.h"
+#include "seeded.h"
 #include "trace.h"
 #include "words.h"
 
@@ -34,24 +34,28 @@ static void say_plain_ending(const uint64_t report[4])
 
 static void say_ending(const struct records *block, const uint64_t report[4])
 {
-    uint64_t count = ngulo_report_count(report);
-    const char *plural = count == 1 ? "" : "s";
-    char text[ENDING_SIZE];
+    char ending[ENDING_SIZE];
+    char op[LISTING_SIZE];
 
-    switch (ngulo_report_ending(report)) {
-    case NGULO_ENDING_EXIT:
-        printf("exit 0x%" PRIx64 " after %" PRIu64 " op%s\n", ngulo_report_exit_value(report), count, plural);
-        break;
-    case NGULO_ENDING_FAULT:
-        access_words(report, text);
-        printf("fault after %" PRIu64 " op%s: %s\n", count, plural, text);
-        break;
-    default:
-        list_record(op_at(block, (unsigned)ngulo_report_position(report)), text);
-        printf("no stated result at op %" PRIu64 " after %" PRIu64 " op%s: %s\n", ngulo_report_position(report), count,
-               plural, text);
-        break;
+    ending_words(report, ending);
+    fputs(ending, stdout);
+    if (ngulo_report_ending(report) == NGULO_ENDING_NO_RESULT) {
+        list_record(op_at(block, (unsigned)ngulo_report_position(report)), op);
+        printf(": %s", op);
     }
+    putchar('\n');
+}
+
+static void say_global(const struct request *request, const struct state *state, unsigned global)
+{
+    const char *name;
+    size_t length = request->plain ? 0 : find_name(request->names, global, &name);
+
+    printf("global %u = 0x%" PRIx64, global, state->globals[global]);
+    if (length > 0) {
+        printf("  # %.*s", (int)length, name);
+    }
+    putchar('\n');
 }
 
 static void say_state(const struct request *request, const struct state *state)
@@ -59,7 +63,7 @@ static void say_state(const struct request *request, const struct state *state)
     size_t i;
 
     for (i = 0; i < state->globals_length; i += 1) {
-        printf("global %lu = 0x%" PRIx64 "\n", (unsigned long)i, state->globals[i]);
+        say_global(request, state, (unsigned)i);
     }
     for (i = 0; request->dump_memory && i < state->memory.length; i += 16) {
         printf("memory 0x%04lx = ", (unsigned long)i);
@@ -111,16 +115,35 @@ static int say_run(const struct request *request, const struct bytes *block, str
     return STATUS_DONE;
 }
 
+/* The state that a seed gives, for which the block has to be accepted. */
+static int take_seeded(const struct request *request, const struct bytes *block, struct state *into)
+{
+    uint64_t answer = ngulo_check(block->data, block->length);
+    struct records records;
+
+    if (ngulo_is_refused(answer)) {
+        return say_refusal(stdout, request, request->files[0], block, answer);
+    }
+    if (make_room_for_seeded(into) != STATUS_DONE) {
+        return STATUS_USAGE;
+    }
+    cut_block(block->data, block->length, &records);
+    seed_state(request->seed, request, &records, into);
+    return STATUS_DONE;
+}
+
 /* Two states alike: the trace changes the one, the run the other. */
 static int run_block(const struct request *request, const struct bytes *block)
 {
     struct state before;
     struct state state;
-    int status = STATUS_USAGE;
+    int status =
+        request->seed_text == NULL ? take_state(request, &before) : take_seeded(request, block, &before);
 
-    if (take_state(request, &before) != STATUS_DONE) {
-        return STATUS_USAGE;
+    if (status != STATUS_DONE) {
+        return status;
     }
+    status = STATUS_USAGE;
     if (copy_state(&before, &state) == STATUS_DONE) {
         status = say_run(request, block, &before, &state);
         free_state(&state);

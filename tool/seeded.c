@@ -29,16 +29,34 @@ static uint64_t make_value(uint64_t *state, int wide, size_t memory_length)
     }
 }
 
-void make_state(uint64_t seed, const struct records *block, struct seeded *into)
+static size_t make_length(uint64_t *state)
+{
+    uint64_t any = next_number(state);
+
+    switch (next_number(state) % 4) {
+    case 0: return NGULO_MAX_MEMORY;
+    case 1: return any % 4097;
+    default: return any % 65;
+    }
+}
+
+int make_room_for_seeded(struct state *into)
+{
+    return make_state(NGULO_MAX_VARIABLES, NGULO_MAX_MEMORY, into);
+}
+
+void seed_state(uint64_t seed, const struct request *request, const struct records *block, struct state *into)
 {
     uint64_t state = seed;
-    unsigned i;
+    size_t length = make_length(&state);
+    size_t i;
 
-    into->memory_length = next_number(&state) % (SEEDED_MEMORY + 1);
-    for (i = 0; i < SEEDED_MEMORY; i += 1) {
-        into->memory[i] = (uint8_t)next_number(&state);
+    into->globals_length = block->globals;
+    into->memory.length = request->memory_text == NULL ? length : request->memory_length;
+    for (i = 0; i < into->globals_length; i += 1) {
+        into->globals[i] = make_value(&state, type_of(block, (unsigned)i) == NGULO_TYPE_I64, into->memory.length);
     }
-    for (i = 0; i < block->globals; i += 1) {
-        into->globals[i] = make_value(&state, type_of(block, i) == NGULO_TYPE_I64, into->memory_length);
+    for (i = 0; i < into->memory.length; i += 1) {
+        into->memory.data[i] = (uint8_t)next_number(&state);
     }
 }

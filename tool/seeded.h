@@ -3,16 +3,17 @@
 #define NGULO_SEEDED_H
 
 #include "records.h"
+#include "request.h"
+#include "state.h"
 
-enum { SEEDED_MEMORY = 64 };
+/* An empty state with room for every seeded one. Answers a status. */
+int make_room_for_seeded(struct state *into);
 
-struct seeded {
-    uint64_t globals[NGULO_MAX_VARIABLES];
-    uint8_t memory[SEEDED_MEMORY];
-    size_t memory_length;
-};
-
-/* Globals that fit the block, many of them at the edges of what they can be or near the end of the memory. */
-void make_state(uint64_t seed, const struct records *block, struct seeded *into);
+/*
+ * Globals that fit the block, many of them at the edges of what they can be or near the end of the memory. The memory
+ * is as long as the request says, else by the seed: half of the seeds have at most 64 bytes, a quarter at most 4,096,
+ * a quarter 65,536.
+ */
+void seed_state(uint64_t seed, const struct request *request, const struct records *block, struct state *into);
 
 #endif

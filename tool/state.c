@@ -3,8 +3,8 @@
 #include <stdlib.h>
 #include <string.h>
 
-/* Room for all of it, at least one of each, zero. */
-static int make_room(struct state *into, size_t globals_length, size_t memory_length)
+/* No pointer is NULL, even where the length is 0. */
+int make_state(size_t globals_length, size_t memory_length, struct state *into)
 {
     into->globals_length = globals_length;
     into->globals = (uint64_t *)calloc(globals_length + 1, sizeof *into->globals);
@@ -19,7 +19,7 @@ static int make_room(struct state *into, size_t globals_length, size_t memory_le
 
 int copy_state(const struct state *from, struct state *into)
 {
-    if (make_room(into, from->globals_length, from->memory.length) != STATUS_DONE) {
+    if (make_state(from->globals_length, from->memory.length, into) != STATUS_DONE) {
         return STATUS_USAGE;
     }
     memcpy(into->globals, from->globals, from->globals_length * sizeof *from->globals);
@@ -35,7 +35,7 @@ int take_state(const struct request *request, struct state *into)
     lent.globals = request->globals;
     lent.globals_length = request->globals_length;
     if (request->memory_file == NULL) {
-        status = make_room(into, request->globals_length, request->memory_length);
+        status = make_state(request->globals_length, request->memory_length, into);
         if (status == STATUS_DONE) {
             memcpy(into->globals, request->globals, request->globals_length * sizeof *request->globals);
         }

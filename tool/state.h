@@ -11,7 +11,12 @@ struct state {
     struct bytes memory;
 };
 
-/* The state that a request lends. Each answers a status, and what is wrong is said on standard error. */
+/* The owner frees a state. Each of these answers a status, and what is wrong is said on standard error. */
+
+/* All zero. */
+int make_state(size_t globals_length, size_t memory_length, struct state *into);
+
+/* The state that a request lends. */
 int take_state(const struct request *request, struct state *into);
 
 int copy_state(const struct state *from, struct state *into);

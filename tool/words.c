@@ -18,18 +18,22 @@ void access_words(const uint64_t report[4], char text[ACCESS_SIZE])
 
 void ending_words(const uint64_t report[4], char text[ENDING_SIZE])
 {
+    uint64_t count = ngulo_report_count(report);
+    const char *plural = count == 1 ? "" : "s";
     char access[ACCESS_SIZE];
 
     switch (ngulo_report_ending(report)) {
     case NGULO_ENDING_EXIT:
-        snprintf(text, ENDING_SIZE, "exit 0x%" PRIx64, ngulo_report_exit_value(report));
+        snprintf(text, ENDING_SIZE, "exit 0x%" PRIx64 " after %" PRIu64 " op%s", ngulo_report_exit_value(report), count,
+                 plural);
         break;
     case NGULO_ENDING_FAULT:
         access_words(report, access);
-        snprintf(text, ENDING_SIZE, "fault, %s", access);
+        snprintf(text, ENDING_SIZE, "fault after %" PRIu64 " op%s: %s", count, plural, access);
         break;
     case NGULO_ENDING_NO_RESULT:
-        snprintf(text, ENDING_SIZE, "no stated result at op %" PRIu64, ngulo_report_position(report));
+        snprintf(text, ENDING_SIZE, "no stated result at op %" PRIu64 " after %" PRIu64 " op%s",
+                 ngulo_report_position(report), count, plural);
         break;
     default:
         snprintf(text, ENDING_SIZE, "ending %u, which this program does not know", ngulo_report_ending(report));

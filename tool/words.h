@@ -6,12 +6,15 @@
 
 /* Room for an access and for an ending in words. */
 #define ACCESS_SIZE 72
-#define ENDING_SIZE 88
+#define ENDING_SIZE 112
 
 /* After a fault: "load of 4 bytes at 0xd, unsigned, little-endian". */
 void access_words(const uint64_t report[4], char text[ACCESS_SIZE]);
 
-/* "exit 0x2a", "fault, load of 4 bytes at 0xd, unsigned, little-endian", "no stated result at op 4". */
+/*
+ * "exit 0x2a after 5 ops", "fault after 1 op: load of 4 bytes at 0xd, unsigned, little-endian",
+ * "no stated result at op 4 after 2 ops".
+ */
 void ending_words(const uint64_t report[4], char text[ENDING_SIZE]);
 
 #endif

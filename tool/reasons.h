@@ -1,0 +1,12 @@
+/* Why a rule is broken, in words: the check has said which, and where. */
+#ifndef NGULO_REASONS_H
+#define NGULO_REASONS_H
+
+#include "input.h"
+
+#include <stdio.h>
+
+/* Prints the record at the place of a refusal from 1 to 10 on a line of its own, with what is wrong with it. */
+void print_reason_of(FILE *stream, const struct bytes *block, unsigned number, size_t place);
+
+#endif
