@@ -24,7 +24,6 @@
 # CC, CXX, CPPFLAGS, CFLAGS, CXXFLAGS and LDFLAGS may come from the environment.
 
 VERSION := $(shell sed -n 's/^.define NGULO_VERSION "\(.*\)"$$/\1/p' include/ngulo.h)
-MAJOR := $(shell sed -n 's/^.define NGULO_VERSION_MAJOR //p' include/ngulo.h)
 PREFIX ?= /usr/local
 BINDIR ?= $(PREFIX)/bin
 INCLUDEDIR ?= $(PREFIX)/include
@@ -50,7 +49,8 @@ LINK_CPP = -x none $(ARCHIVE)
 KIT = target/kit
 DIST = target/dist
 ARCHIVE = target/staticlib/libngulo.a
-SONAME = libngulo.so.$(MAJOR)
+# While the major number is 0, a new minor number may break programs, so it has another soname.
+SONAME = libngulo.so.$(basename $(VERSION))
 SHARED = $(KIT)/libngulo.so.$(VERSION)
 NAME = ngulo-$(VERSION)
 TARBALL = $(DIST)/$(NAME)-linux-x86_64.tar.gz
