@@ -163,8 +163,9 @@ valgrind: $(KIT)/ngulo $(KIT)/incident $(KIT)/calls $(KIT)/header
 	tests/demo $(VALGRIND) $(KIT)/incident
 	tests/tool $(VALGRIND) $(KIT)/ngulo
 
-# ngulo.pc goes by its own place in the usual layout, so that the folder can be moved; any other place it names in full.
-PC_PREFIX = $(if $(filter $(PREFIX)/lib,$(LIBDIR)),$${pcfiledir}/../..,$(PREFIX))
+# The prefix that ngulo.pc names: the installed one in full, so that pkg-config knows the system's own places; in the
+# tarball by ngulo.pc's own place, so that the folder can be moved.
+PC_PREFIX = $(PREFIX)
 below_prefix = $(patsubst $(PREFIX)/%,$${prefix}/%,$(1))
 
 install: archive shared tool
@@ -197,7 +198,8 @@ EPOCH = $(or $(SOURCE_DATE_EPOCH),$(shell git log -1 --format=%ct 2>/dev/null ||
 dist: archive shared tool
 	rm -rf $(DIST)/$(NAME) $(TARBALL)
 	$(MAKE) --no-print-directory install DESTDIR=$(DIST) PREFIX=/$(NAME) BINDIR=/$(NAME)/bin \
-	    INCLUDEDIR=/$(NAME)/include LIBDIR=/$(NAME)/lib MANDIR=/$(NAME)/share/man DOCDIR=/$(NAME)/share/doc/ngulo
+	    INCLUDEDIR=/$(NAME)/include LIBDIR=/$(NAME)/lib MANDIR=/$(NAME)/share/man DOCDIR=/$(NAME)/share/doc/ngulo \
+	    PC_PREFIX='$$$${pcfiledir}/../..'
 	for f in $(EXTRAS); do install -D -m 644 $$f $(DIST)/$(NAME)/$$f || exit 1; done
 	install -m 644 docs/KIT.md $(DIST)/$(NAME)/README.md
 	tar -C $(DIST) --format=ustar --sort=name --owner=0 --group=0 --numeric-owner --mode=u=rwX,go=rX \
