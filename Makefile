@@ -73,6 +73,9 @@ help:
 # Proved and built again only if something it is made of changed.
 PROVED = crates.txt $(shell find crates -type f \( -path '*/src/*' -o -path '*/specs/*' -o -path '*/proofs/*' \))
 $(ARCHIVE): $(PROVED)
+	@command -v rt >/dev/null || { exec >&2; \
+	    echo 'rt, the Rattle kit, is not found: it has to prove and build $@.'; \
+	    echo 'On a machine with it, make dist makes a tarball that needs a C compiler only (docs/KIT.md).'; exit 1; }
 	rt staticlib ngulo
 	touch $@
 
