@@ -2,6 +2,9 @@
 # What is built goes to target/.
 #
 #   make            archive, shared library, tool and demonstration
+#   make tool       the tool only: target/kit/ngulo
+#   make shared     the shared library only: target/kit/libngulo.so.VERSION
+#   make archive    the archive only, proved: target/staticlib/libngulo.a
 #   make demo       the incident, run
 #   make check      the tests of the C kit and its tarball, without proofs; the same as make test-c
 #   make test       all tests but the proofs and their must-fail edits
@@ -10,6 +13,7 @@
 #   make uninstall  takes that away again, with the same variables
 #   make clean      removes target/kit and target/dist, and not the proved archive
 #   make help       this list
+#   make WERROR=    with any of these: a compiler's warnings are not taken as errors
 #
 #   make test-exported  the tables at the end of docs/TRUST.md are as tests/exported prints them, and no exported
 #                   function lacks a must-fail edit; docs/ARCHITECTURE.md has the table that tests/believed prints
@@ -21,7 +25,7 @@
 #
 # Needed: a C and a C++ compiler and GNU make; for the archive rt, the Rattle kit; for check also pkg-config and
 # python3; for test-sweep, compare, seeded and bench rustc; for fuzz rustc and clang with libFuzzer; for valgrind valgrind.
-# CC, CXX, CPPFLAGS, CFLAGS, CXXFLAGS and LDFLAGS may come from the environment.
+# CC, CXX, CPPFLAGS, CFLAGS, CXXFLAGS, LDFLAGS and WERROR may come from the environment.
 
 VERSION := $(shell sed -n 's/^.define NGULO_VERSION "\(.*\)"$$/\1/p' include/ngulo.h)
 PREFIX ?= /usr/local
@@ -40,7 +44,8 @@ CXX = g++
 endif
 CFLAGS ?= -O2
 CXXFLAGS ?= -O2
-STRICT = -Wall -Wextra -Werror -pedantic -Iinclude
+WERROR ?= -Werror
+STRICT = -Wall -Wextra $(WERROR) -pedantic -Iinclude
 C99 = $(CC) -std=c99 $(STRICT) $(CPPFLAGS) $(CFLAGS) $(LDFLAGS)
 CPP11 = $(CXX) -x c++ -std=c++11 $(STRICT) $(CPPFLAGS) $(CXXFLAGS) $(LDFLAGS)
 # -x none ends -x c++, so that the archive is taken as one
