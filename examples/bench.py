@@ -92,7 +92,10 @@ def show(name, report, values):
 
 
 def main():
-    ngulo = Ngulo(sys.argv[1] if len(sys.argv) > 1 else "libngulo.so.0.2")
+    try:
+        ngulo = Ngulo(sys.argv[1] if len(sys.argv) > 1 else "libngulo.so.0.2")
+    except (OSError, AttributeError) as error:  # no such library, or it lacks the calls
+        sys.exit(f"bench: {error}")
     if ngulo.version() != VERSION:
         print(f"bench: written for ngulo {VERSION}, running with library {ngulo.version()}", file=sys.stderr)
     ngulo.check(BLOCK)
