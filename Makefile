@@ -2,6 +2,9 @@
 # What is built goes to target/.
 #
 #   make            archive, shared library, tool and demonstration
+#   make tool       the tool only: target/kit/ngulo
+#   make shared     the shared library only: target/kit/libngulo.so.VERSION
+#   make archive    the archive only, proved: target/staticlib/libngulo.a
 #   make demo       the incident, run
 #   make check      the tests of the C kit and its tarball, without proofs; the same as make test-c
 #   make test       all tests but the proofs and their must-fail edits
@@ -10,6 +13,7 @@
 #   make uninstall  takes that away again, with the same variables
 #   make clean      removes target/kit and target/dist, and not the proved archive
 #   make help       this list
+#   make WERROR=    with any of these: a compiler's warnings are not taken as errors
 #
 #   make test-exported  the tables at the end of docs/TRUST.md are as tests/exported prints them, and no exported
 #                   function lacks a must-fail edit; docs/ARCHITECTURE.md has the table that tests/believed prints
@@ -21,10 +25,9 @@
 #
 # Needed: a C and a C++ compiler and GNU make; for the archive rt, the Rattle kit; for check also pkg-config and
 # python3; for test-sweep, compare, seeded and bench rustc; for fuzz rustc and clang with libFuzzer; for valgrind valgrind.
-# CC, CXX, CPPFLAGS, CFLAGS, CXXFLAGS and LDFLAGS may come from the environment.
+# CC, CXX, CPPFLAGS, CFLAGS, CXXFLAGS, LDFLAGS and WERROR may come from the environment.
 
 VERSION := $(shell sed -n 's/^.define NGULO_VERSION "\(.*\)"$$/\1/p' include/ngulo.h)
-MAJOR := $(shell sed -n 's/^.define NGULO_VERSION_MAJOR //p' include/ngulo.h)
 PREFIX ?= /usr/local
 BINDIR ?= $(PREFIX)/bin
 INCLUDEDIR ?= $(PREFIX)/include
@@ -41,7 +44,8 @@ CXX = g++
 endif
 CFLAGS ?= -O2
 CXXFLAGS ?= -O2
-STRICT = -Wall -Wextra -Werror -pedantic -Iinclude
+WERROR ?= -Werror
+STRICT = -Wall -Wextra $(WERROR) -pedantic -Iinclude
 C99 = $(CC) -std=c99 $(STRICT) $(CPPFLAGS) $(CFLAGS) $(LDFLAGS)
 CPP11 = $(CXX) -x c++ -std=c++11 $(STRICT) $(CPPFLAGS) $(CXXFLAGS) $(LDFLAGS)
 # -x none ends -x c++, so that the archive is taken as one
@@ -50,7 +54,8 @@ LINK_CPP = -x none $(ARCHIVE)
 KIT = target/kit
 DIST = target/dist
 ARCHIVE = target/staticlib/libngulo.a
-SONAME = libngulo.so.$(MAJOR)
+# While the major number is 0, a new minor number may break programs, so it has another soname.
+SONAME = libngulo.so.$(basename $(VERSION))
 SHARED = $(KIT)/libngulo.so.$(VERSION)
 NAME = ngulo-$(VERSION)
 TARBALL = $(DIST)/$(NAME)-linux-x86_64.tar.gz
@@ -73,6 +78,9 @@ help:
 # Proved and built again only if something it is made of changed.
 PROVED = crates.txt $(shell find crates -type f \( -path '*/src/*' -o -path '*/specs/*' -o -path '*/proofs/*' \))
 $(ARCHIVE): $(PROVED)
+	@command -v rt >/dev/null || { exec >&2; \
+	    echo 'rt, the Rattle kit, is not found: it has to prove and build $@.'; \
+	    echo 'On a machine with it, make dist makes a tarball that needs a C compiler only (docs/KIT.md).'; exit 1; }
 	rt staticlib ngulo
 	touch $@
 
@@ -163,8 +171,9 @@ valgrind: $(KIT)/ngulo $(KIT)/incident $(KIT)/calls $(KIT)/header
 	tests/demo $(VALGRIND) $(KIT)/incident
 	tests/tool $(VALGRIND) $(KIT)/ngulo
 
-# ngulo.pc goes by its own place in the usual layout, so that the folder can be moved; any other place it names in full.
-PC_PREFIX = $(if $(filter $(PREFIX)/lib,$(LIBDIR)),$${pcfiledir}/../..,$(PREFIX))
+# The prefix that ngulo.pc names: the installed one in full, so that pkg-config knows the system's own places; in the
+# tarball by ngulo.pc's own place, so that the folder can be moved.
+PC_PREFIX = $(PREFIX)
 below_prefix = $(patsubst $(PREFIX)/%,$${prefix}/%,$(1))
 
 install: archive shared tool
@@ -197,7 +206,8 @@ EPOCH = $(or $(SOURCE_DATE_EPOCH),$(shell git log -1 --format=%ct 2>/dev/null ||
 dist: archive shared tool
 	rm -rf $(DIST)/$(NAME) $(TARBALL)
 	$(MAKE) --no-print-directory install DESTDIR=$(DIST) PREFIX=/$(NAME) BINDIR=/$(NAME)/bin \
-	    INCLUDEDIR=/$(NAME)/include LIBDIR=/$(NAME)/lib MANDIR=/$(NAME)/share/man DOCDIR=/$(NAME)/share/doc/ngulo
+	    INCLUDEDIR=/$(NAME)/include LIBDIR=/$(NAME)/lib MANDIR=/$(NAME)/share/man DOCDIR=/$(NAME)/share/doc/ngulo \
+	    PC_PREFIX='$$$${pcfiledir}/../..'
 	for f in $(EXTRAS); do install -D -m 644 $$f $(DIST)/$(NAME)/$$f || exit 1; done
 	install -m 644 docs/KIT.md $(DIST)/$(NAME)/README.md
 	tar -C $(DIST) --format=ustar --sort=name --owner=0 --group=0 --numeric-owner --mode=u=rwX,go=rX \

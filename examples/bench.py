@@ -1,6 +1,6 @@
 """A bench in Python: checks a block, optimises it, runs both on the same globals, and takes the answers apart.
 
-Usage: bench.py [LIBRARY], the path or the name of the shared library; libngulo.so.0 if none is given.
+Usage: bench.py [LIBRARY], the path or the name of the shared library; libngulo.so.0.2 if none is given.
 ngulo.h says what the calls promise and what they ask of a caller.
 """
 import ctypes
@@ -92,7 +92,10 @@ def show(name, report, values):
 
 
 def main():
-    ngulo = Ngulo(sys.argv[1] if len(sys.argv) > 1 else "libngulo.so.0")
+    try:
+        ngulo = Ngulo(sys.argv[1] if len(sys.argv) > 1 else "libngulo.so.0.2")
+    except (OSError, AttributeError) as error:  # no such library, or it lacks the calls
+        sys.exit(f"bench: {error}")
     if ngulo.version() != VERSION:
         print(f"bench: written for ngulo {VERSION}, running with library {ngulo.version()}", file=sys.stderr)
     ngulo.check(BLOCK)
