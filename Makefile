@@ -90,7 +90,7 @@ tool: $(KIT)/ngulo
 
 # The archive whole. No start-up code: the library has no state that would need it.
 $(SHARED): $(ARCHIVE) Makefile ngulo.map include/ngulo.h | $(KIT)
-	$(CC) -shared -nostartfiles $(CFLAGS) $(LDFLAGS) -Wl,-soname,$(SONAME) -Wl,--version-script,ngulo.map \
+	$(CC) $(CFLAGS) $(LDFLAGS) -shared -nostartfiles -Wl,-soname,$(SONAME) -Wl,--version-script,ngulo.map \
 	    -Wl,-z,defs,-z,text,-z,noexecstack,-z,relro,-z,now -Wl,--whole-archive $(ARCHIVE) -Wl,--no-whole-archive -o $@
 
 $(KIT)/ngulo: $(TOOL) $(HEADERS) $(ARCHIVE) | $(KIT)
@@ -177,8 +177,9 @@ PC_PREFIX = $(PREFIX)
 below_prefix = $(patsubst $(PREFIX)/%,$${prefix}/%,$(1))
 
 install: archive shared tool
-	$(foreach v,PREFIX BINDIR INCLUDEDIR LIBDIR MANDIR DOCDIR,$(if $(filter-out /%,$($(v))),$(error \
-	    $(v) is not an absolute path without spaces: $($(v)))))
+	$(foreach v,PREFIX BINDIR INCLUDEDIR LIBDIR MANDIR DOCDIR,$(if \
+	    $(or $(filter-out 1,$(words $($(v)))),$(filter-out /%,$($(v))),$(findstring |,$($(v))),$(findstring &,$($(v)))),$(error \
+	    $(v) is not an absolute path without spaces, | or &: '$($(v))')))
 	install -d '$(DESTDIR)$(BINDIR)' '$(DESTDIR)$(INCLUDEDIR)' '$(DESTDIR)$(LIBDIR)/pkgconfig' \
 	    '$(DESTDIR)$(MANDIR)/man1' '$(DESTDIR)$(DOCDIR)'
 	install -m 755 $(KIT)/ngulo '$(DESTDIR)$(BINDIR)/ngulo'

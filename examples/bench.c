@@ -17,12 +17,12 @@ static const uint8_t block[] = {
     NGULO_KIND_MOV_I32, 1, 4,                               /* v1 = v4 */
     NGULO_KIND_EXIT_TB, 0};                                 /* leave with v0 */
 
-/* The header that a program was compiled with and the library it runs with may differ. */
+/* The header that a program was compiled with and the library it runs with may differ, in more than the patch number. */
 static void compare_versions(void)
 {
     unsigned version = (unsigned)ngulo_version();
 
-    if (version != NGULO_VERSION_NUMBER) {
+    if (version >> 8 != NGULO_VERSION_NUMBER >> 8) {
         fprintf(stderr, "bench: compiled with ngulo.h %s, running with library %u.%u.%u\n", NGULO_VERSION, version >> 16,
                 version >> 8 & 255, version & 255);
     }
@@ -52,8 +52,10 @@ static int run(const char *name, const uint8_t *bytes, size_t length)
     } else if (ngulo_report_ending(report) == NGULO_ENDING_FAULT) {
         printf("%s: fault of a %s at %" PRIu64 "\n", name, ngulo_report_fault_is_store(report) ? "store" : "load",
                ngulo_report_fault_address(report));
-    } else {
+    } else if (ngulo_report_ending(report) == NGULO_ENDING_NO_RESULT) {
         printf("%s: op %" PRIu64 " has no stated result\n", name, ngulo_report_position(report));
+    } else {
+        printf("%s: an ending of a later version\n", name);
     }
     return 0;
 }

@@ -6,9 +6,9 @@ ngulo.h says what the calls promise and what they ask of a caller.
 import ctypes
 import sys
 
-VERSION = "0.2.0"  # what this program is written for
+VERSION = "0.2"  # what this program is written for: major and minor number
 MAX_RESULT = 2752  # bytes: has room for every result
-ENDING_EXIT, ENDING_FAULT = 1, 2
+ENDING_EXIT, ENDING_FAULT, ENDING_NO_RESULT = 1, 2, 3
 
 DECL, EXIT_TB, MOVI_I32, MOV_I32, ADD_I32 = 0x01, 0x04, 0x10, 0x11, 0x14
 GLOBAL, TEMPORARY = 0, 2
@@ -87,8 +87,10 @@ def show(name, report, values):
         print(f"{name}: exit {detail} after {count} ops, global 1 is {values[1]}")
     elif ending == ENDING_FAULT:
         print(f"{name}: fault of a {'store' if access & 256 else 'load'} at {detail}")
-    else:
+    elif ending == ENDING_NO_RESULT:
         print(f"{name}: op {detail} has no stated result")
+    else:
+        print(f"{name}: an ending of a later version")
 
 
 def main():
@@ -96,7 +98,7 @@ def main():
         ngulo = Ngulo(sys.argv[1] if len(sys.argv) > 1 else "libngulo.so.0.2")
     except (OSError, AttributeError) as error:  # no such library, or it lacks the calls
         sys.exit(f"bench: {error}")
-    if ngulo.version() != VERSION:
+    if not ngulo.version().startswith(VERSION + "."):
         print(f"bench: written for ngulo {VERSION}, running with library {ngulo.version()}", file=sys.stderr)
     ngulo.check(BLOCK)
     result = ngulo.optimise(BLOCK)

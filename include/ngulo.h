@@ -5,10 +5,11 @@
  * what every number here means, and what a run and the pass do.
  *
  * What the caller ensures, in every call:
- * - each pointer is valid for its length (report for four numbers), and not NULL even where the length is 0; the
- *   ..._nullable calls below lift this for length 0;
+ * - each pointer is valid for its length, which counts bytes (of globals: numbers; report has four numbers), and not
+ *   NULL even where the length is 0; the ..._nullable calls below lift this for length 0;
  * - globals and report are aligned for uint64_t;
- * - a buffer that a call may write (out, globals, memory, report) overlaps no other buffer of that call;
+ * - a buffer that a call may write (out, globals, memory, report) overlaps no other buffer of that call: to optimise a
+ *   block where it stands, there is ngulo_pass_in_place;
  * - until the call is back, nobody else uses such a buffer, and nobody writes the block;
  * - no buffer is longer than PTRDIFF_MAX bytes.
  * Nothing else is asked. Whatever the bytes and numbers are, each call comes back with an answer. No call allocates,
@@ -47,8 +48,9 @@
 #define NGULO_USE_ANSWER
 #endif
 
-/* What a function with a large frame is, in place of static inline: gcc would warn that it does not inline it. */
-#if defined(__GNUC__) && !defined(__clang__)
+/* What a function with a large frame is, in place of static inline: gcc, if it optimises, would warn that it does not
+   inline it; if it does not, it would keep a function that nobody calls. */
+#if defined(__GNUC__) && !defined(__clang__) && defined(__OPTIMIZE__)
 #define NGULO_STATIC __attribute__((unused)) static
 #else
 #define NGULO_STATIC static inline
@@ -200,19 +202,15 @@ enum ngulo_report_place {
     NGULO_REPORT_LENGTH = 4
 };
 
-/* Bits of an access's flags. */
+/* An access's flags: one of the sizes, in bytes, and bits beside it: NGULO_SIZE_2 | NGULO_FLAG_BIG_ENDIAN. */
 enum ngulo_flag {
-    NGULO_FLAG_SIZE = 3,       /* one of the sizes below */
-    NGULO_FLAG_SIGNED = 4,     /* a load that sign-extends */
-    NGULO_FLAG_BIG_ENDIAN = 8
-};
-
-/* The size of an access: these bits of its flags. */
-enum ngulo_size {
     NGULO_SIZE_1 = 0,
     NGULO_SIZE_2 = 1,
     NGULO_SIZE_4 = 2,
-    NGULO_SIZE_8 = 3
+    NGULO_SIZE_8 = 3,
+    NGULO_FLAG_SIZE = 3,       /* the bits that hold the size */
+    NGULO_FLAG_SIGNED = 4,     /* a load that sign-extends */
+    NGULO_FLAG_BIG_ENDIAN = 8
 };
 
 /* report[NGULO_REPORT_ACCESS] after the fault of a store has this more than its flags. */
@@ -247,8 +245,8 @@ NGULO_USE_ANSWER NGULO_API uint64_t ngulo_run(const uint8_t *block, size_t block
                                               uint64_t report[4]);
 
 /*
- * The most bytes that the result of a block of this length can take, if you do not want to lend NGULO_MAX_RESULT.
- * A result can be longer than its block: an op of 3 bytes may become one of 10 (proved: crates/ngulo/specs/Bound.antt).
+ * No result of a block of this length is longer than this, if you do not want to lend NGULO_MAX_RESULT. A result can be
+ * longer than its block: an op of 3 bytes may become one of 10. (Proved; in the sources crates/ngulo/specs/Bound.antt.)
  */
 static inline size_t ngulo_result_bound(size_t block_length)
 {
@@ -259,8 +257,8 @@ static inline size_t ngulo_result_bound(size_t block_length)
 
 /*
  * ngulo_pass onto the block itself, through a buffer on the stack. The buffer has room for buffer_length bytes, and the
- * block is the first block_length of them. Answers as ngulo_pass with the whole buffer as out; a refusal leaves it as
- * it was.
+ * block is the first block_length of them, at most all. Answers as ngulo_pass with the whole buffer as out: the bytes
+ * after the result stay as they were, also those of the block, and a refusal leaves all of it as it was.
  */
 NGULO_USE_ANSWER NGULO_STATIC uint64_t ngulo_pass_in_place(uint8_t *buffer, size_t block_length, size_t buffer_length)
 {
@@ -304,7 +302,7 @@ NGULO_USE_ANSWER static inline uint64_t ngulo_run_nullable(const uint8_t *block,
                      globals_length, memory_length == 0 ? &no_memory : memory, memory_length, report);
 }
 
-/* An answer taken apart, as every answer can be read back (proved: crates/ngulo/specs/Apart.antt). */
+/* An answer taken apart, as every answer can be read back. (Proved; in the sources crates/ngulo/specs/Apart.antt.) */
 
 /* 1 if the call was refused, else 0. */
 static inline int ngulo_is_refused(uint64_t answer)
@@ -312,7 +310,7 @@ static inline int ngulo_is_refused(uint64_t answer)
     return (answer & 255) != 0;
 }
 
-/* The number of a refusal, 1 to 12; NGULO_REFUSAL_NONE if the call was not refused. */
+/* The number of a refusal, of enum ngulo_refusal; NGULO_REFUSAL_NONE if the call was not refused. */
 static inline unsigned ngulo_refusal_number(uint64_t answer)
 {
     return NGULO_CAST(unsigned, answer & 255);

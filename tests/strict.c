@@ -6,9 +6,21 @@ struct ngulo_report {
     uint64_t places[NGULO_REPORT_LENGTH];
 };
 
+uint64_t use_names(void);
 uint64_t use_calls(const uint8_t *block, size_t block_length, uint8_t *out, size_t out_length, uint64_t *globals);
 uint64_t use_answer(uint64_t answer);
 uint64_t use_report(const struct ngulo_report *report);
+
+/* A block made of the header's names. */
+uint64_t use_names(void)
+{
+    static const uint8_t block[] = {NGULO_KIND_DECL, NGULO_CLASS_GLOBAL, NGULO_TYPE_I64,
+                                    NGULO_KIND_WIDE + NGULO_KIND_SETCOND_I32, 0, 0, 0, NGULO_COND_GTU,
+                                    NGULO_KIND_QEMU_LD_I64, 0, 0, NGULO_SIZE_2 | NGULO_FLAG_SIGNED | NGULO_FLAG_BIG_ENDIAN,
+                                    NGULO_KIND_EXIT_TB, 0};
+
+    return ngulo_check(block, sizeof block);
+}
 
 uint64_t use_calls(const uint8_t *block, size_t block_length, uint8_t *out, size_t out_length, uint64_t *globals)
 {
