@@ -9,7 +9,7 @@
 int load_block(const char *folder, const char *name, struct block *into)
 {
     char path[512];
-    struct bytes held;
+    struct bytes held = {NULL, 0};
     uint64_t answer;
 
     if (snprintf(path, sizeof path, "%s/%s", folder, name) >= (int)sizeof path) {

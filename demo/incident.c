@@ -92,8 +92,10 @@ static unsigned print_endings(const struct printer printers[BLOCKS])
             snprintf(row.cell[i], sizeof row.cell[i], "exit %u", (unsigned)ngulo_report_exit_value(report));
         } else if (ngulo_report_ending(report) == NGULO_ENDING_FAULT) {
             snprintf(row.cell[i], sizeof row.cell[i], "fault at 0x%x", (unsigned)ngulo_report_fault_address(report));
-        } else {
+        } else if (ngulo_report_ending(report) == NGULO_ENDING_NO_RESULT) {
             snprintf(row.cell[i], sizeof row.cell[i], "no stated result");
+        } else {
+            snprintf(row.cell[i], sizeof row.cell[i], "another ending");
         }
     }
     return print_row("the job's ending", &row);

@@ -78,6 +78,17 @@ static enum difference compare(const struct mistake *mistake, const struct block
     return found;
 }
 
+/* What the runs start from. */
+static void print_globals(const struct mistake *mistake)
+{
+    size_t i;
+
+    for (i = 0; i < mistake->globals_length; i += 1) {
+        printf("%sglobal %u = 0x%x", i == 0 ? "from " : ", ", (unsigned)i, (unsigned)mistake->globals[i]);
+    }
+    fputs("\n    ", stdout);
+}
+
 static int tell_mistake(const char *folder, const struct mistake *mistake)
 {
     static struct block source;
@@ -90,6 +101,7 @@ static int tell_mistake(const char *folder, const struct mistake *mistake)
         return STATUS_USAGE;
     }
     printf("  %s\n    ", mistake->name);
+    print_globals(mistake);
     if (compare(mistake, &source, "the mistake", &wrong) != DIFFERENT) {
         puts("no difference");
         return STATUS_REFUSED;
@@ -100,7 +112,8 @@ static int tell_mistake(const char *folder, const struct mistake *mistake)
         putchar('\n');
         return STATUS_REFUSED;
     }
-    puts("ngulo_pass's block: no difference");
+    puts(found == SAME ? "ngulo_pass's block: no difference"
+                       : "ngulo_pass's block: no stated result either, though nothing is promised of such a run");
     return STATUS_DONE;
 }
 

@@ -15,7 +15,8 @@ int judge_names(const struct request *request, const struct records *block)
     unsigned names = count_names(request->names);
 
     if (names > block->globals) {
-        return complain("--names: %u names, the block declares %u globals", names, block->globals);
+        return complain("--names: %u name%s, the block declares %u global%s", names, names == 1 ? "" : "s",
+                        block->globals, block->globals == 1 ? "" : "s");
     }
     return STATUS_DONE;
 }
@@ -91,8 +92,8 @@ static int explain(const struct request *request, const struct bytes *block, con
         return complain("%s: the result is not what is left of the folded block", shown_name(request->files[0]));
     }
     print_fates(&source, fates, request->names);
-    printf("%u ops of %lu bytes became %u of %lu\n", source.ops, (unsigned long)block->length, left.ops,
-           (unsigned long)length);
+    printf("%u op%s of %lu bytes became %u of %lu\n", source.ops, source.ops == 1 ? "" : "s",
+           (unsigned long)block->length, left.ops, (unsigned long)length);
     return STATUS_DONE;
 }
 

@@ -156,7 +156,7 @@ static int say_tally(const struct side sides[2], const struct tally *tally)
         return STATUS_REFUSED;
     }
     if (exits == 0 && faults > 0) {
-        puts("none came to an exit: try a state of your own, or --memory");
+        puts("none came to an exit: try --memory N, or globals of your own");
     }
     return exempt == tally->runs ? STATUS_USAGE : STATUS_DONE;
 }

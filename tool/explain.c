@@ -75,17 +75,68 @@ int find_kept(const struct records *block, const struct records *result, struct 
     return left == 0;
 }
 
-/* Why the output of a dropped op is dead: an op that is left writes it first, or its life ends. */
-static void print_reason(const struct records *block, const struct fate fates[NGULO_MAX_OPS], unsigned position,
-                         const char *names)
+static int reads(const uint8_t *op, unsigned variable)
 {
-    unsigned variable = op_at(block, position)[1];
+    const struct shape *shape = shape_of(op[0]);
+
+    return memchr(op + 1 + shape->outputs, (int)variable, shape->inputs) != NULL;
+}
+
+static int writes(const uint8_t *op, unsigned variable)
+{
+    return shape_of(op[0])->outputs == 1 && op[1] == variable;
+}
+
+/* The first op after a position that is left and reads or writes a variable, or ends a basic block. The last op does. */
+static unsigned next_use(const struct fate fates[NGULO_MAX_OPS], unsigned position, unsigned variable)
+{
     unsigned i = position + 1;
 
-    while (!(fates[i].kept && (is_edge(fates[i].form[0]) ||
-                               (shape_of(fates[i].form[0])->outputs == 1 && fates[i].form[1] == variable)))) {
+    while (!(fates[i].kept && (is_edge(fates[i].form[0]) || reads(fates[i].form, variable) ||
+                               writes(fates[i].form, variable)))) {
         i += 1;
     }
+    return i;
+}
+
+/* The first op after a position that is left and is a load or store, or the last op. */
+static unsigned next_access(const struct records *block, const struct fate fates[NGULO_MAX_OPS], unsigned position)
+{
+    unsigned i = position + 1;
+
+    while (i + 1 < block->ops && !(fates[i].kept && is_access(fates[i].form[0]))) {
+        i += 1;
+    }
+    return i;
+}
+
+/* Why the output of a kept op is live: it is read, or its life goes on; else it is a global, and an access is next. */
+static void print_use(const struct records *block, const struct fate fates[NGULO_MAX_OPS], unsigned position,
+                      const char *names)
+{
+    unsigned variable = op_at(block, position)[1];
+    unsigned i = next_use(fates, position, variable);
+
+    if (reads(fates[i].form, variable)) {
+        printf("op %u reads ", i);
+        print_variable(variable, names);
+    } else if (is_edge(fates[i].form[0])) {
+        print_variable(variable, names);
+        printf(" outlives its basic block, which ends at op %u", i);
+    } else {
+        printf("op %u may fault, and then global ", next_access(block, fates, position));
+        print_variable(variable, names);
+        fputs(" is seen", stdout);
+    }
+}
+
+/* Why the output of a dropped op is dead: an op that is left writes it first, or its life ends. */
+static void print_end(const struct records *block, const struct fate fates[NGULO_MAX_OPS], unsigned position,
+                      const char *names)
+{
+    unsigned variable = op_at(block, position)[1];
+    unsigned i = next_use(fates, position, variable);
+
     if (!is_edge(fates[i].form[0])) {
         printf("op %u writes ", i);
         print_variable(variable, names);
@@ -108,13 +159,18 @@ static void print_fate(const struct records *block, const struct fate fates[NGUL
     printf("%3u  %-34s  ", position, text);
     if (fate->folded) {
         list_record(fate->form, text);
-        printf("folded to %s%s", text, fate->kept ? "" : ", then ");
-    } else if (fate->kept) {
-        fputs("kept", stdout);
+        printf("folded to %s, ", text);
     }
     if (!fate->kept) {
         fputs("dropped: ", stdout);
-        print_reason(block, fates, position, names);
+        print_end(block, fates, position, names);
+    } else if (is_access(fate->form[0])) {
+        fputs("kept: it may fault", stdout);
+    } else if (is_edge(fate->form[0])) {
+        fputs("kept", stdout);
+    } else {
+        fputs("kept: ", stdout);
+        print_use(block, fates, position, names);
     }
     putchar('\n');
 }

@@ -10,6 +10,7 @@ int complain(const char *format, ...)
 {
     va_list values;
 
+    fflush(stdout);
     fputs("ngulo: ", stderr);
     va_start(values, format);
     vfprintf(stderr, format, values);
@@ -177,8 +178,8 @@ static int bad_digit(const struct cursor *c, const char *name)
         return complain("%s: line %lu, column %lu: '%c' is not a hex digit", name, (unsigned long)c->line, column,
                         (int)found);
     }
-    return complain("%s: line %lu, column %lu: byte %02x is not a hex digit: is it a raw block, without --hex?", name,
-                    (unsigned long)c->line, column, found);
+    return complain("%s: line %lu, column %lu: byte %02x is not a hex digit%s", name, (unsigned long)c->line, column,
+                    found, found < ' ' ? ": is it a raw block, without --hex?" : "");
 }
 
 /* The byte at the cursor, which then stands after it. */

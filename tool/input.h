@@ -18,7 +18,8 @@ struct bytes {
     size_t length;
 };
 
-/* Writes "ngulo: ", the message and a line feed to standard error. Answers STATUS_USAGE. */
+/* Writes "ngulo: ", the message and a line feed to standard error, after what standard output has so far. Answers
+   STATUS_USAGE. */
 int complain(const char *format, ...);
 
 /* Flushes standard output. Answers the status given, or STATUS_USAGE if something could not be written; said once. */
@@ -33,7 +34,7 @@ int read_bytes(const char *path, struct bytes *into);
 /* The same, of a file that holds a block: raw bytes, or hex text. */
 int read_block(const char *path, int hex, struct bytes *into);
 
-/* Could these bytes be hex text, with at least one byte in it? */
+/* Are these bytes hex digits, white space and comments only, with at least one digit? */
 int looks_like_hex(const struct bytes *held);
 
 /* A number, decimal or hex after 0x, below 2^64: 1 if the text is one, else 0. */

@@ -23,14 +23,20 @@ static void add_field(char text[LISTING_SIZE], int first, char mark, uint64_t va
     snprintf(text + length, LISTING_SIZE - length, "%s%c%" PRIu64, first ? " " : ", ", mark, value);
 }
 
+void list_name(uint8_t kind, char text[LISTING_SIZE])
+{
+    const char *width = kind < NGULO_KIND_MOVI_I32 ? "" : kind < NGULO_KIND_WIDE ? "_i32" : "_i64";
+
+    snprintf(text, LISTING_SIZE, "%s%s", shape_of(kind)->name, width);
+}
+
 void list_record(const uint8_t *record, char text[LISTING_SIZE])
 {
     const struct shape *shape = shape_of(record[0]);
     unsigned operands = shape->outputs + shape->inputs;
-    int wide = record[0] >= NGULO_KIND_WIDE;
     unsigned k;
 
-    snprintf(text, LISTING_SIZE, "%s%s", shape->name, record[0] < NGULO_KIND_MOVI_I32 ? "" : wide ? "_i64" : "_i32");
+    list_name(record[0], text);
     for (k = 1; k <= operands; k += 1) {
         add_field(text, k == 1, 'v', record[k]);
     }
@@ -74,7 +80,7 @@ void print_variable(unsigned variable, const char *names)
     printf("v%u%s%.*s", variable, length == 0 ? "" : " ", (int)length, name);
 }
 
-/* Beside a text of some length: variables that have names. */
+/* Beside a text of some length: variables that have names, each once. */
 static void print_beside(size_t length, const uint8_t *variables, unsigned count, const char *names)
 {
     const char *name;
@@ -82,7 +88,7 @@ static void print_beside(size_t length, const uint8_t *variables, unsigned count
     unsigned k;
 
     for (k = 0; k < count; k += 1) {
-        if (find_name(names, variables[k], &name) > 0) {
+        if (find_name(names, variables[k], &name) > 0 && memchr(variables, variables[k], k) == NULL) {
             printf("%*s%s", beside ? 0 : length < 31 ? 32 - (int)length : 1, "", beside ? ", " : "# ");
             print_variable(variables[k], names);
             beside = 1;

@@ -7,6 +7,9 @@
 /* Room for a record's text. */
 #define LISTING_SIZE 64
 
+/* The name of a known kind. */
+void list_name(uint8_t kind, char text[LISTING_SIZE]);
+
 /* The text of a record with a known kind. */
 void list_record(const uint8_t *record, char text[LISTING_SIZE]);
 

@@ -17,7 +17,8 @@
 #define STATE \
     "  --global V       the next global's value, from global 0 on. Give one for each\n" \
     "                   global the block declares: none is filled in (refusal 11)\n" \
-    "  --memory N       lend N bytes of zero; without it and F, no memory\n" \
+    "  --memory N       lend N bytes: of zero, or by the seed. Without it and F no memory,\n" \
+    "                   or as much as the seed says\n" \
     "  --memory-file F  lend the bytes of F, always raw; F itself stays as it is\n"
 #define NUMBERS "\nNumbers are decimal, or hex after 0x, from 0 to 2^64 - 1. --option=VALUE works too.\n"
 
@@ -39,7 +40,8 @@ static const struct command commands[] = {
      "  --offsets        before each record the place where it starts, and an op's\n"
      "                   position; a refused block is listed up to the refused record\n" PLAIN "'refusal 7 at 31'\n"},
     {"run", command_run, 1, TAKES_PLAIN | TAKES_NAMES | TAKES_STATE | TAKES_RUN | TAKES_SEED,
-     "usage: ngulo run FILE [--global V]... [--memory N | --memory-file F] | [--seed S]\n"
+     "usage: ngulo run FILE [--global V]... [--memory N | --memory-file F]\n"
+     "       ngulo run FILE --seed S [--memory N]\n"
      "                 [--trace] [--names A,B,...] [--dump-memory] [--plain] [--hex]\n"
      "\n"
      "Says how the run ended, in one line of these:\n"
@@ -65,24 +67,23 @@ static const struct command commands[] = {
      "\n" FILE_AND_HEX
      "                   The result is hex text then too\n"
      "  -o OUT           where the result goes, also --output; - is standard output\n"
-     "  --explain        say for each op whether it was kept, what it was folded to, or\n"
-     "                   why it was dropped; the block is then written to OUT alone\n" NAMES PLAIN
+     "  --explain        say for each op what it was folded to, and why it was kept or\n"
+     "                   dropped; the block is then written to OUT alone\n" NAMES PLAIN
      "'refusal 7 at 31'\n"},
     {"diff", command_diff, 2, TAKES_PLAIN | TAKES_STATE | TAKES_SEED | TAKES_RUNS,
-     "usage: ngulo diff A B [--global V]... [--memory N | --memory-file F]\n"
-     "                  [--seed S] [--runs N] [--plain] [--hex]\n"
+     "usage: ngulo diff A B [--seed S] [--runs N] [--memory N] [--plain] [--hex]\n"
+     "       ngulo diff A B --global V... [--memory N | --memory-file F] [--plain] [--hex]\n"
      "\n"
      "Runs two blocks on the same globals and memory, and says the first thing in which\n"
      "B differs from A: the ending, a global, the memory; or that B runs more ops. Without\n"
-     "globals and memory given, on those of 1000 seeds: edge values, and memories of at most\n"
-     "64, 4096 or 65536 bytes. Where A meets an op without a stated result nothing is asked\n"
-     "of B.\n"
+     "--global and --memory-file, on those of 1000 seeds: edge values, and memories of at\n"
+     "most 64, 4096 or 65536 bytes. Where A meets an op without a stated result nothing is\n"
+     "asked of B.\n"
      "\n"
      "  A, B             the blocks, say one and what your own pass made of it\n"
      "  --hex            both are hex text\n" STATE
-     "  --seed S         the first seed, 1 if not given; with it or --runs, --memory N is\n"
-     "                   the length of each memory\n"
-     "  --runs N         how many seeds, one after the other, 1000 if not given\n" PLAIN "'refusal 7 at 31'\n"
+     "  --seed S         the first seed, 1 if not given\n"
+     "  --runs N         how many seeds, one after the other, 1000 if not given\n" PLAIN "'B: refusal 7 at 31'\n"
      "\n"
      "Exit status: 0 no difference, 1 a difference or a refusal, 2 nothing compared (A\n"
      "always met an op without a stated result), or anything else.\n" NUMBERS},
@@ -186,7 +187,8 @@ static int answer(int argc, char **argv)
     if (argc < 2) {
         return complain("no command given; see 'ngulo --help'");
     }
-    if (is_help(argv[1]) || (strcmp(argv[1], "help") == 0 && (argc == 2 || is_help(argv[2])))) {
+    if (is_help(argv[1]) ||
+        (strcmp(argv[1], "help") == 0 && (argc == 2 || is_help(argv[2]) || strcmp(argv[2], "help") == 0))) {
         return say_overview();
     }
     if (strcmp(argv[1], "--version") == 0) {

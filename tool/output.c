@@ -52,14 +52,27 @@ static int cannot_write(const char *path)
     return complain("%s: cannot write: %s", path, strerror(errno));
 }
 
-static int write_directly(const char *path, int hex, const uint8_t *data, size_t length)
+static int write_directly(const char *path, int hex, const uint8_t *data, size_t length, int is_file)
 {
     FILE *stream = fopen(path, "wb");
 
     if (stream == NULL) {
         return complain("%s: cannot open for writing: %s", path, strerror(errno));
     }
-    return fill(stream, hex, data, length, 0) ? STATUS_DONE : cannot_write(path);
+    return fill(stream, hex, data, length, is_file) ? STATUS_DONE : cannot_write(path);
+}
+
+/* A link that leads nowhere gets its file, unless not all of it can be written. */
+static int write_behind(const char *path, int hex, const uint8_t *data, size_t length)
+{
+    int status = write_directly(path, hex, data, length, 1);
+    char *made = status == STATUS_DONE ? NULL : realpath(path, NULL);
+
+    if (made != NULL) {
+        unlink(made);
+    }
+    free(made);
+    return status;
 }
 
 /* The mode of a file that is made anew. */
@@ -72,8 +85,22 @@ static mode_t new_mode(void)
 }
 
 /*
- * A file open for writing with the mode of the one that it is to replace, and its owner if that can be had; NULL for
- * none. Its name is put into name, which ends with six X.
+ * Gives a file the owner and the group of the one that it is to replace, or its group alone, as far as that can be had.
+ * Answers that one's mode, without what it lets its group do if another group has the file now.
+ */
+static mode_t take_owner(int file, const struct stat *replaced)
+{
+    mode_t mode = replaced->st_mode & (mode_t)(S_IRWXU | S_IRWXG | S_IRWXO);
+
+    if (fchown(file, replaced->st_uid, replaced->st_gid) == 0 || fchown(file, (uid_t)-1, replaced->st_gid) == 0) {
+        return mode;
+    }
+    return mode & ~(mode_t)S_IRWXG;
+}
+
+/*
+ * A file open for writing with the mode of the one that it is to replace; NULL for none. Its name is put into name, which
+ * ends with six X.
  */
 static FILE *open_new(char *name, const struct stat *replaced)
 {
@@ -83,11 +110,7 @@ static FILE *open_new(char *name, const struct stat *replaced)
     if (file < 0) {
         return NULL;
     }
-    if (replaced != NULL && fchown(file, replaced->st_uid, replaced->st_gid) != 0) {
-        errno = 0;
-    }
-    stream = fchmod(file, replaced == NULL ? new_mode() : replaced->st_mode & (mode_t)0777) == 0 ? fdopen(file, "wb")
-                                                                                               : NULL;
+    stream = fchmod(file, replaced == NULL ? new_mode() : take_owner(file, replaced)) == 0 ? fdopen(file, "wb") : NULL;
     if (stream == NULL) {
         int reason = errno;
 
@@ -124,13 +147,16 @@ static int replace(const struct target *target, char *name, int hex, const uint8
 
 static int write_through(const struct target *target, int hex, const uint8_t *data, size_t length)
 {
-    char *name = (char *)malloc(strlen(target->place) + sizeof ".XXXXXX");
+    const char *slash = strrchr(target->place, '/');
+    size_t folder = slash == NULL ? 0 : (size_t)(slash - target->place) + 1;
+    char *name = (char *)malloc(folder + sizeof ".ngulo.XXXXXX");
     int status;
 
     if (name == NULL) {
         return complain("%s: out of memory", target->shown);
     }
-    sprintf(name, "%s.XXXXXX", target->place);
+    memcpy(name, target->place, folder);
+    strcpy(name + folder, ".ngulo.XXXXXX");
     status = replace(target, name, hex, data, length);
     free(name);
     return status;
@@ -145,8 +171,11 @@ int write_block(const char *path, int hex, const uint8_t *data, size_t length)
     int status;
 
     /* No file can be lost where there is none: a device, a pipe, a link that leads nowhere. */
-    if (exists ? !S_ISREG(held.st_mode) : lstat(path, &held) == 0) {
-        return write_directly(path, hex, data, length);
+    if (exists && !S_ISREG(held.st_mode)) {
+        return write_directly(path, hex, data, length, 0);
+    }
+    if (!exists && lstat(path, &held) == 0) {
+        return write_behind(path, hex, data, length);
     }
     /* The file that a link leads to is replaced, not the link. */
     followed = exists && access(path, W_OK) == 0 ? realpath(path, NULL) : NULL;

@@ -8,19 +8,29 @@
 struct seen {
     const uint8_t *declared[NGULO_MAX_VARIABLES];
     unsigned variables;
-    unsigned others; /* variables that are no globals */
     unsigned ops;
-    int written[NGULO_MAX_VARIABLES]; /* in this basic block */
+    size_t last_op;
+    size_t written[NGULO_MAX_VARIABLES]; /* where a variable was written last; 0, where no such op is, for nowhere */
+    size_t lost[NGULO_MAX_VARIABLES];    /* where the basic block of that write ended; 0 if it did not yet */
 };
 
-static void see_op(struct seen *seen, const uint8_t *op)
+static void see_op(struct seen *seen, const uint8_t *op, size_t place)
 {
+    unsigned v;
+
     seen->ops += 1;
-    if (is_edge(op[0])) {
-        memset(seen->written, 0, sizeof seen->written);
-    }
+    seen->last_op = place;
     if (shape_of(op[0])->outputs == 1) {
-        seen->written[op[1]] = 1;
+        seen->written[op[1]] = place;
+        seen->lost[op[1]] = 0;
+    }
+    if (!is_edge(op[0])) {
+        return;
+    }
+    for (v = 0; v < seen->variables; v += 1) {
+        if (seen->written[v] != 0 && seen->lost[v] == 0) {
+            seen->lost[v] = place;
+        }
     }
 }
 
@@ -33,9 +43,8 @@ static void look_back(const uint8_t *block, size_t place, struct seen *seen)
         if (block[at] == NGULO_KIND_DECL) {
             seen->declared[seen->variables] = block + at;
             seen->variables += 1;
-            seen->others += block[at + 1] != NGULO_CLASS_GLOBAL;
         } else {
-            see_op(seen, block + at);
+            see_op(seen, block + at, at);
         }
     }
 }
@@ -53,6 +62,20 @@ static void print_bad_declaration(FILE *stream, const struct seen *seen, const u
     }
 }
 
+static void print_bad_flags(FILE *stream, const uint8_t *record)
+{
+    unsigned flags = record[3];
+
+    fprintf(stream, ": flags 0x%02x: ", flags);
+    if (flags > NGULO_FLAG_SIZE + NGULO_FLAG_SIGNED + NGULO_FLAG_BIG_ENDIAN) {
+        fputs("the bits from 4 on are to be zero", stream);
+    } else if (operand_type(record[0], 1) == NGULO_TYPE_I32 && (flags & NGULO_FLAG_SIZE) == NGULO_SIZE_8) {
+        fputs("8 bytes are more than the op's 32 bits", stream);
+    } else {
+        fputs("a store does not sign-extend", stream);
+    }
+}
+
 static void print_bad_field(FILE *stream, const uint8_t *record)
 {
     unsigned last = record[record_length(record[0]) - 1];
@@ -67,10 +90,10 @@ static void print_bad_field(FILE *stream, const uint8_t *record)
         break;
     case NGULO_KIND_QEMU_LD_I32:
     case NGULO_KIND_QEMU_ST_I32:
-        fprintf(stream, ": flags 0x%02x are not for this op", last);
+        print_bad_flags(stream, record);
         break;
     default:
-        if (narrow_kind(record[0]) == NGULO_KIND_BRCOND_I32 && record[3] > NGULO_COND_GTU) {
+        if (is_brcond(record[0]) && record[3] > NGULO_COND_GTU) {
             fprintf(stream, ": there is no condition %u", (unsigned)record[3]);
         } else {
             fprintf(stream, ": there is no label %u", last);
@@ -79,31 +102,56 @@ static void print_bad_field(FILE *stream, const uint8_t *record)
     }
 }
 
-/* The operands of which this refusal may speak, each with what speaks against it; a variable is told once. */
+/* Does this refusal, one of operands, speak of the operand at a place of the record? */
+static int speaks_of(unsigned number, const struct seen *seen, const uint8_t *record, unsigned k)
+{
+    unsigned v = record[k];
+
+    switch (number) {
+    case NGULO_REFUSAL_UNDECLARED:
+        return v >= seen->variables;
+    case NGULO_REFUSAL_WRONG_WIDTH:
+        return seen->declared[v][2] != operand_type(record[0], k);
+    case NGULO_REFUSAL_UNWRITTEN:
+        return k > shape_of(record[0])->outputs && seen->declared[v][1] == NGULO_CLASS_TEMPORARY &&
+               (seen->written[v] == 0 || seen->lost[v] != 0);
+    default:
+        return 0;
+    }
+}
+
+static void print_operand(FILE *stream, unsigned number, const struct seen *seen, unsigned v)
+{
+    if (number == NGULO_REFUSAL_UNDECLARED) {
+        fprintf(stream, "v%u is not declared", v);
+    } else if (number == NGULO_REFUSAL_WRONG_WIDTH) {
+        fprintf(stream, "v%u has %s", v, seen->declared[v][2] == NGULO_TYPE_I32 ? "32 bits, not 64" : "64 bits, not 32");
+    } else if (seen->written[v] == 0) {
+        fprintf(stream, "v%u is not written yet", v);
+    } else {
+        fprintf(stream, "v%u was written at %lu, but its basic block ended at %lu", v, (unsigned long)seen->written[v],
+                (unsigned long)seen->lost[v]);
+    }
+}
+
+/* The operands of which the refusal speaks, each variable once. */
 static void print_operands(FILE *stream, unsigned number, const struct seen *seen, const uint8_t *record)
 {
     const struct shape *shape = shape_of(record[0]);
-    unsigned first = number == NGULO_REFUSAL_UNWRITTEN ? 1 + shape->outputs : 1;
     const char *between = ": ";
     unsigned k;
+    unsigned before;
 
-    for (k = first; k <= shape->outputs + shape->inputs; k += 1) {
-        unsigned v = record[k];
-
-        if (memchr(record + first, record[k], k - first) != NULL) {
-            continue;
+    for (k = 1; k <= shape->outputs + shape->inputs; k += 1) {
+        before = 1;
+        while (before < k && !(record[before] == record[k] && speaks_of(number, seen, record, before))) {
+            before += 1;
         }
-        if (number == NGULO_REFUSAL_UNDECLARED && v >= seen->variables) {
-            fprintf(stream, "%sv%u is not declared", between, v);
-        } else if (number == NGULO_REFUSAL_WRONG_WIDTH) {
-            fprintf(stream, "%sv%u has %d bits", between, v, seen->declared[v][2] == NGULO_TYPE_I32 ? 32 : 64);
-        } else if (number == NGULO_REFUSAL_UNWRITTEN && seen->declared[v][1] == NGULO_CLASS_TEMPORARY &&
-                   !seen->written[v]) {
-            fprintf(stream, "%sv%u is not written yet", between, v);
-        } else {
-            continue;
+        if (before == k && speaks_of(number, seen, record, k)) {
+            fputs(between, stream);
+            print_operand(stream, number, seen, record[k]);
+            between = "; ";
         }
-        between = ", ";
     }
 }
 
@@ -120,12 +168,26 @@ static void print_unset_label(FILE *stream, const struct bytes *block)
     }
     for (at = 0; at < block->length; at += record_length(block->data[at])) {
         const uint8_t *op = block->data + at;
-        unsigned label = op[record_length(op[0]) - 1];
 
-        if ((op[0] == NGULO_KIND_BR || narrow_kind(op[0]) == NGULO_KIND_BRCOND_I32) && !set[label]) {
-            fprintf(stream, "  label %u, jumped to at %lu, is never set\n", label, (unsigned long)at);
+        if ((op[0] == NGULO_KIND_BR || is_brcond(op[0])) && !set[label_of(op)]) {
+            fprintf(stream, "  label %u, jumped to at %lu, is never set\n", (unsigned)label_of(op), (unsigned long)at);
             return;
         }
+    }
+}
+
+/* The last op, which is no exit_tb. */
+static void print_no_exit(FILE *stream, const struct bytes *block)
+{
+    struct seen seen;
+    char text[LISTING_SIZE];
+
+    look_back(block->data, block->length, &seen);
+    if (seen.ops == 0) {
+        fputs("  there is no op\n", stream);
+    } else {
+        list_record(block->data + seen.last_op, text);
+        fprintf(stream, "  at %lu: %s: it is the last op\n", (unsigned long)seen.last_op, text);
     }
 }
 
@@ -143,7 +205,7 @@ static void print_record_reason(FILE *stream, const uint8_t *block, unsigned num
     } else if (number == NGULO_REFUSAL_BAD_FIELD) {
         print_bad_field(stream, block + place);
     } else if (number == NGULO_REFUSAL_BAD_LABEL) {
-        fprintf(stream, ": label %u is set already", (unsigned)block[place + record_length(block[place]) - 1]);
+        fprintf(stream, ": label %u is set already", (unsigned)label_of(block + place));
     } else {
         print_operands(stream, number, &seen, block + place);
     }
@@ -153,13 +215,17 @@ static void print_record_reason(FILE *stream, const uint8_t *block, unsigned num
 void print_reason_of(FILE *stream, const struct bytes *block, unsigned number, size_t place)
 {
     size_t left = block->length - place;
+    char text[LISTING_SIZE];
 
-    if (number == NGULO_REFUSAL_BAD_LABEL && left == 0) {
+    if (number == NGULO_REFUSAL_NO_EXIT) {
+        print_no_exit(stream, block);
+    } else if (number == NGULO_REFUSAL_BAD_LABEL && left == 0) {
         print_unset_label(stream, block);
     } else if (number == NGULO_REFUSAL_UNKNOWN_KIND) {
         fprintf(stream, "  at %lu: kind %02X\n", (unsigned long)place, (unsigned)block->data[place]);
     } else if (number == NGULO_REFUSAL_RECORD_CUT) {
-        fprintf(stream, "  at %lu: a record of %lu bytes, %lu left\n", (unsigned long)place,
+        list_name(block->data[place], text);
+        fprintf(stream, "  at %lu: %s, a record of %lu bytes, %lu left\n", (unsigned long)place, text,
                 (unsigned long)record_length(block->data[place]), (unsigned long)left);
     } else if (left > 0) {
         print_record_reason(stream, block->data, number, place);

@@ -52,9 +52,34 @@ int is_access(uint8_t kind)
     return narrow_kind(kind) == NGULO_KIND_QEMU_LD_I32 || narrow_kind(kind) == NGULO_KIND_QEMU_ST_I32;
 }
 
+int is_brcond(uint8_t kind)
+{
+    return narrow_kind(kind) == NGULO_KIND_BRCOND_I32;
+}
+
 int is_edge(uint8_t kind)
 {
     return shape_of(kind)->outputs == 0 && !is_access(kind);
+}
+
+unsigned operand_type(uint8_t kind, unsigned place)
+{
+    switch (kind) {
+    case NGULO_KIND_EXIT_TB:
+        return NGULO_TYPE_I64;
+    case NGULO_KIND_EXT_I32_I64:
+    case NGULO_KIND_EXTU_I32_I64:
+        return place == 1 ? NGULO_TYPE_I64 : NGULO_TYPE_I32;
+    case NGULO_KIND_TRUNC_I64_I32:
+        return place == 1 ? NGULO_TYPE_I32 : NGULO_TYPE_I64;
+    default: /* by the op's width, but for an address */
+        return kind >= NGULO_KIND_WIDE || (is_access(kind) && place == 2) ? NGULO_TYPE_I64 : NGULO_TYPE_I32;
+    }
+}
+
+uint8_t label_of(const uint8_t *op)
+{
+    return op[record_length(op[0]) - 1];
 }
 
 void cut_block(const uint8_t *block, size_t length, struct records *into)

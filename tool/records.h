@@ -40,6 +40,15 @@ int is_edge(uint8_t kind);
 /* qemu_ld or qemu_st? */
 int is_access(uint8_t kind);
 
+/* brcond? */
+int is_brcond(uint8_t kind);
+
+/* The type of the operand at a place of a record of this kind: at 1 the first. */
+unsigned operand_type(uint8_t kind, unsigned place);
+
+/* The label of set_label, br or brcond: its last byte. */
+uint8_t label_of(const uint8_t *op);
+
 void cut_block(const uint8_t *block, size_t length, struct records *into);
 
 /* An op by its position, and the last one, which is an exit_tb. */

@@ -32,8 +32,12 @@ int say_refusal(FILE *stream, const struct request *request, const char *file, c
     unsigned number = ngulo_refusal_number(answer);
     unsigned long place = (unsigned long)ngulo_refusal_place(answer);
 
+    if (stream == stderr) {
+        fflush(stdout);
+    }
     if (request->plain) {
-        fprintf(stream, "refusal %u at %lu\n", number, place);
+        fprintf(stream, "%srefusal %u at %lu\n", request->file_count < 2 ? "" : file == request->files[0] ? "A: " : "B: ",
+                number, place);
         return STATUS_REFUSED;
     }
     fprintf(stream, "%s: refusal %u at %lu: %s", shown_name(file), number, place, ngulo_refusal_text(number));

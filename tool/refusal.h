@@ -8,7 +8,7 @@
 #include <stdio.h>
 
 /*
- * Says a refusal of the block of a file. Plain: 'refusal NUMBER at PLACE'. Else with the file, the refusal's words, the
+ * Says a refusal of the block of a file. Plain: 'refusal NUMBER at PLACE', of two files after 'A: ' or 'B: '. Else with the file, the refusal's words, the
  * record at its place, which part of refusal 11 applies to what the request lends, and a hint on standard error if the
  * block was taken raw and looks like hex text. Answers STATUS_REFUSED.
  */

@@ -156,21 +156,22 @@ static int is_stdin(const char *file)
 
 int has_state(const struct request *request)
 {
-    int seeded = request->seed_text != NULL || request->runs_text != NULL;
-
-    return request->globals_length > 0 || request->memory_file != NULL || (request->memory_text != NULL && !seeded);
+    return request->globals_length > 0 || request->memory_file != NULL;
 }
 
-static int judge_seeds(const struct request *request)
+/* Where seeds are used: if one is given, or with diff if no state is. */
+static int judge_seeds(const struct command *command, const struct request *request)
 {
-    if (request->seed_text == NULL && request->runs_text == NULL) {
+    int seeded = request->seed_text != NULL || request->runs_text != NULL;
+
+    if (seeded && has_state(request)) {
+        return complain("%s: not with --global or --memory-file", request->seed_text != NULL ? "--seed" : "--runs");
+    }
+    if (!seeded && (has_state(request) || !(command->options & TAKES_RUNS))) {
         return STATUS_DONE;
     }
-    if (has_state(request)) {
-        return complain("--seed and --runs: not with --global or --memory-file");
-    }
     if (request->memory_length > NGULO_MAX_MEMORY) {
-        return complain("--memory: with --seed or --runs at most %d", NGULO_MAX_MEMORY);
+        return complain("--memory: at most %d with seeds", NGULO_MAX_MEMORY);
     }
     return request->runs_text != NULL && request->runs == 0 ? complain("--runs: 0 runs show nothing") : STATUS_DONE;
 }
@@ -192,10 +193,16 @@ static int judge(const struct command *command, const struct request *request)
         return complain("standard input can only be one of %s and --memory-file",
                         command->files == 1 ? "FILE" : "A, B");
     }
+    if (request->out != NULL && request->out[0] == '\0') {
+        return complain("-o: the name of OUT is empty");
+    }
     if (request->names != NULL && command->options & TAKES_OUT && !request->explain) {
         return complain("--names: only with --explain");
     }
-    return judge_seeds(request);
+    if (request->names != NULL && request->offsets) {
+        return complain("--names: not with --offsets");
+    }
+    return judge_seeds(command, request);
 }
 
 int read_request(const struct command *command, char **next, char **end, struct request *request)

@@ -48,7 +48,7 @@ struct command {
     const char *help;
 };
 
-/* Are globals and memory given, and not left to seeds? */
+/* Are globals or the memory's bytes given, and not left to seeds? */
 int has_state(const struct request *request);
 
 /*

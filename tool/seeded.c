@@ -25,6 +25,7 @@ static uint64_t make_value(uint64_t *state, int wide, size_t memory_length)
     case 3: return top;
     case 4: return top - 1;
     case 5: return any & all;
+    case 6: return (memory_length - 8 + any % 16) & all;
     default: return any % (memory_length + 8);
     }
 }

@@ -17,17 +17,6 @@ struct machine {
     uint64_t report[NGULO_REPORT_LENGTH];
 };
 
-/* The label of br or brcond: its last byte. */
-static uint8_t label_of(const uint8_t *op)
-{
-    return op[record_length(op[0]) - 1];
-}
-
-static int is_brcond(const uint8_t *op)
-{
-    return narrow_kind(op[0]) == NGULO_KIND_BRCOND_I32;
-}
-
 /*
  * The op, and an exit after it. A branch has its label there, and brcond an op before the label, so that the count
  * tells which way it went: brcond, set_label and exit_tb are three.
@@ -45,10 +34,10 @@ static void make_probe(struct probe *probe, const struct records *block, const u
     label[1] = label_of(op);
     start_probe(probe, block);
     add_record(probe, op);
-    if (is_brcond(op)) {
+    if (is_brcond(op[0])) {
         add_record(probe, skipped);
     }
-    if (is_brcond(op) || op[0] == NGULO_KIND_BR) {
+    if (is_brcond(op[0]) || op[0] == NGULO_KIND_BR) {
         add_record(probe, label);
     }
     if (op[0] != NGULO_KIND_EXIT_TB) {
@@ -66,7 +55,7 @@ static int run_op(const struct records *block, struct machine *m)
     make_probe(&probe, block, op);
     answer = ngulo_run_nullable(probe.bytes, probe.length, m->values, block->variables, m->memory, m->memory_length,
                                 m->report);
-    m->jumps = op[0] == NGULO_KIND_BR || (is_brcond(op) && ngulo_report_count(m->report) == 3);
+    m->jumps = op[0] == NGULO_KIND_BR || (is_brcond(op[0]) && ngulo_report_count(m->report) == 3);
     return !ngulo_is_refused(answer) && ngulo_report_ending(m->report) == NGULO_ENDING_EXIT &&
            op[0] != NGULO_KIND_EXIT_TB;
 }
@@ -131,7 +120,7 @@ static void print_writes(const struct records *block, const char *names, const s
     } else if (m->jumps) {
         printf("jumps to op %u", next_position(block, m));
     } else {
-        fputs(is_brcond(op) ? "does not jump" : "goes on", stdout);
+        fputs(is_brcond(op[0]) ? "does not jump" : "goes on", stdout);
     }
 }
 
