@@ -1,12 +1,12 @@
 """A bench in Python: checks a block, optimises it, runs both on the same globals, and takes the answers apart.
 
-Usage: bench.py [LIBRARY], the path or the name of the shared library; libngulo.so.0.2 if none is given.
+Usage: bench.py [LIBRARY], the path or the name of the shared library; that of VERSION if none is given.
 ngulo.h says what the calls promise and what they ask of a caller.
 """
 import ctypes
 import sys
 
-VERSION = "0.2"  # what this program is written for: major and minor number
+VERSION = "0.3"  # what this program is written for: major and minor number
 MAX_RESULT = 2752  # bytes: has room for every result
 ENDING_EXIT, ENDING_FAULT, ENDING_NO_RESULT = 1, 2, 3
 
@@ -95,7 +95,7 @@ def show(name, report, values):
 
 def main():
     try:
-        ngulo = Ngulo(sys.argv[1] if len(sys.argv) > 1 else "libngulo.so.0.2")
+        ngulo = Ngulo(sys.argv[1] if len(sys.argv) > 1 else "libngulo.so." + VERSION)
     except (OSError, AttributeError) as error:  # no such library, or it lacks the calls
         sys.exit(f"bench: {error}")
     if not ngulo.version().startswith(VERSION + "."):

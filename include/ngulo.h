@@ -27,9 +27,9 @@
 
 /* The version of this header; ngulo_version() is that of the library. */
 #define NGULO_VERSION_MAJOR 0
-#define NGULO_VERSION_MINOR 2
+#define NGULO_VERSION_MINOR 3
 #define NGULO_VERSION_PATCH 0
-#define NGULO_VERSION "0.2.0"
+#define NGULO_VERSION "0.3.0"
 #define NGULO_VERSION_NUMBER (65536 * NGULO_VERSION_MAJOR + 256 * NGULO_VERSION_MINOR + NGULO_VERSION_PATCH)
 
 /* What stands before the library's functions. Define it yourself to have something else there. */

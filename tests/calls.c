@@ -1,6 +1,6 @@
 /*
  * The calls for C on case 12, on a fault, on an op without a stated result, on every refusal, with no bytes lent, and in
- * place. Answers 0 if all are as they should be.
+ * place; the conditions at the corners of both widths. Answers 0 if all are as they should be.
  */
 #include "ngulo.h"
 
@@ -303,6 +303,78 @@ static void lends_all(void)
     expect("a store: memory", memory[4], 5);
 }
 
+/* The number that a word holds, read as signed. */
+static int64_t read_signed(uint64_t value, int wide)
+{
+    int64_t read;
+
+    if (!wide && value >= UINT64_C(0x80000000)) {
+        value -= UINT64_C(0x100000000);
+    }
+    memcpy(&read, &value, sizeof read);
+    return read;
+}
+
+static uint64_t holds(uint8_t cond, uint64_t a, uint64_t b, int wide)
+{
+    int64_t x = read_signed(a, wide);
+    int64_t y = read_signed(b, wide);
+
+    switch (cond) {
+    case NGULO_COND_EQ: return a == b;
+    case NGULO_COND_NE: return a != b;
+    case NGULO_COND_LT: return x < y;
+    case NGULO_COND_GE: return x >= y;
+    case NGULO_COND_LE: return x <= y;
+    case NGULO_COND_GT: return x > y;
+    case NGULO_COND_LTU: return a < b;
+    case NGULO_COND_GEU: return a >= b;
+    case NGULO_COND_LEU: return a <= b;
+    default: return a > b;
+    }
+}
+
+/* Of v1 and v2: v3 by setcond; v4, which is 1 before, by a brcond over an op that clears it. */
+static void decides(uint8_t cond, uint64_t a, uint64_t b, int wide)
+{
+    uint8_t type = wide ? NGULO_TYPE_I64 : NGULO_TYPE_I32;
+    uint8_t width = wide ? NGULO_KIND_WIDE : 0;
+    uint8_t block[] = {0x01, 0, 1, 0x01, 0, 0, 0x01, 0, 0, 0x01, 0, 0, 0x01, 0, 0, 0x28, 3, 1, 2, 0, 0x2A, 1, 2, 0, 0, 0x15, 4, 4, 4, 0x02, 0, 0x04, 0};
+    uint64_t globals[5] = {7, 0, 0, 9, 1};
+    uint64_t report[4] = {9, 9, 9, 9};
+    uint64_t answer = holds(cond, a, b, wide);
+
+    block[5] = block[8] = block[11] = block[14] = type;
+    block[15] |= width;
+    block[20] |= width;
+    block[25] |= width;
+    block[19] = block[23] = cond;
+    globals[1] = a;
+    globals[2] = b;
+    expect("a condition: run", ngulo_run_nullable(block, sizeof block, globals, 5, NULL, 0, report), 0);
+    expect_report("a condition", report, NGULO_ENDING_EXIT, 7, 0, 5 - answer);
+    expect("a condition: setcond", globals[3], answer);
+    expect("a condition: brcond", globals[4], answer);
+}
+
+/* Every condition of any two of: zero, one, both sides of the top bit, and all ones. */
+static void conditions(void)
+{
+    static const uint64_t corners[2][6] = {{0, 1, 0x7FFFFFFF, 0x80000000, 0x80000001, 0xFFFFFFFF},
+                                           {0, 1, UINT64_C(0x7FFFFFFFFFFFFFFF), UINT64_C(0x8000000000000000), UINT64_C(0x8000000000000001), UINT64_MAX}};
+    int wide;
+    size_t i;
+    uint8_t cond;
+
+    for (wide = 0; wide < 2; wide += 1) {
+        for (i = 0; i < 36; i += 1) {
+            for (cond = NGULO_COND_EQ; cond <= NGULO_COND_GTU; cond += 1) {
+                decides(cond, corners[wide][i / 6], corners[wide][i % 6], wide);
+            }
+        }
+    }
+}
+
 int main(void)
 {
     expect("version", ngulo_version(), NGULO_VERSION_NUMBER);
@@ -317,6 +389,7 @@ int main(void)
     limits();
     lends_nothing();
     lends_all();
+    conditions();
     if (failures == 0) {
         puts("calls from C: as they should be");
     }

@@ -1,3 +1,4 @@
 pub mod Marked
 pub mod Examples
 pub mod Table
+pub mod Conditions

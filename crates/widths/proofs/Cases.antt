@@ -1,15 +1,12 @@
 -- A condition holds in the cases that its bits say, over the width. Assumes nothing.
-use mathlib.Core.Path.{_≡_, refl, sym, ap, _∙_}
+use mathlib.Core.Path.{_≡_, refl, sym, _∙_}
 use mathlib.Core.Bool.{Bool, true, false, cond, not, _&&_, _||_, Bool·beq, false≢true}
-use Prim.Native.Nat.{ℕ, suc, _-_, _/_, _%_, _^_, _<_}
+use Prim.Native.Nat.{ℕ, _/_, _%_, _^_, _<_}
 use native.Mathlib.Omega.{arith}
 use lib.Dec.{eqb, ltb, leb}
-use lib.IntN.{ℤ, pos, negsuc}
-use lib.Signed.{ltZ, leZ}
-use mir.Val.{sel}
-use borrow.Author.Tests.{ltb-true, ltb-false, eqb-true, eqb-false, lt-ltb, le-ltb, le-leb, lt-leb, eq-eqb, ne-eqb}
-use Rattle.word.specs.Word.{signedW}
+use borrow.Author.Tests.{ltb-true, ltb-false, eqb-true, eqb-false, lt-ltb, le-ltb, le-leb, lt-leb, ne-eqb}
 use Rattle.word.specs.Condition.{ltsW, lesW, condW}
+use Rattle.word.proofs.Flip.{flip, flipped}
 use Rattle.widths.specs.Cases.{caseOf, answersOf}
 
 -- the orders of two numbers, from less and equal
@@ -32,30 +29,12 @@ told a b = go (ltb a b) (eqb a b) refl refl
         let h : b < a = omega (arith, ltb-false a b p, eqb-false a b q) in
         record { at-least = le-leb b a (omega arith); at-most = lt-leb a b h; greater = lt-ltb b a h }
 
-abbrev eqZ : ℤ → ℤ → Bool
-eqZ (pos a) (pos b) = eqb a b
-eqZ (pos a) (negsuc b) = false
-eqZ (negsuc a) (pos b) = false
-eqZ (negsuc a) (negsuc b) = eqb b a
-
-told-signed : (x y : ℤ) → Told (ltZ x y) (leZ x y) (ltZ y x) (leZ y x) (eqZ x y)
-told-signed (pos a) (pos b) = told a b
-told-signed (pos a) (negsuc b) = record { at-least = refl; at-most = refl; greater = refl }
-told-signed (negsuc a) (pos b) = record { at-least = refl; at-most = refl; greater = refl }
-told-signed (negsuc a) (negsuc b) = told b a
-
-same-signed : (w a b : ℕ) → a < 2 ^ w → b < 2 ^ w → eqZ (signedW w a) (signedW w b) ≡ eqb a b
-same-signed w a b la lb = go (ltb a (2 ^ (w - 1))) (ltb b (2 ^ (w - 1))) refl refl
-  where
-    turned : (e : Bool) → eqb a b ≡ e → eqb (2 ^ w - suc b) (2 ^ w - suc a) ≡ e
-    turned true q = eq-eqb (2 ^ w - suc b) (2 ^ w - suc a) (ap (λ (n : ℕ). 2 ^ w - suc n) (sym (eqb-true a b q)))
-    turned false q = ne-eqb (2 ^ w - suc b) (2 ^ w - suc a) (λ e. eqb-false a b q (omega arith))
-
-    go : (s t : Bool) → ltb a (2 ^ (w - 1)) ≡ s → ltb b (2 ^ (w - 1)) ≡ t → eqZ (sel s (pos a) (negsuc (2 ^ w - suc a))) (sel t (pos b) (negsuc (2 ^ w - suc b))) ≡ eqb a b
-    go true true p q = refl
-    go true false p q = sym (ne-eqb a b (λ e. omega (arith, ltb-true a (2 ^ (w - 1)) p, ltb-false b (2 ^ (w - 1)) q)))
-    go false true p q = sym (ne-eqb a b (λ e. omega (arith, ltb-false a (2 ^ (w - 1)) p, ltb-true b (2 ^ (w - 1)) q)))
-    go false false p q = turned (eqb a b) refl
+-- and read as signed, from the words with their top bits turned over
+told-signed : (w a b : ℕ) → a < 2 ^ w → b < 2 ^ w → Told (ltsW w a b) (lesW w a b) (ltsW w b a) (lesW w b a) (eqb a b)
+told-signed w a b la lb =
+    let f = flipped w a b la lb in
+    let g = flipped w b a lb la in
+    rw (f .less, f .at-most, g .less, g .at-most, f .equal) at (told (flip w a) (flip w b))
 
 -- a test of three answers that always passes, by one computation
 abbrev each : (Bool → Bool) → Bool
@@ -96,13 +75,13 @@ within true f p q = p
 within false f p q = q
 
 pub answered : (w c a b : ℕ) → a < 2 ^ w → b < 2 ^ w → eqb (answersOf c / 2 ^ caseOf (eqb a b) (ltsW w a b) (ltb a b) % 2) 1 ≡ condW w c a b
-unfolding answersOf condW ltsW lesW
+unfolding answersOf condW
 answered w c a b la lb =
     let e = eqb a b in
-    let l = ltZ (signedW w a) (signedW w b) in
+    let l = ltsW w a b in
     let u = ltb a b in
     let plain = told a b in
-    let signed = rw (same-signed w a b la lb) at (told-signed (signedW w a) (signedW w b)) in
+    let signed = told-signed w a b la lb in
     let f : ℕ → Bool = λ m. bitAt m e l u in
     within (eqb c 0) f (picks 0xAA (λ e l u. e) refl e l u)
     (within (eqb c 1) f (picks 0x55 (λ e l u. not e) refl e l u)

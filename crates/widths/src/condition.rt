@@ -1,16 +1,27 @@
 // The conditions, by number.
 ghost use mathlib.Core.Path.{_≡_};
 ghost use mathlib.Core.Bool.{cond};
-ghost use lib.Dec.{eqb, ltb};
+ghost use Prim.Native.Nat.{_/_, _%_, _^_};
+ghost use lib.Dec.{eqb};
 ghost use Rattle.word.specs.Condition.{ltsW, condW};
 ghost use Rattle.widths.specs.Cases.{caseOf, answersOf};
-use super::convert;
 
-// Less, read as signed.
+// The top bit at each width.
+const TOP32: u32 = 0x8000_0000;
+
+const TOP64: u64 = 0x8000_0000_0000_0000;
+
+// Less, read as signed: "compare after turning over the top bit of each operand".
+fn lts32(a: u32, b: u32) -> bool
+    ensures { λ r. ⌜ r ≡ ltsW 32 a b ⌝ }
+{
+    (a ^ TOP32) < (b ^ TOP32)
+}
+
 fn lts64(a: u64, b: u64) -> bool
     ensures { λ r. ⌜ r ≡ ltsW 64 a b ⌝ }
 {
-    word64::to_signed(a) < word64::to_signed(b)
+    (a ^ TOP64) < (b ^ TOP64)
 }
 
 // A bit where a test passes.
@@ -21,10 +32,10 @@ fn bit(t: bool, n: u32) -> u32
 }
 
 // The number of a case: 1 for equal, 2 for less, 4 for less as unsigned.
-fn case(a: u64, b: u64) -> u32
-    ensures { λ r. ⌜ r ≡ caseOf (eqb a b) (ltsW 64 a b) (ltb a b) ⌝ }
+fn case(equal: bool, less: bool, below: bool) -> u32
+    ensures { λ r. ⌜ r ≡ caseOf equal less below ⌝ }
 {
-    bit(a == b, 1) | bit(lts64(a, b), 2) | bit(a < b, 4)
+    bit(equal, 1) | bit(less, 2) | bit(below, 4)
 }
 
 // EQ, NE, LT, GE, LE, GT, LTU, GEU, LEU, GTU: a bit for each case in which it holds; any other number holds of nothing.
@@ -46,16 +57,21 @@ fn answers(c: u8) -> u32
     }
 }
 
-// By number, without a jump, which would often be foreseen wrongly.
-pub fn holds64(c: u8, a: u64, b: u64) -> bool
-    ensures { λ r. ⌜ r ≡ condW 64 c a b ⌝ }
+// The bit of a case: by number, without a jump, which would often be foreseen wrongly.
+fn answer(c: u8, equal: bool, less: bool, below: bool) -> bool
+    ensures { λ r. ⌜ r ≡ eqb (answersOf c / 2 ^ caseOf equal less below % 2) 1 ⌝ }
 {
-    (answers(c) >> case(a, b)) % 2 == 1
+    (answers(c) >> case(equal, less, below)) % 2 == 1
 }
 
-// Sign extension keeps both orders.
 pub fn holds32(c: u8, a: u32, b: u32) -> bool
     ensures { λ r. ⌜ r ≡ condW 32 c a b ⌝ }
 {
-    holds64(c, convert::ext_i32_i64(a), convert::ext_i32_i64(b))
+    answer(c, a == b, lts32(a, b), a < b)
+}
+
+pub fn holds64(c: u8, a: u64, b: u64) -> bool
+    ensures { λ r. ⌜ r ≡ condW 64 c a b ⌝ }
+{
+    answer(c, a == b, lts64(a, b), a < b)
 }

@@ -3,6 +3,7 @@ pub mod Tests
 pub mod Product
 pub mod Rotate
 pub mod Signed
+pub mod Flip
 pub mod Picks
 pub mod Widen
 pub mod Fits

@@ -126,17 +126,9 @@ module _ (w : Width) {z : ℤ} (f : SFits w z) where
       gives (pos n) t = absurd (subst T (sym (leb·zero n) ∙ t) tt)
       gives (negsuc n) t = omega arith
 
-pub bits-ofZ : (w : Width) (z : ℤ) → bitsW (bits w) z ≡ ofZ w z
-bits-ofZ w (pos n) = refl
-bits-ofZ w (negsuc n) = refl
-
 -- a reading that was stored and read again
 pub reads : (w : Width) {a : ℕ} {x : ℤ} → Fits w a → x ≡ toZ w a → toZ w (ofZ w x) ≡ toZ w a
 reads w fa e = ap (λ (z : ℤ). toZ w (ofZ w z)) e ∙ ap (toZ w) (ofZ-toZ fa)
-
-module _ (w : Width) {a b : ℕ} {x y : ℤ} (fa : Fits w a) (fb : Fits w b) (ex : x ≡ toZ w a) (ey : y ≡ toZ w b) where
-  pub compared : (f : ℤ → ℤ → Bool) → f (toZ w (ofZ w x)) (toZ w (ofZ w y)) ≡ f (toZ w a) (toZ w b)
-  compared f = λ i. f (reads w fa ex i) (reads w fb ey i)
 
 -- what the division states: the bits of the quotient, and of the remainder
 module _ {w : Width} {a b : ℕ} {x y : ℤ} (d : Divided w a b x y) {r : ℕ} where

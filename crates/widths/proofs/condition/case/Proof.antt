@@ -10,5 +10,4 @@ case-spec =
     (λ c κs. tt)
     (λ c κs. tt)
     (λ c κs. tt)
-    (λ c κs. tt)
-    (λ c. rw (c .bit3 .ensures, c .before .bit2 .ensures, c .before .before .lts64 .ensures, c .before .before .before .bit .ensures) refl))
+    (λ c. rw (c .bit3 .ensures, c .before .bit2 .ensures, c .before .before .bit .ensures) refl))

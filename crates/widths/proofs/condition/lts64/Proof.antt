@@ -1,21 +1,7 @@
--- The signed order: less. Assumes nothing.
-use lib.Signed.{ltZ}
-use mir.Syntax.{w64}
-use Rattle.word.specs.Condition.{ltsW}
-use Rattle.word.proofs.Signed.{compared}
-use borrow.Author.Needs.{needs}
+-- The signed order at 64 bits: less. Assumes nothing.
+use Rattle.word.proofs.Flip.{flipped}
 use Rattle.widths.proofs.condition.lts64.Statement.{statement}
 use Rattle.widths.proofs.condition.lts64.Tie as tie
 
-to-signed-requires : tie.Need-to-signed-requires
-to-signed-requires c κs = search needs
-
-to-signed-requires-2 : tie.Need-to-signed-requires-2
-to-signed-requires-2 c κs = search needs
-
-returns : tie.Need-returns
-unfolding ltsW
-returns c = let s = c .before .before in compared w64 (s .fits .a) (s .fits .b) (c .before .to-signed .ensures) (c .to-signed2 .ensures) ltZ
-
 pub lts64-spec : {M : Type 1} → statement M
-lts64-spec = tie.close (tie.spec to-signed-requires to-signed-requires-2 returns)
+lts64-spec = tie.close (tie.spec (λ c. flipped 64 (c .args .a) (c .args .b) (c .fits .a .fits) (c .fits .b .fits) .less))
