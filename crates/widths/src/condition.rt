@@ -31,13 +31,6 @@ fn bit(t: bool, n: u32) -> u32
     if t { n } else { 0 }
 }
 
-// The number of a case: 1 for equal, 2 for less, 4 for less as unsigned.
-fn case(equal: bool, less: bool, below: bool) -> u32
-    ensures { λ r. ⌜ r ≡ caseOf equal less below ⌝ }
-{
-    bit(equal, 1) | bit(less, 2) | bit(below, 4)
-}
-
 // EQ, NE, LT, GE, LE, GT, LTU, GEU, LEU, GTU: a bit for each case in which it holds; any other number holds of nothing.
 fn answers(c: u8) -> u32
     ensures { λ r. ⌜ r ≡ answersOf c ⌝ }
@@ -57,11 +50,12 @@ fn answers(c: u8) -> u32
     }
 }
 
-// The bit of a case: by number, without a jump, which would often be foreseen wrongly.
+// Equal, less, less as unsigned: the bit of that case, without a jump, which would often be foreseen wrongly.
 fn answer(c: u8, equal: bool, less: bool, below: bool) -> bool
     ensures { λ r. ⌜ r ≡ eqb (answersOf c / 2 ^ caseOf equal less below % 2) 1 ⌝ }
 {
-    (answers(c) >> case(equal, less, below)) % 2 == 1
+    let case = bit(equal, 1) | bit(less, 2) | bit(below, 4);
+    (answers(c) >> case) % 2 == 1
 }
 
 pub fn holds32(c: u8, a: u32, b: u32) -> bool
