@@ -29,9 +29,11 @@ abbrev pub placed : (ℕ → ℕ → Bool) → ℕ → List ℕ → Bool
 placed test n [] = true
 placed test n (x ∷ xs) = test n x && placed test (suc n) xs
 
+-- and of any two of them
 abbrev pub pairs : (ℕ → ℕ → ℕ → ℕ → Bool) → List ℕ → Bool
 pairs test xs = placed (λ i a. placed (λ j b. test i a j b) 0 xs) 0 xs
 
+-- LT, GE, LE and GT go by the signed order; LTU, GEU, LEU and GTU by the unsigned
 abbrev pub cornersOf : ℕ → Bool
 cornersOf w = pairs (asPlaces w 2) (signedCorners w) && pairs (asPlaces w 6) (unsignedCorners w)
 
