@@ -20,6 +20,7 @@ enum Effect {
     Store,
     Exit,
     Jump,
+    Branch,
 }
 
 /// What speaks against a variable, a bit for each; both widths if it is not
@@ -70,7 +71,7 @@ struct Row {
     asked: [u8; 3],
     /// Where a constant is, and what must not speak against it.
     constant: Two,
-    /// Is it a movcond, or does it start or end a basic block?
+    /// Is it a movcond, set_label, br, brcond or exit_tb?
     more: bool,
 }
 
@@ -79,7 +80,7 @@ type Two = [u8; 2];
 /// A row from the length and number of operands and what else it has.
 const fn row(size: Two, effect: Effect, inputs: Two, asked: [u8; 3], constant: Two) -> Row {
     let [length, operands] = size;
-    let more = operands == 5 || matches!(effect, Effect::Exit | Effect::Jump);
+    let more = operands == 5 || matches!(effect, Effect::Exit | Effect::Jump | Effect::Branch);
     Row {
         length,
         operands,
@@ -109,7 +110,7 @@ const fn kind(kind: u8) -> Row {
         0x14..=0x27 | 0x94..=0xA7 => row([4, 3], Pure, [2, 3], [w, r, r], NONE),
         0x28 | 0xA8 => row([5, 3], Pure, [2, 3], [w, r, r], [4, CONDITION]),
         0x29 | 0xA9 => row([7, 5], Pure, [2, 3], [w, r, r], [6, CONDITION]),
-        0x2A | 0xAA => row([5, 2], Jump, [1, 2], [0, r, r], [3, CONDITION]),
+        0x2A | 0xAA => row([5, 2], Branch, [1, 2], [0, r, r], [3, CONDITION]),
         // Addresses are 64-bit.
         0x2B | 0xAB => row([4, 2], Load, [2, 2], [w, WIDE, WIDE], [3, LOAD[wide]]),
         0x2C | 0xAC => row([4, 2], Store, [1, 2], [0, r, WIDE], [3, STORE[wide]]),
@@ -144,7 +145,8 @@ fn refused(number: u64, place: usize) -> u64 {
 /// Between records.
 struct Scan<'a> {
     block: &'a [u8],
-    /// What speaks against each variable now, and when a basic block starts.
+    /// What speaks against each variable now, and when an extended basic block
+    /// starts.
     against: [u8; 256],
     starting: [u8; 64],
     variables: usize,
@@ -307,7 +309,10 @@ impl<'a> Scan<'a> {
     /// A good exit_tb, set_label, br or brcond, but for its label.
     #[inline(always)]
     fn parts(&mut self, place: usize, record: &[u8]) -> bool {
-        self.against[..64].copy_from_slice(&self.starting);
+        // All but brcond, which is longer, end an extended basic block.
+        if record.len() == 2 {
+            self.against[..64].copy_from_slice(&self.starting);
+        }
         if record[0] == 4 {
             return true;
         }
@@ -351,7 +356,7 @@ impl<'a> Scan<'a> {
             return 5;
         }
         let label = record[record.len() - 1];
-        let jumps = row.effect == Effect::Jump;
+        let jumps = matches!(row.effect, Effect::Jump | Effect::Branch);
         let limits = CONSTANTS[record[row.constant[0] as usize] as usize] & row.constant[1];
         if limits != 0 || jumps && label > 31 || kind == 0x10 && record[6..10] != [0; 4] {
             return 6;
@@ -648,11 +653,11 @@ impl<const ROOM: usize> Fold<ROOM> {
         let globals = first(scan.globals);
         let lasting = first(scan.variables) & !scan.temporaries;
         // By effect: what the op makes live besides what it reads, and masks.
-        let adds = [0, 0, globals, globals, globals, lasting, 0, 0];
+        let adds = [0, 0, globals, globals, globals, lasting, lasting, 0];
         const STAYS: [u64; 8] = [0, 0, 1, 1, 1, 1, 1, 1];
-        const READS: [u64; 8] = [!0, 0, !0, !0, !0, !0, 0, 0];
+        const READS: [u64; 8] = [!0, 0, !0, !0, !0, !0, !0, 0];
         const WRITES: [u64; 8] = [!0, !0, !0, 0, 0, 0, 0, 0];
-        const AFTER: [u64; 8] = [!0, !0, !0, !0, 0, 0, 0, 0];
+        const AFTER: [u64; 8] = [!0, !0, !0, !0, 0, 0, !0, 0];
         let (mut all_kept, mut all_folded, mut length) = ([0; 4], [0; 4], 3 * scan.variables);
         let (mut live, mut next) = (0u64, scan.block.len());
         let marks = self.marks[..self.count].chunks(64);

@@ -47,14 +47,14 @@ pub fn report(case: &Case) -> Option<[u64; 4]> {
     (answer == 0).then_some(report)
 }
 
-/// The comparison's accepted blocks with many ops whose run takes at least
-/// half of them.
+/// The comparison's accepted blocks of older front ends with many ops whose
+/// run takes at least half of them.
 fn seeded() -> Vec<Case> {
     let belongs = |case: &Case| {
         let ops = ops(&case.block);
         ops >= LEAST_OPS && report(case).is_some_and(|report| 2 * report[3] >= ops as u64)
     };
-    let cases = (0..).map(|number| blocks::case(SEED, number));
+    let cases = (0..).map(|number| blocks::older(SEED, number));
     cases.filter(belongs).take(SEEDED).collect()
 }
 

@@ -84,6 +84,15 @@ fn corner(random: &mut Random, wide: bool) -> u64 {
     narrowed(value, wide)
 }
 
+/// What a block is made for.
+#[derive(Clone, Copy)]
+struct Setting {
+    /// The length of the memory lent.
+    memory: usize,
+    /// Newer front ends read temporaries past a brcond, older ones do not.
+    newer: bool,
+}
+
 /// How often ops of each sort come, in cases of a hundred, and how many ops.
 struct Style {
     constants: usize,
@@ -121,17 +130,22 @@ struct Maker<'a> {
     classes: Vec<u8>,
     types: Vec<u8>,
     ops: usize,
-    /// Variables written in this basic block.
+    /// Variables written in this extended basic block; for older front ends,
+    /// since its last brcond.
     written: u64,
     set: u32,
     jumped: u32,
-    memory: usize,
-    /// Whether temporaries may be read before a write.
+    setting: Setting,
+    /// Whether older front ends read temporaries before a write, and newer
+    /// ones after the end of their extended basic block.
     careless: bool,
 }
 
+/// The most ops that `branch` makes, and the label it owes.
+const BRANCH: usize = 9;
+
 impl Maker<'_> {
-    fn new(random: &mut Random, variables: usize, memory: usize) -> Maker<'_> {
+    fn new(random: &mut Random, variables: usize, setting: Setting) -> Maker<'_> {
         let globals = random.below(variables + 1);
         let sure = random.below(variables);
         let mut maker = Maker {
@@ -143,7 +157,7 @@ impl Maker<'_> {
             written: 0,
             set: 0,
             jumped: 0,
-            memory,
+            setting,
             careless: false,
         };
         for variable in 0..variables {
@@ -186,10 +200,11 @@ impl Maker<'_> {
         }
     }
 
-    /// A variable that may be read here, often one written in this basic block.
+    /// A variable that may be read here, often one that was just written.
     fn input(&mut self, wide: bool) -> Option<u8> {
         let mut all = self.of_width(wide);
-        if self.careless && self.random.chance(15) && !all.is_empty() {
+        let any = self.careless && !self.setting.newer;
+        if any && self.random.chance(15) && !all.is_empty() {
             return Some(self.random.pick(&all));
         }
         all.retain(|&v| self.classes[v as usize] != 2 || self.written >> v & 1 != 0);
@@ -216,11 +231,20 @@ impl Maker<'_> {
         if shape.outputs == 1 {
             self.written |= 1 << body[0];
         }
-        if matches!(
-            shape.form,
-            Form::SetLabel | Form::Br | Form::BrCond | Form::ExitTb
-        ) {
+        if self.ends(shape.form) {
             self.written = 0;
+        }
+    }
+
+    /// Whether temporaries are no longer read after this op.
+    fn ends(&mut self, form: Form) -> bool {
+        match form {
+            Form::SetLabel | Form::Br | Form::ExitTb => {
+                let forgets = self.careless && self.setting.newer;
+                !forgets || self.random.chance(50)
+            }
+            Form::BrCond => !self.setting.newer,
+            _ => false,
         }
     }
 
@@ -298,7 +322,7 @@ impl Maker<'_> {
 
     /// An address about the memory's length, or near 2^64.
     fn address(&mut self, size: u64, risk: usize) -> u64 {
-        let length = self.memory as u64;
+        let length = self.setting.memory as u64;
         if length >= size && !self.random.chance(risk) {
             let far = length - size;
             return if self.random.chance(30) {
@@ -379,21 +403,94 @@ impl Maker<'_> {
         let label = self.label()?;
         match self.random.below(20) {
             0..=7 => self.set_label(label),
-            8 | 9 => {
-                self.jumped |= 1 << label;
-                self.op(0x03, &[label]);
-            }
+            8 | 9 => self.br(label),
             10 => self.exit(),
-            _ => {
-                let wide = self.random.chance(50);
-                let a = self.input(wide)?;
-                let b = self.input(wide)?;
-                let cond = self.random.below(10) as u8;
-                self.jumped |= 1 << label;
-                self.op(if wide { 0xAA } else { 0x2A }, &[a, b, cond, label]);
-            }
+            _ => self.brcond(label)?,
         }
         Some(())
+    }
+
+    fn br(&mut self, label: u8) {
+        self.jumped |= 1 << label;
+        self.op(0x03, &[label]);
+    }
+
+    fn brcond(&mut self, label: u8) -> Option<()> {
+        let wide = self.random.chance(50);
+        let a = self.input(wide)?;
+        let b = self.input(wide)?;
+        let cond = self.random.below(10) as u8;
+        self.jumped |= 1 << label;
+        self.op(if wide { 0xAA } else { 0x2A }, &[a, b, cond, label]);
+        Some(())
+    }
+
+    /// Writes, then mostly a brcond, then reads of what was written on its
+    /// fall-through path, and often its label and such reads after it.
+    fn branch(&mut self) -> Option<()> {
+        let label = self.label()?;
+        let wide = self.random.chance(50);
+        let mut before = vec![];
+        for _ in 0..1 + self.random.below(2) {
+            before.push(self.write(wide)?);
+        }
+        match self.random.below(if self.careless { 4 } else { 10 }) {
+            0 => self.br(label),
+            1 => self.exit(),
+            _ => self.brcond(label)?,
+        }
+        self.reads(&before, wide);
+        if self.random.chance(70) {
+            self.set_label(label);
+            self.reads(&before, wide);
+        }
+        Some(())
+    }
+
+    /// Writes a value, known or not, to a variable, often a temporary.
+    fn write(&mut self, wide: bool) -> Option<u8> {
+        let all = self.of_width(wide);
+        let temporary = |v: &u8| self.classes[*v as usize] == 2;
+        let temporaries: Vec<u8> = all.iter().copied().filter(temporary).collect();
+        let from = if temporaries.is_empty() || self.random.chance(40) {
+            all
+        } else {
+            temporaries
+        };
+        if from.is_empty() {
+            return None;
+        }
+        let output = self.random.pick(&from);
+        match self.input(wide) {
+            Some(a) if self.random.chance(50) => {
+                self.op(if wide { 0x91 } else { 0x11 }, &[output, a]);
+            }
+            _ => {
+                let value = corner(self.random, wide);
+                self.movi(output, value);
+            }
+        }
+        Some(output)
+    }
+
+    /// Reads some of these variables of one width, if that is allowed here;
+    /// the others are often dead.
+    fn reads(&mut self, some: &[u8], wide: bool) {
+        for &a in some {
+            let b = self.random.pick(some);
+            let may = |v: u8| self.classes[v as usize] != 2 || self.written >> v & 1 != 0;
+            if !may(a) || !may(b) || self.random.chance(40) {
+                continue;
+            }
+            // mov to nor, whose results are all stated.
+            let kind = 0x11 + self.random.below(14) as u8;
+            let Some(output) = self.output(wide) else {
+                continue;
+            };
+            let body = [output, a, b];
+            let length = SHAPES[kind as usize].body as usize;
+            self.op(if wide { kind | 0x80 } else { kind }, &body[..length]);
+        }
     }
 
     fn exit(&mut self) {
@@ -426,11 +523,22 @@ impl Maker<'_> {
         self.exit();
     }
 
+    /// Whether `branch` may come here, and has room.
+    fn branches(&self, style: &Style) -> bool {
+        self.setting.newer && self.ops + self.owed() + BRANCH <= style.ops
+    }
+
     fn body(&mut self, style: &Style) {
+        // Most runs reach a branch at the start.
+        if self.branches(style) && self.random.chance(40) {
+            self.branch();
+        }
         // An op may come with two movis, and jump to a new label.
         while self.ops + self.owed() + 4 <= style.ops {
             let sort = self.random.below(100);
-            if sort < style.jumps {
+            if sort < style.jumps && self.branches(style) && self.random.chance(50) {
+                self.branch();
+            } else if sort < style.jumps {
                 self.jump();
             } else if sort < style.jumps + style.accesses {
                 self.access(style.risk);
@@ -462,20 +570,20 @@ fn memory_length(random: &mut Random) -> usize {
     }
 }
 
-fn made(random: &mut Random, memory: usize, careless: bool) -> Vec<u8> {
+fn made(random: &mut Random, setting: Setting, careless: bool) -> Vec<u8> {
     let style = style(random);
     let variables = variables(random);
     let mut maker = Maker {
         careless,
-        ..Maker::new(random, variables, memory)
+        ..Maker::new(random, variables, setting)
     };
     maker.body(&style);
     maker.bytes
 }
 
 /// An accepted block.
-fn accepted(random: &mut Random, memory: usize) -> Vec<u8> {
-    made(random, memory, false)
+fn accepted(random: &mut Random, setting: Setting) -> Vec<u8> {
+    made(random, setting, false)
 }
 
 /// The starts of the records, as far as they can be read.
@@ -496,11 +604,11 @@ fn record(block: &[u8], start: usize) -> Vec<u8> {
 }
 
 /// A jump over all of this many ops less one, to the label after them.
-fn jump(random: &mut Random, length: usize) -> Vec<u8> {
+fn jump(random: &mut Random, length: usize, setting: Setting) -> Vec<u8> {
     let mut maker = Maker {
         classes: vec![0, 1],
         types: vec![1, 0],
-        ..Maker::new(random, 1, 0)
+        ..Maker::new(random, 1, setting)
     };
     maker.bytes = vec![1, 0, 1, 1, 1, 0];
     maker.op(0x03, &[31]);
@@ -513,12 +621,12 @@ fn jump(random: &mut Random, length: usize) -> Vec<u8> {
 }
 
 /// As many folded copies as fit, so the result is longer than the block.
-fn growth(random: &mut Random) -> Vec<u8> {
+fn growth(random: &mut Random, setting: Setting) -> Vec<u8> {
     let copies = 1 + random.below(63) as u8;
     let mut maker = Maker {
         classes: vec![0; 64],
         types: vec![1; 64],
-        ..Maker::new(random, 1, 8)
+        ..Maker::new(random, 1, setting)
     };
     maker.bytes = [1, 0, 1].repeat(64);
     while maker.ops + copies as usize + 3 <= OPS {
@@ -547,8 +655,8 @@ fn broken_record(random: &mut Random, block: &[u8], starts: &[usize]) -> usize {
 }
 
 /// Raises one field of one record just above its limit.
-fn broken(random: &mut Random, memory: usize) -> Vec<u8> {
-    let mut block = accepted(random, memory);
+fn broken(random: &mut Random, setting: Setting) -> Vec<u8> {
+    let mut block = accepted(random, setting);
     let starts = records(&block);
     let start = broken_record(random, &block, &starts);
     let variables = starts.iter().filter(|&&s| block[s] == 1).count() as u8;
@@ -578,7 +686,7 @@ fn broken(random: &mut Random, memory: usize) -> Vec<u8> {
 }
 
 /// Blocks that reach a limit or break it by one.
-fn limit(random: &mut Random, number: usize, memory: usize) -> Vec<u8> {
+fn limit(random: &mut Random, number: usize, setting: Setting) -> Vec<u8> {
     let full = Style {
         constants: 20,
         accesses: 10,
@@ -587,7 +695,7 @@ fn limit(random: &mut Random, number: usize, memory: usize) -> Vec<u8> {
         ops: OPS,
         exact: true,
     };
-    let mut maker = Maker::new(random, VARIABLES, memory);
+    let mut maker = Maker::new(random, VARIABLES, setting);
     maker.body(&full);
     let mut block = maker.bytes;
     let first = 3 * VARIABLES;
@@ -604,21 +712,21 @@ fn limit(random: &mut Random, number: usize, memory: usize) -> Vec<u8> {
             block.splice(start..start, twice);
             block
         }
-        3 => growth(random),
+        3 => growth(random, setting),
         4 => {
             // Declarations alone, or one of the last ops gone.
             let keep = random.pick(&[first, 3, block.len() - 2, block.len() - 1]);
             block.truncate(keep);
             block
         }
-        5 => jump_gone_wrong(random, memory),
-        _ => broken(random, memory),
+        5 => jump_gone_wrong(random, setting),
+        _ => broken(random, setting),
     }
 }
 
 /// A label never set, set twice, or set before the jump.
-fn jump_gone_wrong(random: &mut Random, memory: usize) -> Vec<u8> {
-    let mut block = accepted(random, memory);
+fn jump_gone_wrong(random: &mut Random, setting: Setting) -> Vec<u8> {
+    let mut block = accepted(random, setting);
     let starts = records(&block);
     let ops: Vec<usize> = starts.into_iter().filter(|&s| block[s] != 1).collect();
     let start = random.pick(&ops);
@@ -665,8 +773,8 @@ fn swap(block: &mut Vec<u8>, one: usize, two: usize) {
     block.splice(one..one + first.len(), second);
 }
 
-fn damaged(random: &mut Random, memory: usize) -> Vec<u8> {
-    let mut block = accepted(random, memory);
+fn damaged(random: &mut Random, setting: Setting) -> Vec<u8> {
+    let mut block = accepted(random, setting);
     for _ in 0..1 + random.below(3) {
         damage(random, &mut block);
     }
@@ -712,12 +820,12 @@ fn soup(random: &mut Random) -> Vec<u8> {
 }
 
 /// More than 100,000 bytes.
-fn long(random: &mut Random, memory: usize) -> Vec<u8> {
+fn long(random: &mut Random, setting: Setting) -> Vec<u8> {
     let length = 100_000 + random.below(40_000);
     let mut block = match random.below(4) {
         0 => vec![],
         1 => vec![1, 0, 1],
-        _ => accepted(random, memory),
+        _ => accepted(random, setting),
     };
     let unit: &[u8] = random.pick(&[
         &[1u8, 0, 1] as &[u8],
@@ -746,24 +854,43 @@ pub fn lent(random: &mut Random, block: &[u8]) -> Vec<u64> {
     globals
 }
 
-/// The case of this number.
+/// The case of this number, in turn as older and as newer front ends write
+/// blocks.
 pub fn case(seed: u64, number: u64) -> Case {
-    let mut random = Random::new(seed, number);
+    if number.is_multiple_of(2) {
+        older(seed, number / 2)
+    } else {
+        made_case(Random::new(seed, !number), number / 2, true)
+    }
+}
+
+/// The case of this number as older front ends write blocks.
+pub fn older(seed: u64, number: u64) -> Case {
+    made_case(Random::new(seed, number), number, false)
+}
+
+fn made_case(mut random: Random, number: u64, newer: bool) -> Case {
     let hundreds = (number / 100) as usize;
     let length = memory_length(&mut random);
+    let setting = Setting {
+        memory: length,
+        newer,
+    };
     let block = match number % 100 {
         0 if hundreds.is_multiple_of(10) => vec![],
-        0 if hundreds % 10 == 1 => long(&mut random, length),
+        0 if hundreds % 10 == 1 => long(&mut random, setting),
         0..=2 => jump(
             &mut random,
             1 + (hundreds * 2 + (number % 2) as usize) % (OPS - 2),
+            setting,
         ),
-        3..=8 => limit(&mut random, hundreds * 6 + (number % 100) as usize, length),
-        9..=13 => broken(&mut random, length),
-        14..=16 => made(&mut random, length, true),
-        17..=28 => damaged(&mut random, length),
+        3..=8 => limit(&mut random, hundreds * 6 + (number % 100) as usize, setting),
+        9..=13 => broken(&mut random, setting),
+        14..=16 => made(&mut random, setting, true),
+        17..=19 if newer => made(&mut random, setting, true),
+        17..=28 => damaged(&mut random, setting),
         29..=36 => soup(&mut random),
-        _ => accepted(&mut random, length),
+        _ => accepted(&mut random, setting),
     };
     let globals = lent(&mut random, &block);
     let memory = (0..length).map(|_| random.next() as u8).collect();

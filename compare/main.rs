@@ -5,6 +5,7 @@ mod blocks;
 mod calls;
 mod cases;
 mod demand;
+mod extended;
 mod paper;
 mod second;
 mod shrink;

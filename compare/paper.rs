@@ -1,7 +1,8 @@
-//! The paper's own cases, asked of the library and of the second interpreter.
+//! The paper's own cases and some of request 02, worked out by hand, asked of
+//! the library and of the second interpreter.
 
 use crate::calls::Side;
-use crate::cases::{passed, ran, Ran, RESULT};
+use crate::cases::{hex, passed, ran, Ran, RESULT};
 
 /// Kind, both inputs, cond if any, and the result if stated.
 type Stated = (u8, u64, u64, &'static [u8], Option<u64>);
@@ -47,7 +48,73 @@ const PRUNED: [u8; 27] = [
     1, 0, 1, 1, 0, 0, 1, 0, 0, 1, 0, 0, 1, 2, 0, 0x10, 1, 1, 0, 0, 0, 0, 0, 0, 0, 4, 0,
 ];
 
-/// The first of the paper's cases that a side does not answer as stated.
+/// Request 02, over v0 a global, v1 a local temporary and v2 a temporary, all
+/// of 64 bits.
+const DECLARED: &[u8] = &[1, 0, 1, 1, 1, 1, 1, 2, 1];
+const V0_IS_1: &[u8] = &[0x90, 0, 1, 0, 0, 0, 0, 0, 0, 0];
+const V0_IS_5: &[u8] = &[0x90, 0, 5, 0, 0, 0, 0, 0, 0, 0];
+const V1_IS_5: &[u8] = &[0x90, 1, 5, 0, 0, 0, 0, 0, 0, 0];
+const V2_IS_5: &[u8] = &[0x90, 2, 5, 0, 0, 0, 0, 0, 0, 0];
+const V0_IS_10: &[u8] = &[0x90, 0, 10, 0, 0, 0, 0, 0, 0, 0];
+const V0_TO_2: &[u8] = &[0x91, 2, 0];
+const V1_TO_0: &[u8] = &[0x91, 0, 1];
+const V1_TO_2: &[u8] = &[0x91, 2, 1];
+const V2_TO_0: &[u8] = &[0x91, 0, 2];
+const TWICE_V1: &[u8] = &[0x94, 0, 1, 1];
+const TWICE_V2: &[u8] = &[0x94, 0, 2, 2];
+const BRCOND: &[u8] = &[0xAA, 1, 1, 0, 0];
+const BR: &[u8] = &[3, 0];
+const LABEL: &[u8] = &[2, 0];
+const EXIT: &[u8] = &[4, 0];
+
+type Ops = &'static [&'static [u8]];
+
+/// Ops, and what the pass makes of them or the place of refusal 8.
+type Branch = (Ops, Result<Ops, u64>);
+
+const BRANCHES: [Branch; 12] = [
+    // Known values are kept past brcond; the temporary is then dead.
+    (
+        &[V2_IS_5, BRCOND, TWICE_V2, LABEL, EXIT],
+        Ok(&[BRCOND, V0_IS_10, LABEL, EXIT]),
+    ),
+    (
+        &[V1_IS_5, BRCOND, TWICE_V1, LABEL, EXIT],
+        Ok(&[V1_IS_5, BRCOND, V0_IS_10, LABEL, EXIT]),
+    ),
+    // But not past the label.
+    (
+        &[V1_IS_5, BRCOND, LABEL, TWICE_V1, EXIT],
+        Ok(&[V1_IS_5, BRCOND, LABEL, TWICE_V1, EXIT]),
+    ),
+    // A temporary live after brcond is live before it, also before two.
+    (
+        &[V0_TO_2, BRCOND, V1_TO_0, V2_TO_0, LABEL, EXIT],
+        Ok(&[V0_TO_2, BRCOND, V2_TO_0, LABEL, EXIT]),
+    ),
+    (
+        &[V0_TO_2, BRCOND, BRCOND, V2_TO_0, LABEL, EXIT],
+        Ok(&[V0_TO_2, BRCOND, BRCOND, V2_TO_0, LABEL, EXIT]),
+    ),
+    // One that is dead after it is dead before it.
+    (&[V0_TO_2, BRCOND, LABEL, EXIT], Ok(&[BRCOND, LABEL, EXIT])),
+    (
+        &[V0_TO_2, BRCOND, V1_TO_2, V2_TO_0, LABEL, EXIT],
+        Ok(&[BRCOND, V1_TO_2, V2_TO_0, LABEL, EXIT]),
+    ),
+    // All globals and local temporaries are live before it.
+    (
+        &[V0_IS_1, V1_IS_5, BRCOND, V1_TO_0, LABEL, EXIT],
+        Ok(&[V0_IS_1, V1_IS_5, BRCOND, V0_IS_5, LABEL, EXIT]),
+    ),
+    // Set_label, br and exit_tb end everything.
+    (&[V2_IS_5, LABEL, V2_TO_0, EXIT], Err(21)),
+    (&[V2_IS_5, BRCOND, LABEL, V2_TO_0, EXIT], Err(26)),
+    (&[V2_IS_5, BR, V2_TO_0, LABEL, EXIT], Err(21)),
+    (&[V2_IS_5, EXIT, V2_TO_0, EXIT], Err(21)),
+];
+
+/// The first of these cases that a side does not answer as stated.
 pub fn failed() -> Option<String> {
     for (side, name) in [
         (Side::Library, "the library"),
@@ -60,6 +127,7 @@ pub fn failed() -> Option<String> {
             loads(side),
             limits(side),
             example(side),
+            branches(side),
         ];
         if let Some(what) = sets.into_iter().flatten().next() {
             return Some(format!("{what}, by {name}"));
@@ -153,4 +221,22 @@ fn example(side: Side) -> Option<String> {
     );
     let holds = result.result() == Some(&PRUNED) && before.report[3] == 5 && after.report[3] == 2;
     unless(holds, "case 12".into())
+}
+
+/// The declarations and these ops.
+fn declared(ops: &[&[u8]]) -> Vec<u8> {
+    [DECLARED, &ops.concat()].concat()
+}
+
+/// Request 02.
+fn branches(side: Side) -> Option<String> {
+    BRANCHES.iter().find_map(|(ops, stated)| {
+        let block = declared(ops);
+        let passed = passed(side, &block, RESULT);
+        let holds = match stated {
+            Ok(result) => passed.result() == Some(&declared(result)),
+            Err(place) => passed.answer == 8 + 256 * place,
+        };
+        unless(holds, format!("request 02: {}", hex(&block)))
+    })
 }

@@ -1,4 +1,4 @@
-//! A second interpreter of blocks, written from the paper alone: its own
+//! A second interpreter of blocks, written from the papers alone: its own
 //! table, check, run, fold and prune. The comparison sets its answers beside
 //! those of the proved library.
 //!
@@ -125,7 +125,7 @@ fn one(variable: u8) -> u64 {
 }
 
 /// The set of some operands.
-fn set(operands: &[u8]) -> u64 {
+pub fn set(operands: &[u8]) -> u64 {
     operands
         .iter()
         .fold(0, |all, &variable| all | one(variable))
@@ -139,7 +139,7 @@ pub struct Op<'a> {
 }
 
 impl<'a> Op<'a> {
-    fn at(bytes: &'a [u8], place: usize) -> Op<'a> {
+    pub fn at(bytes: &'a [u8], place: usize) -> Op<'a> {
         let kind = bytes[place];
         let shape = &SHAPES[kind as usize];
         Op {
@@ -179,7 +179,7 @@ impl<'a> Op<'a> {
     }
 
     /// The label of a set_label, br or brcond.
-    fn label(&self) -> usize {
+    pub fn label(&self) -> usize {
         self.body[self.body.len() - 1] as usize
     }
 
@@ -192,12 +192,10 @@ impl<'a> Op<'a> {
         matches!(self.shape.form, Form::Movi | Form::Compute)
     }
 
-    /// A basic block ends after br, brcond and exit_tb, and starts at set_label.
-    fn parts_basic_blocks(&self) -> bool {
-        matches!(
-            self.shape.form,
-            Form::SetLabel | Form::Br | Form::BrCond | Form::ExitTb
-        )
+    /// An extended basic block ends after br and exit_tb, and starts at
+    /// set_label; a brcond does not end it on its fall-through path.
+    pub fn parts_extended_blocks(&self) -> bool {
+        matches!(self.shape.form, Form::SetLabel | Form::Br | Form::ExitTb)
     }
 }
 
@@ -206,9 +204,9 @@ pub struct Block {
     pub variables: usize,
     /// The variables of 64 bits, and those of each class.
     wide: u64,
-    globals: u64,
-    locals: u64,
-    temporaries: u64,
+    pub globals: u64,
+    pub locals: u64,
+    pub temporaries: u64,
     pub ops: usize,
     /// Where each op starts; 64 declarations and 256 ops fit in 2,752 bytes.
     starts: [u16; OPS],
@@ -238,7 +236,7 @@ struct Reader {
     /// Labels set and labels jumped to, a bit for each.
     set: u32,
     jumped: u32,
-    /// Variables written in this basic block.
+    /// Variables written in this extended basic block.
     written: u64,
 }
 
@@ -344,13 +342,14 @@ impl Reader {
         Ok(())
     }
 
-    /// 8, temporary read before a write in its basic block; reads come first.
+    /// 8, temporary read before a write in its extended basic block; reads
+    /// come first.
     fn lifetimes(&mut self, op: &Op) -> Result<(), u8> {
         if set(op.inputs()) & self.block.temporaries & !self.written != 0 {
             return Err(8);
         }
         self.written |= set(op.outputs());
-        if op.parts_basic_blocks() {
+        if op.parts_extended_blocks() {
             self.written = 0;
         }
         Ok(())
@@ -681,7 +680,8 @@ fn fold(block: &Block, bytes: &[u8], plan: &mut Plan) {
             known |= one(op.body[0]);
             values[op.output()] = value;
         }
-        if op.parts_basic_blocks() {
+        // brcond keeps known values for the next op.
+        if op.parts_extended_blocks() {
             known = 0;
         }
     }
@@ -694,7 +694,7 @@ fn live_before(block: &Block, op: &Op, folded: bool, after: u64) -> u64 {
     match op.shape.form {
         Form::ExitTb => block.globals | inputs,
         Form::Br | Form::SetLabel => block.globals | block.locals,
-        Form::BrCond => block.globals | block.locals | inputs,
+        Form::BrCond => block.globals | block.locals | inputs | after & block.temporaries,
         Form::Load | Form::Store => after & !output | block.globals | inputs,
         _ => after & !output | inputs,
     }

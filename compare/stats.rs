@@ -2,6 +2,7 @@
 
 use crate::calls::Side;
 use crate::cases::{passed, Case, RESULT};
+use crate::extended::{self, Counts, THINGS};
 use crate::second::{self, Block, Ending, Form, Plan, Refusal, MEMORY, OPS, SHAPES, VARIABLES};
 
 /// Things that have to occur, each with how often it did.
@@ -43,6 +44,7 @@ pub struct Stats {
     /// By the number of ops from a jump to its label.
     jumps: [u64; OPS],
     single: [u64; SINGLE.len()],
+    extended: Counts,
     pub accepted_blocks: u64,
 }
 
@@ -62,6 +64,7 @@ impl Stats {
             variables: [0; 6],
             jumps: [0; OPS],
             single: [0; SINGLE.len()],
+            extended: [0; THINGS.len()],
             accepted_blocks: 0,
         }
     }
@@ -72,7 +75,7 @@ impl Stats {
         self.single[0] += bytes.is_empty() as u64;
         self.single[1] += (bytes.len() >= 100_000) as u64;
         match second::read(bytes) {
-            Err(refusal) => self.refused(refusal, bytes.len()),
+            Err(refusal) => self.refused(refusal, bytes),
             Ok(block) => {
                 self.accepted_blocks += 1;
                 self.note_block(&block, bytes);
@@ -82,9 +85,12 @@ impl Stats {
         }
     }
 
-    fn refused(&mut self, refusal: Refusal, length: usize) {
+    fn refused(&mut self, refusal: Refusal, bytes: &[u8]) {
         self.refusals[refusal.number as usize] += 1;
-        self.single[11] += (refusal.number == 7 && refusal.place == length) as u64;
+        self.single[11] += (refusal.number == 7 && refusal.place == bytes.len()) as u64;
+        if refusal.number == 8 {
+            extended::refused(&mut self.extended, bytes, refusal.place);
+        }
     }
 
     fn note_block(&mut self, block: &Block, bytes: &[u8]) {
@@ -119,6 +125,7 @@ impl Stats {
     }
 
     fn note_plan(&mut self, block: &Block, bytes: &[u8], plan: &Plan) {
+        extended::note(&mut self.extended, block, bytes, plan);
         for position in 0..block.ops {
             let kind = block.op(bytes, position).kind as usize;
             self.folded[kind] += plan.folded[position].is_some() as u64;
@@ -194,6 +201,7 @@ impl Stats {
         let unstated = by_kind(&self.unstated, divides_or_shifts);
         let named = |(name, count): (&&str, u64)| (name.to_string(), count);
         let single = SINGLE.iter().zip(self.single).map(named).collect();
+        let extended = THINGS.iter().zip(self.extended).map(named).collect();
         vec![
             ("refusals", numbered(&self.refusals, 1)),
             ("endings", numbered(&self.endings, 0)),
@@ -207,6 +215,7 @@ impl Stats {
             ("faults by flags", fault_counts(&self.faults)),
             ("classes and types", numbered(&self.variables, 0)),
             ("jump lengths", numbered(&self.jumps[..OPS - 1], 1)),
+            ("extended basic blocks", extended),
             ("single things", single),
         ]
     }

@@ -11,13 +11,19 @@ struct cleaning {
     int needed[NGULO_MAX_VARIABLES];
 };
 
-/* At the end of a basic block globals and local temporaries are needed. */
-static void need_lasting(struct cleaning *c)
+/*
+ * What is needed before an op that may lead elsewhere: globals, and local temporaries unless it leaves the block. A
+ * brcond may also go on with the next op, and what is needed there stays needed.
+ */
+static void need_lasting(struct cleaning *c, uint8_t kind)
 {
     unsigned v;
 
     for (v = 0; v < c->block.variables; v += 1) {
-        c->needed[v] = class_of(&c->block, v) != NGULO_CLASS_TEMPORARY;
+        unsigned lasts = class_of(&c->block, v);
+        int elsewhere = lasts == NGULO_CLASS_GLOBAL || (lasts == NGULO_CLASS_LOCAL && kind != NGULO_KIND_EXIT_TB);
+
+        c->needed[v] = elsewhere || (is_brcond(kind) && c->needed[v]);
     }
 }
 
@@ -28,8 +34,8 @@ static void clean_op(struct cleaning *c, unsigned position)
     const struct shape *shape = shape_of(op[0]);
     unsigned k;
 
-    if (is_edge(op[0])) {
-        need_lasting(c);
+    if (is_edge(op[0]) || is_brcond(op[0])) {
+        need_lasting(c, op[0]);
     }
     /* The mistake is what is missing here: an access may fault, and then every global is seen. */
     c->kept[position] = shape->outputs == 0 || is_access(op[0]) || c->needed[op[1]];

@@ -27,9 +27,9 @@
 
 /* The version of this header; ngulo_version() is that of the library. */
 #define NGULO_VERSION_MAJOR 0
-#define NGULO_VERSION_MINOR 3
+#define NGULO_VERSION_MINOR 4
 #define NGULO_VERSION_PATCH 0
-#define NGULO_VERSION "0.3.0"
+#define NGULO_VERSION "0.4.0"
 #define NGULO_VERSION_NUMBER (65536 * NGULO_VERSION_MAJOR + 256 * NGULO_VERSION_MINOR + NGULO_VERSION_PATCH)
 
 /* What stands before the library's functions. Define it yourself to have something else there. */
@@ -142,11 +142,12 @@ enum ngulo_kind {
 /* The 64-bit form of a kind from NGULO_KIND_MOVI_I32 to NGULO_KIND_QEMU_ST_I32 is so much more. */
 #define NGULO_KIND_WIDE 0x80
 
-/* A declaration's class: how long the variable lives. */
+/* A declaration's class: how long the variable lives. Extended basic blocks end before set_label and after br and
+   exit_tb; a brcond that does not jump goes on in the same one. */
 enum ngulo_class {
     NGULO_CLASS_GLOBAL = 0,    /* outlives the block */
     NGULO_CLASS_LOCAL = 1,     /* a local temporary: lives through the block, and starts at zero */
-    NGULO_CLASS_TEMPORARY = 2  /* lives through one basic block, in which it is written before it is read */
+    NGULO_CLASS_TEMPORARY = 2  /* lives through one extended basic block, in which it is written before it is read */
 };
 
 /* A declaration's type: the variable's width. */
@@ -179,7 +180,7 @@ enum ngulo_refusal {
     NGULO_REFUSAL_WRONG_WIDTH = 5,      /* an operand has the wrong width */
     NGULO_REFUSAL_BAD_FIELD = 6,        /* cond above 9, bad flags, label above 31, 32-bit movi of 2^32 or more */
     NGULO_REFUSAL_BAD_LABEL = 7,        /* set twice, or jump to one already set; never set: at the block's length */
-    NGULO_REFUSAL_UNWRITTEN = 8,        /* temporary read before a write in its basic block */
+    NGULO_REFUSAL_UNWRITTEN = 8,        /* temporary read before a write in its extended basic block */
     NGULO_REFUSAL_TOO_MANY_OPS = 9,     /* 257th op */
     NGULO_REFUSAL_NO_EXIT = 10,         /* no op, or last op is not exit_tb: at the block's length */
     NGULO_REFUSAL_UNFIT_STATE = 11,     /* run: globals or memory do not fit the block: at 0 */
@@ -340,7 +341,7 @@ static inline const char *ngulo_refusal_text(unsigned number)
     case NGULO_REFUSAL_WRONG_WIDTH: return "an operand has the wrong width";
     case NGULO_REFUSAL_BAD_FIELD: return "bad condition, flags, label or 32-bit constant";
     case NGULO_REFUSAL_BAD_LABEL: return "label set twice, jumped to after it was set, or never set";
-    case NGULO_REFUSAL_UNWRITTEN: return "temporary read before a write in its basic block";
+    case NGULO_REFUSAL_UNWRITTEN: return "temporary read before a write in its extended basic block";
     case NGULO_REFUSAL_TOO_MANY_OPS: return "257th op";
     case NGULO_REFUSAL_NO_EXIT: return "no op, or the last op is not exit_tb";
     case NGULO_REFUSAL_UNFIT_STATE: return "globals or memory do not fit the block";

@@ -1,6 +1,7 @@
 /*
- * The calls for C on case 12, on a fault, on an op without a stated result, on every refusal, with no bytes lent, and in
- * place; the conditions at the corners of both widths. Answers 0 if all are as they should be.
+ * The calls for C on case 12, on a fault, on an op without a stated result, across a conditional branch, on every
+ * refusal, with no bytes lent, and in place; the conditions at the corners of both widths. Answers 0 if all are as they
+ * should be.
  */
 #include "ngulo.h"
 
@@ -129,6 +130,37 @@ static void stops(void)
     expect_report("a division by zero", report, 3, 1, 0, 1);
 }
 
+/* v2, a temporary, is 2; to label 0 if v0 = v1; v1 = v2 + v2; label 0; an exit with v0 */
+static const uint8_t across[] = {0x01, 0x00, 0x01, 0x01, 0x00, 0x01, 0x01, 0x02, 0x01, 0x90, 0x02, 0x02, 0x00, 0x00, 0x00, 0x00, 0x00, 0x00, 0x00,
+                                 0xAA, 0x00, 0x01, 0x00, 0x00, 0x94, 0x01, 0x02, 0x02, 0x02, 0x00, 0x04, 0x00};
+/* v1 = 4 in place of the sum, and v2 is dead */
+static const uint8_t across_out[] = {0x01, 0x00, 0x01, 0x01, 0x00, 0x01, 0x01, 0x02, 0x01, 0xAA, 0x00, 0x01, 0x00, 0x00,
+                                     0x90, 0x01, 0x04, 0x00, 0x00, 0x00, 0x00, 0x00, 0x00, 0x00, 0x02, 0x00, 0x04, 0x00};
+
+static void runs_across(const uint8_t *block, size_t length, uint64_t v1, uint64_t v1_after, uint64_t count)
+{
+    uint64_t globals[2] = {7, v1};
+    uint64_t report[4] = {9, 9, 9, 9};
+
+    expect("across a branch: run", ngulo_run_nullable(block, length, globals, 2, NULL, 0, report), 0);
+    expect_report("across a branch", report, NGULO_ENDING_EXIT, 7, 0, count);
+    expect("across a branch: global 1", globals[1], v1_after);
+}
+
+/* A temporary is read, and its value known, past a brcond that does not jump. */
+static void branches(void)
+{
+    uint8_t out[64];
+
+    expect("across a branch: check", ngulo_check(across, sizeof across), 0);
+    expect("across a branch: pass", ngulo_pass(across, sizeof across, out, sizeof out), 256 * sizeof across_out);
+    expect("across a branch: result", (uint64_t)memcmp(out, across_out, sizeof across_out), 0);
+    runs_across(across, sizeof across, 7, 7, 4);
+    runs_across(across, sizeof across, 8, 4, 5);
+    runs_across(across_out, sizeof across_out, 7, 7, 3);
+    runs_across(across_out, sizeof across_out, 8, 4, 4);
+}
+
 static void refuses(void)
 {
     static const uint8_t cut[] = {0x01, 0x00};
@@ -142,7 +174,7 @@ static void refuses(void)
 /* A block, and the refusal its check answers. */
 struct refused_block {
     const char *what;
-    uint8_t bytes[14];
+    uint8_t bytes[18];
     size_t length;
     unsigned number;
     size_t place;
@@ -165,6 +197,9 @@ static const struct refused_block refused_blocks[] = {
     {"a jump to a label already set", {0x02, 0x00, 0x03, 0x00}, 4, NGULO_REFUSAL_BAD_LABEL, 2},
     {"a label never set", {0x01, 0x00, 0x01, 0x03, 0x00, 0x04, 0x00}, 7, NGULO_REFUSAL_BAD_LABEL, 7},
     {"a temporary not written", {0x01, 0x02, 0x01, 0x04, 0x00}, 5, NGULO_REFUSAL_UNWRITTEN, 3},
+    {"a temporary past a label", {0x01, 0x02, 0x01, 0x90, 0x00, 0x00, 0x00, 0x00, 0x00, 0x00, 0x00, 0x00, 0x00, 0x02, 0x00, 0x04, 0x00}, 17, NGULO_REFUSAL_UNWRITTEN, 15},
+    {"a temporary past a br", {0x01, 0x02, 0x01, 0x90, 0x00, 0x00, 0x00, 0x00, 0x00, 0x00, 0x00, 0x00, 0x00, 0x03, 0x00, 0x04, 0x00}, 17, NGULO_REFUSAL_UNWRITTEN, 15},
+    {"a temporary past an exit", {0x01, 0x02, 0x01, 0x90, 0x00, 0x00, 0x00, 0x00, 0x00, 0x00, 0x00, 0x00, 0x00, 0x04, 0x00, 0x04, 0x00}, 17, NGULO_REFUSAL_UNWRITTEN, 15},
     {"no op", {0x01, 0x00, 0x01}, 3, NGULO_REFUSAL_NO_EXIT, 3},
     {"a last op that is no exit", {0x01, 0x00, 0x00, 0x11, 0x00, 0x00}, 6, NGULO_REFUSAL_NO_EXIT, 6}};
 
@@ -384,6 +419,7 @@ int main(void)
     bounded();
     runs();
     stops();
+    branches();
     refuses();
     refuses_each();
     limits();

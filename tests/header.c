@@ -270,7 +270,7 @@ static void texts(void)
             expect("text: twice", strcmp(ngulo_refusal_text(i), ngulo_refusal_text(j)) == 0, 0);
         }
     }
-    expect("text: 8", (uint64_t)strcmp(ngulo_refusal_text(8), "temporary read before a write in its basic block"), 0);
+    expect("text: 8", (uint64_t)strcmp(ngulo_refusal_text(8), "temporary read before a write in its extended basic block"), 0);
     expect("text: 255", (uint64_t)strcmp(ngulo_refusal_text(255), "no refusal has this number"), 0);
 }
 

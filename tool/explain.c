@@ -7,26 +7,48 @@
 #include <string.h>
 
 /*
- * What fold makes of an op that is no edge, knowing what the ops of its basic block before it wrote: the probe ends
- * after it, with all variables live, so that nothing drops it.
+ * The ops of an extended basic block from its start to a position, and an exit. Every brcond among them jumps to one
+ * label before the exit. There is room for it: the block sets the brcond's own after the position. Answers how many ops
+ * stand after the position's.
+ */
+static unsigned make_probe(struct probe *probe, const struct records *block, unsigned start, unsigned position)
+{
+    static const uint8_t label[2] = {NGULO_KIND_SET_LABEL, 0};
+    int jumps = 0;
+    unsigned i;
+
+    start_probe(probe, block);
+    for (i = start; i <= position; i += 1) {
+        add_record(probe, op_at(block, i));
+        if (is_brcond(op_at(block, i)[0])) {
+            probe->bytes[probe->length - 1] = label[1];
+            jumps = 1;
+        }
+    }
+    if (jumps) {
+        add_record(probe, label);
+    }
+    add_record(probe, last_op(block));
+    return jumps ? 2 : 1;
+}
+
+/*
+ * What fold makes of an op that is neither edge nor brcond, knowing what the ops of its extended basic block before it
+ * wrote: the probe ends after it, with all variables live, so that nothing drops it.
  */
 static void find_form(const struct records *block, unsigned start, unsigned position, uint8_t form[LONGEST_RECORD])
 {
     struct probe probe;
     struct records made;
     uint8_t result[NGULO_MAX_RESULT];
-    uint64_t answer;
-    unsigned i;
+    unsigned after = make_probe(&probe, block, start, position);
+    uint64_t answer = ngulo_pass(probe.bytes, probe.length, result, sizeof result);
 
-    start_probe(&probe, block);
-    for (i = start; i <= position; i += 1) {
-        add_record(&probe, op_at(block, i));
-    }
-    add_record(&probe, last_op(block));
-    answer = ngulo_pass(probe.bytes, probe.length, result, sizeof result);
     cut_block(result, ngulo_is_refused(answer) ? 0 : ngulo_result_length(answer), &made);
-    if (made.ops >= 2) {
-        memcpy(form, op_at(&made, made.ops - 2), record_length(op_at(&made, made.ops - 2)[0]));
+    if (made.ops > after) {
+        const uint8_t *op = op_at(&made, made.ops - after - 1);
+
+        memcpy(form, op, record_length(op[0]));
     }
 }
 
@@ -53,7 +75,7 @@ void find_forms(const struct records *block, struct fate fates[NGULO_MAX_OPS])
     for (i = 0; i < block->ops; i += 1) {
         if (is_edge(op_at(block, i)[0])) {
             start = i + 1;
-        } else {
+        } else if (!is_brcond(op_at(block, i)[0])) {
             find_form(block, start, i, fates[i].form);
             fates[i].folded = !same_record(fates[i].form, op_at(block, i));
         }
@@ -87,7 +109,7 @@ static int writes(const uint8_t *op, unsigned variable)
     return shape_of(op[0])->outputs == 1 && op[1] == variable;
 }
 
-/* The first op after a position that is left and reads or writes a variable, or ends a basic block. The last op does. */
+/* The first op after a position that is left and reads or writes a variable, or is an edge. The last op is one. */
 static unsigned next_use(const struct fate fates[NGULO_MAX_OPS], unsigned position, unsigned variable)
 {
     unsigned i = position + 1;
@@ -99,18 +121,50 @@ static unsigned next_use(const struct fate fates[NGULO_MAX_OPS], unsigned positi
     return i;
 }
 
-/* The first op after a position that is left and is a load or store, or the last op. */
-static unsigned next_access(const struct records *block, const struct fate fates[NGULO_MAX_OPS], unsigned position)
+/* Does a variable live on after an edge that ends its extended basic block? */
+static int outlives(const struct records *block, unsigned variable, const uint8_t *edge)
 {
+    unsigned lasts = class_of(block, variable);
+
+    return lasts == NGULO_CLASS_GLOBAL || (lasts == NGULO_CLASS_LOCAL && edge[0] != NGULO_KIND_EXIT_TB);
+}
+
+/*
+ * The first op after a position that is left and from which a run may take another way than to the next op, one on
+ * which the value of the variable may be wanted: a brcond, or for a global a load or store. Else the last op.
+ */
+static unsigned next_way_out(const struct records *block, const struct fate fates[NGULO_MAX_OPS], unsigned position,
+                             unsigned variable)
+{
+    int global = class_of(block, variable) == NGULO_CLASS_GLOBAL;
     unsigned i = position + 1;
 
-    while (i + 1 < block->ops && !(fates[i].kept && is_access(fates[i].form[0]))) {
+    while (i + 1 < block->ops &&
+           !(fates[i].kept && (is_brcond(fates[i].form[0]) || (global && is_access(fates[i].form[0]))))) {
         i += 1;
     }
     return i;
 }
 
-/* Why the output of a kept op is live: it is read, or its life goes on; else it is a global, and an access is next. */
+/* Why the output of an op is live although the ops after it, one after the other, do not want it. */
+static void print_way_out(const struct records *block, const struct fate fates[NGULO_MAX_OPS], unsigned position,
+                          const char *names)
+{
+    unsigned variable = op_at(block, position)[1];
+    unsigned i = next_way_out(block, fates, position, variable);
+
+    if (is_brcond(fates[i].form[0])) {
+        printf("op %u may jump to label %u, where ", i, (unsigned)label_of(fates[i].form));
+        print_variable(variable, names);
+        fputs(" is live", stdout);
+    } else {
+        printf("op %u may fault, and then global ", i);
+        print_variable(variable, names);
+        fputs(" is seen", stdout);
+    }
+}
+
+/* Why the output of a kept op is live: it is read, or its life goes on; else a brcond or an access is next. */
 static void print_use(const struct records *block, const struct fate fates[NGULO_MAX_OPS], unsigned position,
                       const char *names)
 {
@@ -120,13 +174,11 @@ static void print_use(const struct records *block, const struct fate fates[NGULO
     if (reads(fates[i].form, variable)) {
         printf("op %u reads ", i);
         print_variable(variable, names);
-    } else if (is_edge(fates[i].form[0])) {
+    } else if (is_edge(fates[i].form[0]) && outlives(block, variable, fates[i].form)) {
         print_variable(variable, names);
-        printf(" outlives its basic block, which ends at op %u", i);
+        printf(" outlives its extended basic block, which ends at op %u", i);
     } else {
-        printf("op %u may fault, and then global ", next_access(block, fates, position));
-        print_variable(variable, names);
-        fputs(" is seen", stdout);
+        print_way_out(block, fates, position, names);
     }
 }
 
@@ -146,7 +198,7 @@ static void print_end(const struct records *block, const struct fate fates[NGULO
     fputs("no op that is left reads ", stdout);
     print_variable(variable, names);
     printf(" before %s, at op %u",
-           class_of(block, variable) == NGULO_CLASS_LOCAL ? "the block is left" : "its basic block ends", i);
+           class_of(block, variable) == NGULO_CLASS_LOCAL ? "the block is left" : "its extended basic block ends", i);
 }
 
 static void print_fate(const struct records *block, const struct fate fates[NGULO_MAX_OPS], unsigned position,
@@ -166,7 +218,7 @@ static void print_fate(const struct records *block, const struct fate fates[NGUL
         print_end(block, fates, position, names);
     } else if (is_access(fate->form[0])) {
         fputs("kept: it may fault", stdout);
-    } else if (is_edge(fate->form[0])) {
+    } else if (is_edge(fate->form[0]) || is_brcond(fate->form[0])) {
         fputs("kept", stdout);
     } else {
         fputs("kept: ", stdout);

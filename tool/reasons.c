@@ -11,7 +11,7 @@ struct seen {
     unsigned ops;
     size_t last_op;
     size_t written[NGULO_MAX_VARIABLES]; /* where a variable was written last; 0, where no such op is, for nowhere */
-    size_t lost[NGULO_MAX_VARIABLES];    /* where the basic block of that write ended; 0 if it did not yet */
+    size_t lost[NGULO_MAX_VARIABLES];    /* where the extended basic block of that write ended; 0 if it did not yet */
 };
 
 static void see_op(struct seen *seen, const uint8_t *op, size_t place)
@@ -129,8 +129,8 @@ static void print_operand(FILE *stream, unsigned number, const struct seen *seen
     } else if (seen->written[v] == 0) {
         fprintf(stream, "v%u is not written yet", v);
     } else {
-        fprintf(stream, "v%u was written at %lu, but its basic block ended at %lu", v, (unsigned long)seen->written[v],
-                (unsigned long)seen->lost[v]);
+        fprintf(stream, "v%u was written at %lu, but its extended basic block ended at %lu", v,
+                (unsigned long)seen->written[v], (unsigned long)seen->lost[v]);
     }
 }
 

@@ -59,7 +59,7 @@ int is_brcond(uint8_t kind)
 
 int is_edge(uint8_t kind)
 {
-    return shape_of(kind)->outputs == 0 && !is_access(kind);
+    return kind == NGULO_KIND_SET_LABEL || kind == NGULO_KIND_BR || kind == NGULO_KIND_EXIT_TB;
 }
 
 unsigned operand_type(uint8_t kind, unsigned place)

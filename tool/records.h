@@ -34,7 +34,7 @@ uint8_t narrow_kind(uint8_t kind);
 /* The length of a record, its kind known. */
 size_t record_length(uint8_t kind);
 
-/* Does the op end a basic block, or start one: set_label, br, exit_tb or brcond? */
+/* Does the op end an extended basic block, or start one: set_label, br or exit_tb? A brcond does neither. */
 int is_edge(uint8_t kind);
 
 /* qemu_ld or qemu_st? */

@@ -78,7 +78,7 @@ op-next T s o e = rw e
 scope-step : {D : Dialect} (law : Lawful D) (s : Seen) (o : List ℕ) (os : List (List ℕ)) → inScope D s (o ∷ os) ≡ (rule8 (D .rows) s o && inScope D (passed (D .rows) s o) os)
 unfolding rule8
 scope-step {D = D} law s o os =
-    ap₂ (λ (is : List ℕ) (w : Vars). allIn (keptIn (s .classes)) is (s .written) && scoped (tcg D) (keptIn (s .classes)) w os) (inputs-at law o) (wrote-at D o (s .written))
+    ap₂ (λ (is : List ℕ) (w : Vars). allIn (keptIn (s .classes)) is (s .written) && scoped (tcg D) (keptIn (s .classes)) w os) (inputs-at law o) (wrote-at law o (s .written))
 
 pub accepts-ops : {D : Dialect} (law : Lawful D) (s : Seen) (os : List (List ℕ)) → headOp os ≡ true → AllWhole (D .rows) os → accepts (D .rows) s os ≡ true
     → (checks (tcg D) (checker D) s os ≡ true) × (inScope D s os ≡ true)

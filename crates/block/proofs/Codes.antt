@@ -101,14 +101,6 @@ opened-here vars v {x} {y} e z s = fun-ext (λ u. ap (λ (xs : List ℕ). getD x
         rw (t, eq-eqb v u (sym q), c)
     go u (inr t) = rw (t, ne-eqb v u (λ q. eqb-false u v t (sym q)))
 
--- the bytes after an op, by the column of its role
-module _ (row : Row) (base codes : ℕ → ℕ) (outs : List ℕ) {c : Bool} (e : c ≡ isClosing (row .role)) {x : ℕ → ℕ} where
-  pub codes-closed : c ≡ true → x ≡ base → x ≡ codesBy row base codes outs
-  codes-closed t q = q ∙ ap (λ (b : Bool). cond b base (openAll codes outs)) (sym (sym e ∙ t))
-
-  pub codes-open : c ≡ false → x ≡ openAll codes outs → x ≡ codesBy row base codes outs
-  codes-open t q = q ∙ ap (λ (b : Bool). cond b base (openAll codes outs)) (sym (sym e ∙ t))
-
 -- a byte of an array of 256
 pub code-at : (vars : List ℕ) (v : ℕ) {x : ℕ} → v < length vars → x ≡ getD vars v 0 → x ≡ codesIn vars v
 code-at vars v h e = e ∙ go vars v h
@@ -118,7 +110,7 @@ code-at vars v h e = e ∙ go vars v h
     go (x ∷ xs) zero h = refl
     go (x ∷ xs) (suc v) h = go xs v (omega arith)
 
--- a basic block starts: the bytes of base one after the other, and beyond those of variables none has changed
+-- an extended basic block starts: the bytes of base one after the other, and beyond those of variables none has changed
 pub record Restarting (base vars : List ℕ) (i : ℕ) : Type 0 where
   pub agree : (v : ℕ) → (v < i) ⊎ (maxVariables ≤ v) → codesIn vars v ≡ codesIn base v
 

@@ -3,7 +3,7 @@ use mathlib.Core.Path.{_≡_, refl, sym, ap, ap₂, _∙_, subst, fun-ext}
 use mathlib.Core.Bool.{Bool, true, false, cond, not, _&&_, _||_}
 use mathlib.Core.List.{List, [], _∷_}
 use mathlib.Core.Logic.{_⊎_, inl, inr}
-use Prim.Native.Nat.{ℕ, zero, suc, _+_, _-_, _≤_, _<_}
+use Prim.Native.Nat.{ℕ, zero, suc, _-_, _≤_, _<_}
 use native.Mathlib.Omega.{arith}
 use lib.Dec.{eqb}
 use lib.ListN.{length, getD, set, replicate}
@@ -12,8 +12,8 @@ use borrow.Author.Tests.{eqb-true, eqb-false, ne-eqb}
 use Rattle.theory.specs.Sets.{upd, Vars, empty}
 use Rattle.theory.proofs.Sets.{tell}
 use Rattle.ops.specs.Rows.{Row, isSetting, isJumping}
-use Rattle.block.specs.Rules.{allSet, labelFree, markedBy}
-use Rattle.block.specs.Scan.{marked, numbered, SetAt, LabelledAs}
+use Rattle.block.specs.Rules.{allSet, labelFree}
+use Rattle.block.specs.Scan.{marked, numbered, SetAt}
 
 pub set-here : (xs : List ℕ) (i x : ℕ) → i < length xs → SetAt xs i x (set xs i x)
 set-here xs i x h = record { inside = h; becomes = refl }
@@ -89,14 +89,3 @@ module _ (row : Row) (labels : Vars) {s j : Bool} (es : s ≡ isSetting (row .ro
 
   pub free-other : (l : ℕ) → (s || j) ≡ false → true ≡ labelFree row labels l
   free-other l t = rw (sym named-is ∙ t)
-
--- what an op leaves, by the columns of its role
-module _ (row : Row) (l op : ℕ) {xs : List ℕ} {s : Bool} (e : s ≡ isSetting (row .role)) where
-  pub labelled-not : s ≡ false → LabelledAs row l op xs xs
-  labelled-not t =
-      let b : isSetting (row .role) ≡ false = sym e ∙ t in
-      record { labels-so = ap (λ (b : Bool). markedBy b (numbered xs) l) (sym b); numbers-so = ap (λ (b : Bool). cond b (set xs l (op + 1)) xs) (sym b) }
-
-module _ (l : ℕ) (xs : List ℕ) {t : Bool} where
-  pub target-not : {s : Bool} → s ≡ t → s ≡ false → marked xs ≡ markedBy t (marked xs) l
-  target-not e q = ap (λ (b : Bool). markedBy b (marked xs) l) (sym (sym e ∙ q))

@@ -5,21 +5,21 @@ use mathlib.Core.Bool.{Bool, true, false, cond}
 use mathlib.Core.List.{List, [], _∷_}
 use Prim.Native.Nat.{ℕ, zero, suc, _+_, _-_, _≤_, _<_}
 use native.Mathlib.Omega.{arith}
-use lib.Dec.{eqb, ltb, leb}
+use lib.Dec.{eqb, leb}
 use native.Mathlib.Nat.{mod-eq-of-lt}
 use lib.ListN.{length, getD, set}
-use borrow.Author.Tests.{eqb-true, ltb-false, ne-eqb}
-use Rattle.theory.proofs.Sets.{tell}
+use borrow.Author.Tests.{eqb-true, leb-false, lt-leb, ne-eqb}
+use Rattle.theory.proofs.Sets.{tell, clash}
 use Rattle.ops.specs.Rows.{outsIn, insIn, restIn, roleIn, roleNo, isClosing}
 use Rattle.ops.specs.Table.{kindTable, rowOf}
 use Rattle.ops.specs.Fields.{bytesAt}
-use Rattle.ops.specs.Plans.{noOp, lengthBy, lengthIn, planOf, rankOf, planAt, exitRank, settingRank}
+use Rattle.ops.specs.Plans.{noOp, lengthBy, lengthIn, planOf, rankOf, planAt, flowRank, exitRank, settingRank, hasLabel}
 use Rattle.ops.proofs.Entry.{Digits, digits}
 use Rattle.ops.proofs.Plans.{plan, Sorted, sorted, plan-at, RankedOp, ranked-op}
 use Rattle.block.specs.Rules.{markedBy}
 use Rattle.block.specs.Scan.{recordAt, Stands, SetAt, codesIn, openAll, FirstReady, marked, numbered, targetedBy, LabelMarks, setsLabel, jumpsTo, Marks}
 use Rattle.block.proofs.MarkSets.{numbered-upd, marked-upd}
-use Rattle.block.proofs.Scanning.{marks-open, marks-closed}
+use Rattle.block.proofs.Scanning.{marks-by}
 
 -- a variable that may be read already
 opened-same : (codes : ℕ → ℕ) (v : ℕ) → codes v < 16 → openAll codes (v ∷ []) ≡ codes
@@ -30,15 +30,15 @@ opened-same codes v l = fun-ext (λ u. go u (tell (eqb v u)))
     go u (inr t) = rw t
 
 -- the label is set, or jumped to, by the rank
-module _ (n l op : ℕ) (labels targets : List ℕ) {m : Bool} (e : m ≡ ltb exitRank n) where
+module _ (n l op : ℕ) (labels targets : List ℕ) {m : Bool} (e : m ≡ hasLabel n) where
   pub label-none : m ≡ false → LabelMarks (setsLabel n) (jumpsTo n) l op labels labels targets targets
   label-none z =
-      let t : ltb exitRank n ≡ false = sym e ∙ z in
-      let s : eqb n settingRank ≡ false = ne-eqb n settingRank (λ q. omega (arith, ltb-false exitRank n t)) in
+      let t : hasLabel n ≡ false = sym e ∙ z in
+      let s : eqb n settingRank ≡ false = ne-eqb n settingRank (λ q. clash (hasLabel n) (ap hasLabel q) t) in
       record { labels-so = sym (rw s); numbers-so = sym (rw s); targets-so = sym (rw t); targets-are = sym (rw t) }
 
   module _ (two : m ≡ true) {s : Bool} (f : s ≡ eqb n settingRank) where
-    has-one : ltb exitRank n ≡ true
+    has-one : hasLabel n ≡ true
     has-one = sym e ∙ two
 
     pub label-set : {k : ℕ} {labels′ : List ℕ} → s ≡ true → k ≡ l → SetAt labels k (op + 1) labels′ → LabelMarks (setsLabel n) (jumpsTo n) l op labels labels′ targets targets
@@ -92,19 +92,30 @@ module _ {b : List ℕ} {p k : ℕ} (st : Stands rowOf b p k) (n : noOp (getD ki
     pub whole-here : (p + lengthIn (planAt r) ≤ length b) × (1 < lengthIn (planAt r))
     whole-here = (omega (arith, st .whole, d .body, long), omega (arith, long, op .has-byte))
 
-    module _ {num : ℕ} {base vars vars′ : List ℕ} (labels targets : List ℕ) (f : FirstReady e b p vars) (w : codesIn vars′ ≡ openAll (codesIn vars) (getD b (p + 1) 0 ∷ [])) where
-      pub marks-opened : {t : Bool} → t ≡ leb exitRank r → t ≡ false → Marks rowOf (recordAt rowOf b p) num base vars vars′ labels labels targets targets
-      marks-opened q c = let closed = q ∙ flow .closes in marks-open st d closed labels targets c refl (w ∙ outputs vars (sym closed ∙ c) f)
+    module _ {num : ℕ} {base vars vars′ labels labels′ targets targets′ : List ℕ} where
+      marks-so : codesIn vars′ ≡ cond (leb exitRank r) (codesIn base) (openAll (codesIn vars) (bytesAt b (p + 1) (outsIn e)))
+          → LabelMarks (setsLabel r) (jumpsTo r) (getD b (p + lengthIn (planAt r) - 1) 0) num labels labels′ targets targets′
+          → Marks rowOf (recordAt rowOf b p) num base vars vars′ labels labels′ targets targets′
+      marks-so w m =
+          let l : p + lengthIn (planAt r) - 1 ≡ p + (outsIn e + insIn e + restIn e) = omega (arith, long) in
+          marks-by st d (w ∙ ap (λ (t : Bool). cond t (codesIn base) (openAll (codesIn vars) (bytesAt b (p + 1) (outsIn e)))) (flow .closes))
+          (record {
+            labels-so = m .labels-so ∙ ap₂ (λ (s : Bool) (i : ℕ). markedBy s (numbered labels) (getD b i 0)) (flow .sets) l;
+            numbers-so = m .numbers-so ∙ ap₂ (λ (s : Bool) (i : ℕ). cond s (set labels (getD b i 0) (num + 1)) labels) (flow .sets) l;
+          })
+          (m .targets-so ∙ ap₂ (λ (s : Bool) (i : ℕ). markedBy s (marked targets) (getD b i 0)) (flow .jumps) l)
+          (m .targets-are ∙ ap₂ (λ (s : Bool) (i : ℕ). targetedBy s (getD b i 0) targets) (flow .jumps) l)
 
-    pub marks-ended : {t : Bool} {num : ℕ} {base vars vars′ labels labels′ targets targets′ : List ℕ} → t ≡ leb exitRank r → t ≡ true → codesIn vars′ ≡ codesIn base
-        → LabelMarks (setsLabel r) (jumpsTo r) (getD b (p + lengthIn (planAt r) - 1) 0) num labels labels′ targets targets′
-        → Marks rowOf (recordAt rowOf b p) num base vars vars′ labels labels′ targets targets′
-    marks-ended {num = num} {labels = labels} {targets = targets} q c w m =
-        let l : p + lengthIn (planAt r) - 1 ≡ p + (outsIn e + insIn e + restIn e) = omega (arith, long) in
-        marks-closed st d (q ∙ flow .closes) c w
-        (record {
-          labels-so = m .labels-so ∙ ap₂ (λ (s : Bool) (i : ℕ). markedBy s (numbered labels) (getD b i 0)) (flow .sets) l;
-          numbers-so = m .numbers-so ∙ ap₂ (λ (s : Bool) (i : ℕ). cond s (set labels (getD b i 0) (num + 1)) labels) (flow .sets) l;
-        })
-        (m .targets-so ∙ ap₂ (λ (s : Bool) (i : ℕ). markedBy s (marked targets) (getD b i 0)) (flow .jumps) l)
-        (m .targets-are ∙ ap₂ (λ (s : Bool) (i : ℕ). targetedBy s (getD b i 0) targets) (flow .jumps) l)
+      -- an op that directs the run writes nothing
+      pub marks-directed : {t : Bool} → t ≡ leb flowRank r → t ≡ true → codesIn vars′ ≡ cond (leb exitRank r) (codesIn base) (codesIn vars)
+          → LabelMarks (setsLabel r) (jumpsTo r) (getD b (p + lengthIn (planAt r) - 1) 0) num labels labels′ targets targets′
+          → Marks rowOf (recordAt rowOf b p) num base vars vars′ labels labels′ targets targets′
+      marks-directed q c w m = marks-so (w ∙ ap (λ (n : ℕ). cond (leb exitRank r) (codesIn base) (openAll (codesIn vars) (bytesAt b (p + 1) n))) (sym (flow .writes-none (sym q ∙ c)))) m
+
+    -- any other ends nothing and has no label
+    module _ {num : ℕ} {base vars vars′ : List ℕ} (labels targets : List ℕ) (f : FirstReady e b p vars) (w : codesIn vars′ ≡ openAll (codesIn vars) (getD b (p + 1) 0 ∷ [])) where
+      pub marks-opened : {t : Bool} → t ≡ leb flowRank r → t ≡ false → Marks rowOf (recordAt rowOf b p) num base vars vars′ labels labels targets targets
+      marks-opened q c =
+          let n : leb flowRank r ≡ false = sym q ∙ c in
+          let go : leb exitRank r ≡ false = lt-leb exitRank r (omega (arith, leb-false flowRank r n)) in
+          marks-so (w ∙ outputs vars (sym (flow .closes) ∙ go) f ∙ sym (rw go)) (label-none r _ num labels targets refl (rw n))

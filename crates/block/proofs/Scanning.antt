@@ -13,11 +13,11 @@ use native.Mathlib.Numerals.{add-one}
 use Rattle.theory.specs.Sets.{Vars}
 use Rattle.theory.proofs.Sets.{tell, and-l, and-r}
 use Rattle.ops.specs.Rows.{known, bodyLength, Table}
-use Rattle.ops.specs.Rows.{outsIn, insIn, restIn, roleIn, rowIn, Row, roleNo, numberOf, isKnown, isClosing, isSetting, isJumping}
+use Rattle.ops.specs.Rows.{outsIn, insIn, restIn, roleIn, rowIn, Row, roleNo, isKnown, isSetting, isJumping}
 use Rattle.ops.specs.Fields.{kindOf, rowAt, bytesAt, outsBy, insBy, labelBy}
 use Rattle.ops.specs.Plans.{exitRank}
 use Rattle.ops.proofs.Entry.{Digits}
-use Rattle.block.proofs.Codes.{coded-next, codes-closed, codes-open}
+use Rattle.block.proofs.Codes.{coded-next}
 use Rattle.block.proofs.Cut.{bytes-more}
 use Rattle.block.proofs.Declaring.{classes-length}
 use Rattle.block.proofs.OpRules.{Op, tests-alike, stopped-not, no-op, no-fit, op-fits}
@@ -26,12 +26,12 @@ use Rattle.block.specs.Checks.{asks, firstBroken, opRules, rulesOf, endR
 use Rattle.block.specs.Records.{Cut, cons, cutOf, isDeclaration, classOf, typeOf, classesOf, declaredTypes}
 use Rattle.block.specs.Rules.{Seen, allGlobal, allBelow, rule3, rule4, markedBy, rule9, rule10, allSet}
 use Rattle.block.specs.Rules.{rule7end, passed, next}
-use Rattle.block.specs.Scan.{recordAt, Stands, checkAt, codesIn, openAll, codesBy, marked, numbered, LabelledAs, declaredSeen, recordRule, opTests, operandsOk, entryRule, opStands, opOk}
+use Rattle.block.specs.Scan.{recordAt, Stands, checkAt, codesIn, codesBy, marked, numbered, LabelledAs, declaredSeen, recordRule, opTests, operandsOk, entryRule, opStands, opOk}
 use Rattle.block.specs.Scan.{labelledBy, targetedBy, placesFrom, labelsFrom, recordsAt, UpTo, ScannedBy, Marks, Begins, Reading}
 use Rattle.block.proofs.Accepts.{allMet, none-broken, numbered-rules}
 use Rattle.block.proofs.Fields.{kind-at, below-left}
 use Rattle.block.proofs.Places.{places-more, labels-more}
-use Rattle.block.proofs.MarkSets.{marked-none, numbered-none, labelled-not, target-not}
+use Rattle.block.proofs.MarkSets.{marked-none, numbered-none}
 use Rattle.block.proofs.Steps.{cut-record, record-length, at-unknown, at-short, at-record, cut-end, at-end}
 use Rattle.block.specs.declared.Verdict.the-variants.{Accepted}
 
@@ -334,7 +334,7 @@ module _ {T : Table} {b : List ℕ} {p k e : ℕ} (s : Stands T b p k) (d : Digi
   pub last-inside : p + (outsIn e + insIn e + restIn e) < length b
   last-inside = omega (arith, s .whole, d .body)
 
-  marks-by : {op : ℕ} {base vars vars′ labels labels′ targets targets′ : List ℕ} → codesIn vars′ ≡ codesBy (rowIn e) (codesIn base) (codesIn vars) (bytesAt b (p + 1) (outsIn e))
+  pub marks-by : {op : ℕ} {base vars vars′ labels labels′ targets targets′ : List ℕ} → codesIn vars′ ≡ codesBy (rowIn e) (codesIn base) (codesIn vars) (bytesAt b (p + 1) (outsIn e))
       → LabelledAs (rowIn e) (getD b (p + (outsIn e + insIn e + restIn e)) 0) op labels labels′
       → marked targets′ ≡ markedBy (isJumping (roleNo (roleIn e))) (marked targets) (getD b (p + (outsIn e + insIn e + restIn e)) 0)
       → targets′ ≡ targetedBy (isJumping (roleNo (roleIn e))) (getD b (p + (outsIn e + insIn e + restIn e)) 0) targets
@@ -347,27 +347,3 @@ module _ {T : Table} {b : List ℕ} {p k e : ℕ} (s : Stands T b p k) (d : Digi
         targets-so = t ∙ sym (ap₂ (λ (row : Row) (n : ℕ). markedBy (isJumping (row .role)) (marked targets) n) row-is label-is);
         targets-are = u ∙ sym (ap₂ (λ (row : Row) (n : ℕ). targetedBy (isJumping (row .role)) n targets) row-is label-is);
       }
-
-  -- the basic block goes on, or ends
-  straight-sets : isClosing (roleNo (roleIn e)) ≡ false → isSetting (roleNo (roleIn e)) ≡ false
-  straight-sets c = ne-eqb (numberOf (roleNo (roleIn e))) 2 (λ q. omega (arith, ltb-false (numberOf (roleNo (roleIn e))) 6 c))
-
-  straight-jumps : isClosing (roleNo (roleIn e)) ≡ false → isJumping (roleNo (roleIn e)) ≡ false
-  straight-jumps c =
-      let l = ltb-false (numberOf (roleNo (roleIn e))) 6 c in
-      rw (ne-eqb (numberOf (roleNo (roleIn e))) 3 (λ q. omega (arith, l)), ne-eqb (numberOf (roleNo (roleIn e))) 5 (λ q. omega (arith, l)))
-
-  module _ {op : ℕ} {base vars vars′ : List ℕ} {t : Bool} (z : t ≡ isClosing (roleNo (roleIn e))) where
-    pub marks-open : {n : ℕ} (labels targets : List ℕ) → t ≡ false → n ≡ outsIn e → codesIn vars′ ≡ openAll (codesIn vars) (bytesAt b (p + 1) n)
-        → Marks T (recordAt T b p) op base vars vars′ labels labels targets targets
-    marks-open labels targets c m w =
-        let f = sym z ∙ c in
-        marks-by (codes-open (rowIn e) (codesIn base) (codesIn vars) (bytesAt b (p + 1) (outsIn e)) z c (w ∙ ap (λ (n : ℕ). openAll (codesIn vars) (bytesAt b (p + 1) n)) m))
-        (labelled-not (rowIn e) (getD b (p + (outsIn e + insIn e + restIn e)) 0) op refl (straight-sets f))
-        (target-not (getD b (p + (outsIn e + insIn e + restIn e)) 0) targets refl (straight-jumps f)) (sym (rw (straight-jumps f)))
-
-    pub marks-closed : {labels labels′ targets targets′ : List ℕ} → t ≡ true → codesIn vars′ ≡ codesIn base → LabelledAs (rowIn e) (getD b (p + (outsIn e + insIn e + restIn e)) 0) op labels labels′
-        → marked targets′ ≡ markedBy (isJumping (roleNo (roleIn e))) (marked targets) (getD b (p + (outsIn e + insIn e + restIn e)) 0)
-        → targets′ ≡ targetedBy (isJumping (roleNo (roleIn e))) (getD b (p + (outsIn e + insIn e + restIn e)) 0) targets
-        → Marks T (recordAt T b p) op base vars vars′ labels labels′ targets targets′
-    marks-closed c w l u = marks-by (codes-closed (rowIn e) (codesIn base) (codesIn vars) (bytesAt b (p + 1) (outsIn e)) z c w) l u

@@ -10,7 +10,7 @@ use Rattle.ops.specs.Rows.{Row, isClosing, isSetting, isJumping, testOk, Table}
 use Rattle.ops.specs.Fields.{kindOf, rowAt, outsBy, insBy, restBy, labelBy}
 use Rattle.block.specs.Records.{isDeclaration, classOf, typeOf}
 
--- what the records read so far come to: the class and type of each variable, the variables written in this basic block,
+-- what the records read so far come to: the class and type of each variable, the variables written in this extended basic block,
 -- the labels set and jumped to, the number of ops, and the last op's kind (0: no op yet)
 pub record Seen : Type 0 where
   pub classes : List ℕ
@@ -24,7 +24,7 @@ pub record Seen : Type 0 where
 abbrev pub start : Seen
 start = record { classes = []; types = []; written = empty; labels = empty; targets = empty; ops = 0; last = 0 }
 
--- the globals, and the variables that outlive a basic block: globals and local temporaries
+-- the globals, and the variables that outlive an extended basic block: globals and local temporaries
 abbrev pub globalsIn : List ℕ → Vars
 globalsIn classes v = eqb (getD classes v 2) 0
 
@@ -70,7 +70,7 @@ labelFree row labels l = not (isSetting (row .role) || isJumping (row .role)) ||
 unfoldable pub rule7 : Table → Seen → List ℕ → Bool
 rule7 T s r = labelFree (rowAt T r) (s .labels) (labelBy (rowAt T r) r)
 
--- 8: "temporary read before a write in its basic block"; "reads come before the record's own write"
+-- 8: "temporary read before a write in its basic block", which "now speaks of the extended block"; "reads come before the record's own write"
 unfoldable pub rule8 : Table → Seen → List ℕ → Bool
 rule8 T s r = allIn (keptIn (s .classes)) (insBy (rowAt T r) r) (s .written)
 
@@ -103,7 +103,8 @@ declared s r =
       last = s .last;
     }
 
--- "A basic block starts at the first op, at set_label, or after br, brcond or exit_tb"
+-- "a temporary lives through an extended basic block, which a conditional branch does not end on its fall-through path"; "Set_label, br and
+-- exit_tb end everything as before"
 abbrev pub wroteBy : Row → Vars → List ℕ → Vars
 wroteBy row w outs = cond (isClosing (row .role)) empty (plus w outs)
 

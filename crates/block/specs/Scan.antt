@@ -9,7 +9,7 @@ use lib.ListN.{length, getD, take, drop, set, replicate}
 use Rattle.theory.specs.Sets.{All, Vars, empty, has}
 use Rattle.ops.specs.Rows.{known, bodyLength, Table}
 use Rattle.ops.specs.Limits.{maxVariables, maxOps, labelCount}
-use Rattle.ops.specs.Plans.{ask, lengthIn, outAskIn, firstAskIn, secondAskIn, firstAtIn, secondAtIn, byteAtIn, moreIn, exitRank, settingRank, planAt}
+use Rattle.ops.specs.Plans.{ask, lengthIn, outAskIn, firstAskIn, secondAskIn, firstAtIn, secondAtIn, byteAtIn, moreIn, settingRank, hasLabel, exitRank, planAt}
 use Rattle.memory.specs.Bytes.{lowFirst}
 use Rattle.ops.specs.Rows.{Row, outsIn, insIn, restIn, testIn, roleIn, typesIn, rowIn, roleNo, isKnown, isClosing, isSetting, isJumping, testOk}
 use Rattle.ops.specs.Fields.{rowAt, bytesAt, outsBy, labelBy}
@@ -102,19 +102,19 @@ pub record LabelledAs (row : Row) (l op : ℕ) (labels labels′ : List ℕ) : T
 abbrev pub targetedBy : Bool → ℕ → List ℕ → List ℕ
 targetedBy jumps l targets = cond jumps (set targets l 1) targets
 
--- by the entry of its kind: the first operand of an op that has no output and closes no basic block may be read. By its rank: that the
+-- by the entry of its kind: the first operand of an op that has no output and ends no extended basic block may be read. By its rank: that the
 -- label of an op that has one is below the limit; whether the op sets its label, or may jump to it; what that leaves
 abbrev pub FirstReady : ℕ → List ℕ → ℕ → List ℕ → Type 0
 FirstReady e block place vars = isClosing (roleNo (roleIn e)) ≡ false → outsIn e ≡ 0 → codesIn vars (getD block (place + 1) 0) < 16
 
 abbrev pub LabelLow : ℕ → List ℕ → ℕ → Type 0
-LabelLow n block place = ltb exitRank n ≡ true → getD block (place + lengthIn (planAt n) - 1) 0 < labelCount
+LabelLow n block place = hasLabel n ≡ true → getD block (place + lengthIn (planAt n) - 1) 0 < labelCount
 
 abbrev pub setsLabel : ℕ → Bool
 setsLabel n = eqb n settingRank
 
 abbrev pub jumpsTo : ℕ → Bool
-jumpsTo n = ltb exitRank n && not (eqb n settingRank)
+jumpsTo n = hasLabel n && not (eqb n settingRank)
 
 pub record LabelMarks (sets jumps : Bool) (l op : ℕ) (labels labels′ targets targets′ : List ℕ) : Type 0 where
   pub labels-so : numbered labels′ ≡ markedBy sets (numbered labels) l
@@ -300,7 +300,7 @@ endRule exits targets labels = cond (not exits) 10 (cond (allSet (marked targets
 pub record SameBeyond (base vars : List ℕ) : Type 0 where
   pub beyond : (v : ℕ) → maxVariables ≤ v → codesIn vars v ≡ codesIn base v
 
--- the variables' bytes after an op, from those at the start of a basic block
+-- the variables' bytes after an op, from those at the start of an extended basic block
 abbrev pub codesBy : Row → (ℕ → ℕ) → (ℕ → ℕ) → List ℕ → ℕ → ℕ
 codesBy row base codes outs = cond (isClosing (row .role)) base (openAll codes outs)
 

@@ -2,3 +2,4 @@ pub mod Marked
 pub mod Examples
 pub mod Table
 pub mod Conditions
+pub mod Extended

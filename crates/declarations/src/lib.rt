@@ -8,7 +8,7 @@ ghost use Rattle.ops.specs.Lawful.{LawfulTable};
 ghost use Rattle.block.specs.Scan.{codeFor, declaresGlobal, declaresOther, declaredRule, Declaring, NoGlobal, Stopped, DeclaredBy};
 use ops::MAX_VARIABLES;
 
-// The byte of a variable: it has no other type, and may not be read unless it outlives a basic block.
+// The byte of a variable: it has no other type, and may not be read unless it outlives an extended basic block.
 fn code(class: u8, ty: u8) -> u8
     requires { ⌜ ty < 2 ⌝ }
     ensures { λ r. ⌜ r ≡ codeFor class ty ⌝ }

@@ -1,4 +1,4 @@
-// Fold: the values known in a basic block, and the ops that constants replace.
+// Fold: the values known in an extended basic block, and the ops that constants replace.
 ghost use mathlib.Core.Path.{_≡_};
 ghost use mathlib.Core.Option.{some};
 ghost use mathlib.Core.Bool.{true};
@@ -15,8 +15,8 @@ ghost use Rattle.passes.specs.Knows.{knownOf, everyIn, StatesKnown, Stays, Fold
 ghost use Rattle.passes.specs.Laid.{Laid};
 use marks::put;
 use memory::from_little_endian;
+use ops::BRANCHES;
 use ops::CONSTANT;
-use ops::LOADS;
 use shapes::ins;
 use shapes::is_computing;
 use shapes::outs;
@@ -101,7 +101,7 @@ fn pass_over(s: u16, block: &[u8], at: usize, known: &mut [u8; 256], values: &mu
         );
         return;
     }
-    if r < LOADS {
+    if r < BRANCHES {
         *known = [0u8; 256];
         return;
     }

@@ -1,5 +1,5 @@
 // Liveness across an op, read backward. What is live is held as times (`liveOf`), so that an op changes the times of
-// its operands alone, and those of whole classes where a basic block ends or memory is accessed.
+// its operands alone, and those of whole classes where an extended basic block ends, at a branch, or where memory is accessed.
 ghost use mathlib.Core.Path.{_≡_};
 ghost use mathlib.Core.Bool.{cond, false, _||_};
 ghost use Prim.Native.Nat.{_+_, _%_, _≤_, _<_};
@@ -12,7 +12,7 @@ ghost use Rattle.ops.specs.Shapes.{pureAs, setsAs, jumpsAs, shapeAt};
 ghost use Rattle.block.specs.Scan.{Stands};
 ghost use Rattle.passes.specs.Live.{beforeAt, liveAs, liveOf, Turns, Timed};
 use marks::put_number;
-use ops::LOADS;
+use ops::BRANCHES;
 use shapes::ins;
 use shapes::is_jumping;
 use shapes::is_pure;
@@ -61,19 +61,19 @@ fn wake(block: &[u8], from: usize, count: usize, time: u16, events: &mut [u16; 2
     put_number(events, block[from + 2], time);
 }
 
-// When local temporaries change where a basic block ends: they are live but where the block is left.
-fn local_time(s: u16, time: u16) -> u16
+// When local temporaries change: now at an op that has a label, where they are live; else as floor has it.
+fn local_time(s: u16, time: u16, floor: u16) -> u16
     requires { ⌜ time < 65535 ⌝ }
-    ensures { λ r. ⌜ r ≡ cond (setsAs s || jumpsAs s) (time + 1) time ⌝ }
+    ensures { λ r. ⌜ r ≡ cond (setsAs s || jumpsAs s) (time + 1) floor ⌝ }
 {
     if is_setting(s) | is_jumping(s) {
         return time + 1;
     }
-    time
+    floor
 }
 
-// What is live before an op that is not pure, but for its inputs, from what is live after it. Loads and stores show all
-// globals; where a basic block ends, the variables that outlive it are live, and where the block is left, the globals.
+// What is live before an op that is not pure, but for its inputs, from what is live after it. All globals are, and at an op
+// that has a label the local temporaries; where an extended basic block ends nothing else is.
 fn live_but_inputs(
     s: u16,
     block: &[u8],
@@ -85,12 +85,12 @@ fn live_but_inputs(
     requires { ⌜ Stands rowOf (now block) at (getD (now block) at 0) × (s ≡ shapeAt (now block) at) × (time % 2 ≡ 0) × (time < 65535) × (pureAs s ≡ false) ⌝ }
     ensures { λ _. ⌜ Turns (now (events .entry)) (now (floors .entry)) time (beforeAt (entryAt (now (block .entry)) at) (now (block .entry)) at) (now (events .exit)) (now (floors .exit)) ⌝ }
 {
-    if role(s) < LOADS {
-        *floors = [time + 1, local_time(s, time), time, 0];
+    if role(s) < BRANCHES {
+        *floors = [time + 1, local_time(s, time, time), time, 0];
         return;
     }
     end_outputs(s, block, at, time, events);
-    *floors = [time + 1, floors[1], floors[2], 0];
+    *floors = [time + 1, local_time(s, time, floors[1]), floors[2], 0];
 }
 
 // The same with its inputs; of an op that a constant replaces, less its output. Pure ops come first: they are most, and have one output.

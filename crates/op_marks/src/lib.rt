@@ -1,17 +1,19 @@
-// What an op leaves: the variables that may be read in the basic block, the labels set and jumped to. rank is that of its kind; its label is its last byte.
+// What an op leaves: the variables that may be read in the extended basic block, the labels set and jumped to. rank is that of its kind; its label is its last byte.
 ghost use mathlib.Core.Path.{_≡_};
-ghost use mathlib.Core.Bool.{false};
+ghost use mathlib.Core.Bool.{cond, false};
 ghost use mathlib.Core.List.{[], _∷_};
 ghost use Prim.Native.Nat.{_+_, _-_, _≤_, _<_};
+ghost use lib.Dec.{leb};
 ghost use lib.ListN.{length, getD};
 ghost use Rattle.ops.specs.Table.{rowOf};
-ghost use Rattle.ops.specs.Plans.{noOp, lengthIn, rankOf, planAt, entryAt};
+ghost use Rattle.ops.specs.Plans.{noOp, lengthIn, rankOf, planAt, exitRank, entryAt};
 ghost use Rattle.block.specs.Scan.{SameBeyond, recordAt, Stands, codesIn, openAll, FirstReady, LabelLow, LabelMarks, setsLabel, jumpsTo, Marks};
 use marks::put;
 use marks::put_label;
 use marks::put_target;
 use ops::MAX_VARIABLES;
 use plans::closes;
+use plans::directs;
 use plans::labelled;
 use plans::length;
 use plans::plan;
@@ -50,7 +52,7 @@ fn mark_label(
     put_target(targets, l, 1);
 }
 
-// The variables' bytes are those at the start of a basic block.
+// The variables' bytes are those at the start of an extended basic block.
 fn restart(base: &[u8; 256], vars: &mut [u8; 256])
     requires { ⌜ SameBeyond (now base) (now vars) ⌝ }
     ensures { λ _. ⌜ codesIn (now (vars .exit)) ≡ codesIn (now (base .entry)) ⌝ }
@@ -62,7 +64,17 @@ fn restart(base: &[u8; 256], vars: &mut [u8; 256])
     }
 }
 
-// What the op at a place leaves in the arrays; base: the variables' bytes at the start of a basic block.
+// The same where an op of this rank ends one.
+fn end_block(rank: u8, base: &[u8; 256], vars: &mut [u8; 256])
+    requires { ⌜ SameBeyond (now base) (now vars) ⌝ }
+    ensures { λ _. ⌜ codesIn (now (vars .exit)) ≡ cond (leb exitRank rank) (codesIn (now (base .entry))) (codesIn (now (vars .entry))) ⌝ }
+{
+    if closes(rank) {
+        restart(base, vars);
+    }
+}
+
+// What the op at a place leaves in the arrays; base: the variables' bytes at the start of an extended basic block.
 pub fn mark_op(
     rank: u8,
     block: &[u8],
@@ -76,10 +88,10 @@ pub fn mark_op(
     requires { ⌜ SameBeyond (now base) (now vars) × Stands rowOf (now block) at (getD (now block) at 0) × (op < 1024) × (rank ≡ rankOf (entryAt (now block) at)) × (noOp (entryAt (now block) at) ≡ false) × FirstReady (entryAt (now block) at) (now block) at (now vars) × LabelLow rank (now block) at ⌝ }
     ensures { λ r. ⌜ Marks rowOf (recordAt rowOf (now (block .entry)) at) op (now (base .entry)) (now (vars .entry)) (now (vars .exit)) (now (labels .entry)) (now (labels .exit)) (now (targets .entry)) (now (targets .exit)) ⌝ }
 {
-    if !closes(rank) {
+    if !directs(rank) {
         open_first(block, at, vars);
         return;
     }
-    restart(base, vars);
+    end_block(rank, base, vars);
     mark_label(rank, block, at, op, labels, targets);
 }

@@ -65,6 +65,7 @@ table-lawful =
       declared-body = refl;
       exiting = refl;
       label-reads = λ k e. ap (λ (row : Row). row .ins) (row-of setsLabel k e);
+      branch-writes = λ k e. ap (λ (row : Row). row .outs) (row-of branches k e);
       label-low = label-low;
       asks-few = λ k. asks-few k refl;
       body-short = body-short;

@@ -11,7 +11,7 @@ use borrow.Author.Tests.{eqb-true, ltb-true, leb-true}
 use Rattle.theory.proofs.Sets.{and-l, and-r, tell, clash}
 use Rattle.ops.specs.Rows.{outsIn, insIn, restIn, testIn, roleIn, typesOf, roleNo, isKnown, isClosing, isSetting, isJumping}
 use Rattle.ops.specs.Table.{kindTable}
-use Rattle.ops.specs.Plans.{typeIn, noOp, lengthBy, outAskBy, secondBy, inAskBy, inAtBy, byteTestBy, askOf, byteAtBy, moreBy, planOf, each, standsFor, rankOf, planAt, straightEnd, exitRank, settingRank, rankTable, lengthTable}
+use Rattle.ops.specs.Plans.{typeIn, noOp, lengthBy, outAskBy, secondBy, inAskBy, inAtBy, byteTestBy, askOf, byteAtBy, moreBy, planOf, each, standsFor, rankOf, planAt, straightEnd, flowRank, exitRank, settingRank, hasLabel, rankTable, lengthTable}
 use Rattle.ops.specs.Plans.{lengthIn, outAskIn, firstAskIn, secondAskIn, firstAtIn, secondAtIn, byteAtIn, byteAskIn, moreIn}
 use Rattle.ops.proofs.Ranges.{every, beq-same}
 use Rattle.ops.proofs.Table.{table-long, past, for-each}
@@ -272,13 +272,14 @@ pub straight-so : (k : ℕ) {e n : ℕ} → e ≡ getD kindTable k 0 → n ≡ r
 straight-so k {e} {n} q r y =
     eqb-true _ _ (or-not (not (ltb (rankOf e) straightEnd)) _ (ap not (rw r at y)) (both (eqb (planAt (rankOf e)) (planOf e)) _ (ranked k q) .1))
 
--- and of an op, whether it ends a basic block, what it does to a label, and whether it is exit_tb
+-- and of an op, whether it ends an extended basic block, what it does to a label, whether it is exit_tb, and that one that directs the run writes nothing
 pub record RankedOp (k e n : ℕ) : Type 0 where
   pub closes : leb exitRank n ≡ isClosing (roleNo (roleIn e))
   pub sets : eqb n settingRank ≡ isSetting (roleNo (roleIn e))
-  pub jumps : (ltb exitRank n && not (eqb n settingRank)) ≡ isJumping (roleNo (roleIn e))
+  pub jumps : (hasLabel n && not (eqb n settingRank)) ≡ isJumping (roleNo (roleIn e))
   pub exits : eqb n exitRank ≡ eqb k 0x04
-  pub labels : ltb exitRank n ≡ eqb (moreBy e) 2
+  pub labels : hasLabel n ≡ eqb (moreBy e) 2
+  pub writes-none : leb flowRank n ≡ true → outsIn e ≡ 0
 
 abbrev flowOk : ℕ → ℕ → Bool
 flowOk k e =
@@ -286,7 +287,7 @@ flowOk k e =
     let r = roleNo (roleIn e) in
     noOp e
     || (Bool·beq (leb exitRank n) (isClosing r)
-    && (Bool·beq (eqb n settingRank) (isSetting r) && (Bool·beq (ltb exitRank n && not (eqb n settingRank)) (isJumping r) && (Bool·beq (eqb n exitRank) (eqb k 0x04) && Bool·beq (ltb exitRank n) (eqb (moreBy e) 2)))))
+    && (Bool·beq (eqb n settingRank) (isSetting r) && (Bool·beq (hasLabel n && not (eqb n settingRank)) (isJumping r) && (Bool·beq (eqb n exitRank) (eqb k 0x04) && (Bool·beq (hasLabel n) (eqb (moreBy e) 2) && (not (leb flowRank n) || eqb (outsIn e) 0))))))
 
 flows-right : every flowOk 0 kindTable ≡ true
 unfolding rankOf kindTable roleNo
@@ -299,8 +300,17 @@ ranked-op k {e} {n} q r none =
     let (a1, t1) = both _ _ (or-not (noOp e) _ none t) in
     let (a2, t2) = both _ _ t1 in
     let (a3, t3) = both _ _ t2 in
-    let (a4, a5) = both _ _ t3 in
-    rw r (record { closes = beq-same _ _ a1; sets = beq-same _ _ a2; jumps = beq-same _ _ a3; exits = beq-same _ _ a4; labels = beq-same _ _ a5 })
+    let (a4, t4) = both _ _ t3 in
+    let (a5, a6) = both _ _ t4 in
+    rw r
+    (record {
+      closes = beq-same _ _ a1;
+      sets = beq-same _ _ a2;
+      jumps = beq-same _ _ a3;
+      exits = beq-same _ _ a4;
+      labels = beq-same _ _ a5;
+      writes-none = λ d. eqb-true _ _ (or-not (not (leb flowRank (rankOf e))) _ (ap not d) a6);
+    })
 
 -- tables of what an entry gives
 each-at : (f : ℕ → ℕ) (es : List ℕ) (k : ℕ) → k < length es → getD (each f es) k 0 ≡ f (getD es k 0)

@@ -22,19 +22,18 @@ module _ (D : Dialect) (row : Row) (r : List ℕ) where
       × (pure (viewFor D x row r) ≡ isPure x)
       × (labelOf (viewFor D x row r) ≡ cond (isSetting x) (some (labelBy row r)) none)
       × (target (viewFor D x row r) ≡ cond (isJumping x) (some (labelBy row r)) none)
-      × (outputs (viewFor D x row r) ≡ cond (isClosing x) [] (outsBy row r))
 
   columns : (x : Role) → Columns x
-  columns unknown = (refl, refl, refl, refl, refl)
-  columns declares = (refl, refl, refl, refl, refl)
-  columns setsLabel = (refl, refl, refl, refl, refl)
-  columns jumpsTo = (refl, refl, refl, refl, refl)
-  columns exits = (refl, refl, refl, refl, refl)
-  columns branches = (refl, refl, refl, refl, refl)
-  columns loads = (refl, refl, refl, refl, refl)
-  columns stores = (refl, refl, refl, refl, refl)
-  columns constant = (refl, refl, refl, refl, refl)
-  columns computing = (refl, refl, refl, refl, refl)
+  columns unknown = (refl, refl, refl, refl)
+  columns declares = (refl, refl, refl, refl)
+  columns setsLabel = (refl, refl, refl, refl)
+  columns jumpsTo = (refl, refl, refl, refl)
+  columns exits = (refl, refl, refl, refl)
+  columns branches = (refl, refl, refl, refl)
+  columns loads = (refl, refl, refl, refl)
+  columns stores = (refl, refl, refl, refl)
+  columns constant = (refl, refl, refl, refl)
+  columns computing = (refl, refl, refl, refl)
 
   inputs-by : (x : Role) → (x ≡ setsLabel → insBy row r ≡ []) → inputs (viewFor D x row r) ≡ insBy row r
   inputs-by unknown h = refl
@@ -47,6 +46,18 @@ module _ (D : Dialect) (row : Row) (r : List ℕ) where
   inputs-by stores h = refl
   inputs-by constant h = refl
   inputs-by computing h = refl
+
+  outputs-by : (x : Role) → (x ≡ branches → outsBy row r ≡ []) → outputs (viewFor D x row r) ≡ cond (isClosing x) [] (outsBy row r)
+  outputs-by unknown h = refl
+  outputs-by declares h = refl
+  outputs-by setsLabel h = refl
+  outputs-by jumpsTo h = refl
+  outputs-by exits h = refl
+  outputs-by branches h = sym (h refl)
+  outputs-by loads h = refl
+  outputs-by stores h = refl
+  outputs-by constant h = refl
+  outputs-by computing h = refl
 
 module _ (D : Dialect) (r : List ℕ) where
   pub closes-at : closes (viewOf D r) ≡ isClosing ((rowAt (D .rows) r) .role)
@@ -65,20 +76,21 @@ module _ (D : Dialect) (r : List ℕ) where
   unfolding viewOf
   target-at = (columns D (rowAt (D .rows) r) r ((rowAt (D .rows) r) .role)) .3
 
+module _ {D : Dialect} (law : Lawful D) (r : List ℕ) where
+  pub inputs-at : inputs (viewOf D r) ≡ insBy (rowAt (D .rows) r) r
+  unfolding viewOf
+  inputs-at = inputs-by D (rowAt (D .rows) r) r ((rowAt (D .rows) r) .role) (λ e. ap (λ (ts : List ℕ). bytesAt r (1 + length ((rowAt (D .rows) r) .outs)) (length ts)) (law .table .label-reads (kindOf r) e))
+
   pub outputs-at : outputs (viewOf D r) ≡ cond (isClosing ((rowAt (D .rows) r) .role)) [] (outsBy (rowAt (D .rows) r) r)
   unfolding viewOf
-  outputs-at = (columns D (rowAt (D .rows) r) r ((rowAt (D .rows) r) .role)) .4
+  outputs-at = outputs-by D (rowAt (D .rows) r) r ((rowAt (D .rows) r) .role) (λ e. ap (λ (ts : List ℕ). bytesAt r 1 (length ts)) (law .table .branch-writes (kindOf r) e))
 
   pub wrote-at : (w : Vars) → wrote w (viewOf D r) ≡ cond (isClosing ((rowAt (D .rows) r) .role)) empty (plus w (outsBy (rowAt (D .rows) r) r))
-  wrote-at w = rw (closes-at, outputs-at) (go (isClosing ((rowAt (D .rows) r) .role)))
+  wrote-at w = rw (closes-at D r, outputs-at) (go (isClosing ((rowAt (D .rows) r) .role)))
     where
       go : (b : Bool) → cond b empty (plus w (cond b [] (outsBy (rowAt (D .rows) r) r))) ≡ cond b empty (plus w (outsBy (rowAt (D .rows) r) r))
       go true = refl
       go false = refl
-
-pub inputs-at : {D : Dialect} (law : Lawful D) (r : List ℕ) → inputs (viewOf D r) ≡ insBy (rowAt (D .rows) r) r
-unfolding viewOf
-inputs-at {D = D} law r = inputs-by D (rowAt (D .rows) r) r ((rowAt (D .rows) r) .role) (λ e. ap (λ (ts : List ℕ). bytesAt r (1 + length ((rowAt (D .rows) r) .outs)) (length ts)) (law .table .label-reads (kindOf r) e))
 
 -- a pure op sets no label and jumps to none
 pub pure-quiet : (x : Role) → isPure x ≡ true → (isSetting x ≡ false) × (isJumping x ≡ false)

@@ -1,8 +1,8 @@
 -- What a fast test of an op goes by, worked out from the entry of its kind and held in one number: its plan. Assumes nothing.
 use Prim.Native.Nat.{ℕ, suc, _+_, _*_, _/_, _%_, _^_}
-use mathlib.Core.Bool.{Bool, true, false, cond, _&&_, _||_}
+use mathlib.Core.Bool.{Bool, true, false, cond, not, _&&_, _||_}
 use mathlib.Core.List.{List, [], _∷_}
-use lib.Dec.{eqb, ltb}
+use lib.Dec.{eqb, ltb, leb}
 use lib.ListN.{getD}
 use Rattle.ops.specs.Rows.{outsIn, insIn, restIn, testIn, roleIn, typesIn, typesOf}
 use Rattle.ops.specs.Table.{kindTable}
@@ -86,12 +86,12 @@ byteAskIn h = h / 33554432 % 256
 abbrev pub moreIn : ℕ → ℕ
 moreIn h = h / 8589934592 % 4
 
--- kinds that stand for all that have the same entry: first those of which nothing else is asked and after which the basic block goes on, last
--- those that end one, exit_tb before those that have a label, set_label after these
+-- kinds that stand for all that have the same entry: first those of which nothing else is asked, last those that direct the run, and of these
+-- first brcond, then those that end an extended basic block: exit_tb, br and set_label
 abbrev pub standsFor : List ℕ
 standsFor =
     0x2b ∷ 0xab ∷ 0x2c ∷ 0xac ∷ 0x90 ∷ 0x05 ∷ 0x07 ∷ 0x11 ∷ 0x91 ∷ 0x14 ∷ 0x94 ∷ 0x28 ∷ 0xa8
-    ∷ 0x29 ∷ 0xa9 ∷ 0x10 ∷ 0x04 ∷ 0x03 ∷ 0x2a ∷ 0xaa ∷ 0x02 ∷ []
+    ∷ 0x29 ∷ 0xa9 ∷ 0x10 ∷ 0x2a ∷ 0xaa ∷ 0x04 ∷ 0x03 ∷ 0x02 ∷ []
 
 -- the rank of an entry is its place among theirs, 21 if it is none of an op
 abbrev pub rankAmong : ℕ → List ℕ → ℕ
@@ -104,16 +104,23 @@ rankOf e = rankAmong e standsFor
 unfoldable pub planAt : ℕ → ℕ
 planAt n = planOf (getD kindTable (getD standsFor n 0) 0)
 
--- what a rank tells: below the first of these nothing else is asked, and the basic block goes on; from exit_tb's on it ends, and above that an
--- op has a label, which set_label sets
+-- what a rank tells: below the first of these nothing else is asked; from the second on, brcond's, an op directs the run; from exit_tb's on it
+-- ends the extended basic block; the last is set_label's
 abbrev pub straightEnd : ℕ
 straightEnd = 13
 
+abbrev pub flowRank : ℕ
+flowRank = 16
+
 abbrev pub exitRank : ℕ
-exitRank = 16
+exitRank = 18
 
 abbrev pub settingRank : ℕ
 settingRank = 20
+
+-- an op that directs the run has a label, unless it is exit_tb
+abbrev pub hasLabel : ℕ → Bool
+hasLabel n = leb flowRank n && not (eqb n exitRank)
 
 -- the entry of the kind at a place of a block
 abbrev pub entryAt : List ℕ → ℕ → ℕ

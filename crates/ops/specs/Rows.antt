@@ -79,7 +79,7 @@ abbrev pub bodyOf : Row → ℕ
 bodyOf row = length (row .outs) + length (row .ins) + row .rest
 
 -- columns of a role, by its number: it is known; it is a pure op's, or one's that reads something ("An op of kinds 05 to 07 or 11 to 29
--- (either width)"); no basic block goes on after it; it sets a label; it may jump to one
+-- (either width)"); it ends the extended basic block ("Set_label, br and exit_tb end everything as before"); it sets a label; it may jump to one
 abbrev pub numberOf : Role → ℕ
 numberOf unknown = 0
 numberOf declares = 1
@@ -102,7 +102,7 @@ abbrev pub isComputing : Role → Bool
 isComputing r = ltb 8 (numberOf r)
 
 abbrev pub isClosing : Role → Bool
-isClosing r = ltb (numberOf r) 6
+isClosing r = ltb (numberOf r) 5
 
 abbrev pub isSetting : Role → Bool
 isSetting r = eqb (numberOf r) 2

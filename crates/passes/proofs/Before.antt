@@ -1,6 +1,6 @@
 -- What is live before an op, and whether it is dead, by the columns of its role. Assumes nothing.
-use mathlib.Core.Path.{_≡_, refl, sym, ap, ap₂, _∙_, fun-ext}
-use mathlib.Core.Bool.{Bool, true, false, cond, _&&_, _||_}
+use mathlib.Core.Path.{_≡_, refl, sym, ap, ap₂, _∙_}
+use mathlib.Core.Bool.{Bool, true, false, cond, _&&_}
 use mathlib.Core.List.{List, []}
 use mathlib.Core.Logic.{_⊎_, inl, inr}
 use Prim.Native.Nat.{ℕ, _+_, _≤_, _<_}
@@ -12,38 +12,35 @@ use Rattle.theory.specs.Prune.{dead, before}
 use Rattle.theory.specs.Sets.{Vars, without, plus, both, noneIn}
 use Rattle.theory.proofs.Sets.{tell}
 use Rattle.ops.specs.Rows.{Role, unknown, declares, setsLabel, jumpsTo, exits, branches, loads, stores, constant, computing, roleNo, Row, outsIn, insIn, roleIn}
-use Rattle.ops.specs.Rows.{numberOf, isPure, isClosing, isSetting, isJumping}
+use Rattle.ops.specs.Rows.{numberOf, isPure, isClosing}
 use Rattle.ops.specs.Kinds.{document01}
 use Rattle.ops.specs.Table.{kindTable, rowOf}
 use Rattle.ops.specs.Ops.{viewFor, viewOf}
 use Rattle.ops.specs.Fields.{kindOf, rowAt, bytesAt, outsBy, insBy}
+use Rattle.ops.proofs.Document01.{lawful}
 use Rattle.ops.proofs.Entry.{Digits, digits}
 use Rattle.ops.proofs.Table.{row-of}
 use Rattle.ops.proofs.Traits.{pure-at, outputs-at}
 use Rattle.block.specs.Scan.{recordAt, Stands}
 use Rattle.block.proofs.Views.{row-at, output-bytes, input-bytes}
-use Rattle.passes.specs.Live.{liveBefore, beforeBy}
+use Rattle.passes.specs.Live.{liveBefore, shownBy, beforeBy}
 
 module _ (glob kept l : Vars) (row : Row) (r : List ℕ) where
-  before-by : (x : Role) → (x ≡ setsLabel → insBy row r ≡ []) → before glob kept (viewFor document01 x row r) l ≡ plus (beforeBy x glob kept (outsBy row r) l) (insBy row r)
-  before-by unknown h = refl
-  before-by declares h = refl
-  before-by setsLabel h = ap (plus kept) (sym (h refl))
-  before-by jumpsTo h = refl
-  before-by exits h = refl
-  before-by branches h = ap (λ (m : Vars). plus m (insBy row r)) (fun-ext (λ v. or-self (kept v)))
-    where
-      or-self : (t : Bool) → (t || t) ≡ t
-      or-self true = refl
-      or-self false = refl
-  before-by loads h = refl
-  before-by stores h = refl
-  before-by constant h = refl
-  before-by computing h = refl
+  before-by : (x : Role) → (x ≡ setsLabel → insBy row r ≡ []) → (x ≡ branches → outsBy row r ≡ []) → before glob kept (viewFor document01 x row r) l ≡ plus (beforeBy x glob kept (outsBy row r) l) (insBy row r)
+  before-by unknown h o = refl
+  before-by declares h o = refl
+  before-by setsLabel h o = ap (plus kept) (sym (h refl))
+  before-by jumpsTo h o = refl
+  before-by exits h o = refl
+  before-by branches h o = ap (λ (outs : List ℕ). plus (both kept (without l outs)) (insBy row r)) (sym (o refl))
+  before-by loads h o = refl
+  before-by stores h o = refl
+  before-by constant h o = refl
+  before-by computing h o = refl
 
--- no pure op closes a basic block
+-- no pure op ends an extended basic block
 pure-open : (x : Role) → isPure x ≡ true → isClosing x ≡ false
-pure-open x h = le-ltb (numberOf x) 6 (omega (arith, ltb-true 7 (numberOf x) h))
+pure-open x h = le-ltb (numberOf x) 5 (omega (arith, ltb-true 7 (numberOf x) h))
 
 dead-by : (x : Role) (outs : List ℕ) (l : Vars) → (isPure x && noneIn (cond (isClosing x) [] outs) l) ≡ (isPure x && noneIn outs l)
 dead-by x outs l = go (tell (isPure x))
@@ -54,16 +51,14 @@ dead-by x outs l = go (tell (isPure x))
 
 -- from the number of the role
 module _ (x : Role) (glob kept : Vars) (outs : List ℕ) (l : Vars) {m : Vars} {n : ℕ} (q : n ≡ numberOf x) where
-  pub ends-before : {s j t : Bool} → n < 6 → s ≡ isSetting x → j ≡ isJumping x → (s || j) ≡ t → m ≡ cond t kept glob → m ≡ beforeBy x glob kept outs l
-  ends-before h e f g w =
-      let z : cond (isSetting x || isJumping x) kept glob ≡ m = ap₂ (λ (a b : Bool). cond (a || b) kept glob) (sym e) (sym f) ∙ ap (λ (b : Bool). cond b kept glob) g ∙ sym w in
-      rw (lt-ltb (numberOf x) 6 (omega arith)) (sym z)
+  pub ends-before : n < 5 → m ≡ shownBy x glob kept → m ≡ beforeBy x glob kept outs l
+  ends-before h w = rw (lt-ltb (numberOf x) 5 (omega arith)) w
 
   pub pure-before : 7 < n → m ≡ without l outs → m ≡ beforeBy x glob kept outs l
-  pure-before h w = rw (le-ltb (numberOf x) 6 (omega arith), lt-ltb 7 (numberOf x) (omega arith)) w
+  pure-before h w = rw (le-ltb (numberOf x) 5 (omega arith), lt-ltb 7 (numberOf x) (omega arith)) w
 
-  pub access-before : {l′ : Vars} → 6 ≤ n → n ≤ 7 → m ≡ both glob l′ → l′ ≡ without l outs → m ≡ beforeBy x glob kept outs l
-  access-before h k w e = rw (le-ltb (numberOf x) 6 (omega arith), le-ltb 7 (numberOf x) (omega arith)) (w ∙ ap (both glob) e)
+  pub others-before : {l′ : Vars} → 5 ≤ n → n ≤ 7 → m ≡ both (shownBy x glob kept) l′ → l′ ≡ without l outs → m ≡ beforeBy x glob kept outs l
+  others-before h k w e = rw (le-ltb (numberOf x) 5 (omega arith), le-ltb 7 (numberOf x) (omega arith)) (w ∙ ap (both (shownBy x glob kept)) e)
 
 -- the op that stands at a place, by the digits of its kind's entry
 module _ {b : List ℕ} {p k e : ℕ} (s : Stands rowOf b p k) (q : e ≡ getD kindTable k 0) where
@@ -89,7 +84,7 @@ module _ {b : List ℕ} {p k e : ℕ} (s : Stands rowOf b p k) (q : e ≡ getD k
     unfolding viewOf
     live-is =
         let r = recordAt rowOf b p in
-        before-by glob kept l (rowAt rowOf r) r ((rowAt rowOf r) .role) (λ z. ap (λ (row : Row). insBy row r) (row-of setsLabel (kindOf r) z))
+        before-by glob kept l (rowAt rowOf r) r ((rowAt rowOf r) .role) (λ z. ap (λ (row : Row). insBy row r) (row-of setsLabel (kindOf r) z)) (λ z. ap (λ (row : Row). outsBy row r) (row-of branches (kindOf r) z))
         ∙ rw (its-role, its-outputs, its-inputs)
 
     -- then the inputs
@@ -98,7 +93,7 @@ module _ {b : List ℕ} {p k e : ℕ} (s : Stands rowOf b p k) (q : e ≡ getD k
     live-before-is w w′ = w′ ∙ ap (λ (m : Vars). plus m (bytesAt b (p + 1 + outsIn e) (insIn e))) w ∙ sym live-is
 
   dead-is : (l : Vars) → dead (viewOf document01 (recordAt rowOf b p)) l ≡ (isPure (roleNo (roleIn e)) && noneIn (bytesAt b (p + 1) (outsIn e)) l)
-  dead-is l = rw (pure-at document01 (recordAt rowOf b p), outputs-at document01 (recordAt rowOf b p), its-role, its-outputs) (dead-by (roleNo (roleIn e)) (bytesAt b (p + 1) (outsIn e)) l)
+  dead-is l = rw (pure-at document01 (recordAt rowOf b p), outputs-at lawful (recordAt rowOf b p), its-role, its-outputs) (dead-by (roleNo (roleIn e)) (bytesAt b (p + 1) (outsIn e)) l)
 
   module _ (l : Vars) {n : ℕ} (m : n ≡ numberOf (roleNo (roleIn e))) where
     pub never-dead : n < 8 → false ≡ dead (viewOf document01 (recordAt rowOf b p)) l

@@ -57,7 +57,7 @@ module _ {f : ℕ → ℕ} {of : List ℕ} {i : ℕ} (s : Filled f of i) where
       go (inl q) = let w = ltb-true v i q in s .first v w ∙ sym (rw (lt-ltb v n (omega arith)))
       go (inr q) = let w = ltb-false v i q in s .others v w ∙ sym (rw (le-ltb v n (omega arith)))
 
--- a byte below 15 is that of a variable that outlives a basic block
+-- a byte below 15 is that of a variable that outlives an extended basic block
 lasting : Bool → ℕ → Bool
 lasting k t = Bool·beq (ltb (against k t) 15) k
 
@@ -104,7 +104,7 @@ module _ {base classes types : List ℕ} (of : List ℕ) (globals : ℕ) (c : Co
       go (inl x) = rw x (split (ltb v globals) (ltb (codesIn base v) 15) ∙ sym (g v))
       go (inr x) = rw x (sym (ap (λ (n : ℕ). eqb n 0) (past v (ltb-false v (length classes) x))))
 
-  -- a global outlives every basic block
+  -- a global outlives every extended basic block
   kept-so : (v : ℕ) → keptIn of v ≡ keptIn classes v
   kept-so v = ap (λ (n : ℕ). ltb n 2) (a v) ∙ go (tell (ltb v (length classes)))
     where

@@ -18,7 +18,7 @@ use Rattle.block.specs.Rules.{globalsIn, keptIn}
 use Rattle.block.specs.Scan.{SetAt, Stands}
 use Rattle.block.proofs.MarkSets.{at-place, zeros}
 use Rattle.passes.specs.Live.{beforeAt, liveAs, lastOf, liveOf, Young, Classed, Turns, Timed}
-use Rattle.passes.proofs.Before.{ends-before, pure-before, access-before, live-before-is}
+use Rattle.passes.proofs.Before.{ends-before, pure-before, others-before, live-before-is}
 use Rattle.ops.proofs.Entry.{digits}
 use Rattle.passes.proofs.Counts.{few-outs, none-else, pure-out}
 
@@ -89,33 +89,43 @@ module _ (now : ℕ) (even : now % 2 ≡ 0) where
         go v true = lives-here (last-own (now + 1) (getD floors (getD classes v 2 % 4) 0) (y (getD classes v 2 % 4)))
         go v false = refl
 
-  -- an event of all globals; and the end of a basic block
-  module _ (events floors : List ℕ) (y : (v : ℕ) → getD events v 0 ≤ now) (classes : List ℕ) (few : Classed classes) where
-    pub shown : liveOf events ((now + 1) ∷ getD floors 1 0 ∷ getD floors 2 0 ∷ 0 ∷ []) classes ≡ both (globalsIn classes) (liveOf events floors classes)
-    shown = fun-ext (λ v. go v (getD classes v 2) (few .class-few v))
+  -- an event of all globals, and of local temporaries where t; and such an event where nothing else stays live
+  module _ (events floors : List ℕ) (y : (v : ℕ) → getD events v 0 ≤ now) (classes : List ℕ) (few : Classed classes) (t : Bool) where
+    split : (v : ℕ) → cond t (ltb (getD classes v 2) 2) (eqb (getD classes v 2) 0) ≡ cond t (keptIn classes) (globalsIn classes) v
+    split v = by t
       where
-        go : (v k : ℕ) → k < 3 → eqb (lastOf (getD events v 0) (getD ((now + 1) ∷ getD floors 1 0 ∷ getD floors 2 0 ∷ 0 ∷ []) (k % 4) 0) % 2) 1
-            ≡ (eqb k 0 || eqb (lastOf (getD events v 0) (getD floors (k % 4) 0) % 2) 1)
-        go v zero h = lives-here (last-all (getD events v 0) (now + 1) (omega (arith, y v)))
-        go v (suc zero) h = refl
-        go v (suc (suc zero)) h = refl
-        go v (suc (suc (suc k))) h = absurd (omega arith)
+        by : (t : Bool) → cond t (ltb (getD classes v 2) 2) (eqb (getD classes v 2) 0) ≡ cond t (keptIn classes) (globalsIn classes) v
+        by true = refl
+        by false = refl
 
-    pub closed : (t : Bool) {x : ℕ} → x ≡ cond t (now + 1) now → liveOf events ((now + 1) ∷ x ∷ now ∷ 0 ∷ []) classes ≡ cond t (keptIn classes) (globalsIn classes)
-    closed t {x} e = fun-ext (λ v. rw e (go v t (getD classes v 2) (few .class-few v)) ∙ split t v)
+    wakes : (v : ℕ) → eqb (lastOf (getD events v 0) (now + 1) % 2) 1 ≡ true
+    wakes v = lives-here (last-all (getD events v 0) (now + 1) (omega (arith, y v)))
+
+    pub shown : {x : ℕ} → x ≡ cond t (now + 1) (getD floors 1 0)
+        → liveOf events ((now + 1) ∷ x ∷ getD floors 2 0 ∷ 0 ∷ []) classes ≡ both (cond t (keptIn classes) (globalsIn classes)) (liveOf events floors classes)
+    shown e = fun-ext (λ v. rw e (go v t (getD classes v 2) (few .class-few v)) ∙ ap (λ (s : Bool). s || liveOf events floors classes v) (split v))
+      where
+        go : (v : ℕ) (t : Bool) (k : ℕ) → k < 3 → eqb (lastOf (getD events v 0) (getD ((now + 1) ∷ cond t (now + 1) (getD floors 1 0) ∷ getD floors 2 0 ∷ 0 ∷ []) (k % 4) 0) % 2) 1
+            ≡ (cond t (ltb k 2) (eqb k 0) || eqb (lastOf (getD events v 0) (getD floors (k % 4) 0) % 2) 1)
+        go v true zero h = wakes v
+        go v false zero h = wakes v
+        go v true (suc zero) h = wakes v
+        go v false (suc zero) h = refl
+        go v true (suc (suc zero)) h = refl
+        go v false (suc (suc zero)) h = refl
+        go v t (suc (suc (suc k))) h = absurd (omega arith)
+
+    pub closed : {x : ℕ} → x ≡ cond t (now + 1) now → liveOf events ((now + 1) ∷ x ∷ now ∷ 0 ∷ []) classes ≡ cond t (keptIn classes) (globalsIn classes)
+    closed e = fun-ext (λ v. rw e (go v t (getD classes v 2) (few .class-few v)) ∙ split v)
       where
         go : (v : ℕ) (t : Bool) (k : ℕ) → k < 3 → eqb (lastOf (getD events v 0) (getD ((now + 1) ∷ cond t (now + 1) now ∷ now ∷ 0 ∷ []) (k % 4) 0) % 2) 1 ≡ cond t (ltb k 2) (eqb k 0)
-        go v true zero h = lives-here (last-all (getD events v 0) (now + 1) (omega (arith, y v)))
-        go v false zero h = lives-here (last-all (getD events v 0) (now + 1) (omega (arith, y v)))
-        go v true (suc zero) h = lives-here (last-all (getD events v 0) (now + 1) (omega (arith, y v)))
+        go v true zero h = wakes v
+        go v false zero h = wakes v
+        go v true (suc zero) h = wakes v
         go v false (suc zero) h = ends-here (last-all (getD events v 0) now (y v))
         go v true (suc (suc zero)) h = ends-here (last-all (getD events v 0) now (y v))
         go v false (suc (suc zero)) h = ends-here (last-all (getD events v 0) now (y v))
         go v t (suc (suc (suc k))) h = absurd (omega arith)
-
-        split : (t : Bool) (v : ℕ) → cond t (ltb (getD classes v 2) 2) (eqb (getD classes v 2) 0) ≡ cond t (keptIn classes) (globalsIn classes) v
-        split true v = refl
-        split false v = refl
 
 -- the time of one variable is stored
 pub timed-one : {events events′ : List ℕ} {v n : ℕ} → SetAt events v n events′ → Timed events (v ∷ []) n events′
@@ -235,21 +245,27 @@ module _ (e : ℕ) {n : ℕ} (now : ℕ) (b : List ℕ) (p : ℕ) (events floors
   abbrev role : Role
   role = roleNo (roleIn e)
 
-  pub turn-ends : {x : ℕ} → n < 6 → x ≡ cond (isSetting (roleNo (roleIn e)) || isJumping (roleNo (roleIn e))) (now + 1) now → Turns events floors now (beforeAt e b p) events ((now + 1) ∷ x ∷ now ∷ 0 ∷ [])
+  abbrev labelled : Bool
+  labelled = isSetting (roleNo (roleIn e)) || isJumping (roleNo (roleIn e))
+
+  time-young : {x floor : ℕ} → x ≡ cond labelled (now + 1) floor → floor ≤ now + 1 → x ≤ now + 1
+  time-young {x} {floor} z h = go labelled z
+    where
+      go : (t : Bool) → x ≡ cond t (now + 1) floor → x ≤ now + 1
+      go true z = omega arith
+      go false z = omega arith
+
+  pub turn-ends : {x : ℕ} → n < 5 → x ≡ cond (isSetting (roleNo (roleIn e)) || isJumping (roleNo (roleIn e))) (now + 1) now → Turns events floors now (beforeAt e b p) events ((now + 1) ∷ x ∷ now ∷ 0 ∷ [])
   turn-ends {x} h w =
       record {
         live-so = λ classes few y.
-            ends-before role (globalsIn classes) (keptIn classes) (bytesAt b (p + 1) (outsIn e)) (liveOf events floors classes) q h refl refl refl
-            (closed now even events floors (y .events-young) classes few (isSetting role || isJumping role) w);
+            ends-before role (globalsIn classes) (keptIn classes) (bytesAt b (p + 1) (outsIn e)) (liveOf events floors classes) q h
+            (closed now even events floors (y .events-young) classes few labelled w);
         young-so = λ y. record {
           events-young = λ v. omega (arith, y .events-young v);
-          floors-young = four-young (now + 1) x now 0 (now + 1) (omega arith) (time-young (isSetting role || isJumping role) w) (omega arith) (omega arith);
+          floors-young = four-young (now + 1) x now 0 (now + 1) (omega arith) (time-young w (omega arith)) (omega arith) (omega arith);
         };
       }
-    where
-      time-young : (t : Bool) → x ≡ cond t (now + 1) now → x ≤ now + 1
-      time-young true z = omega arith
-      time-young false z = omega arith
 
   module _ (events′ : List ℕ) (s : Timed events (bytesAt b (p + 1) (outsIn e)) now events′) where
     pub turn-pure : 7 < n → Turns events floors now (beforeAt e b p) events′ floors
@@ -261,16 +277,17 @@ module _ (e : ℕ) {n : ℕ} (now : ℕ) (b : List ℕ) (p : ℕ) (events floors
           young-so = λ y. record { events-young = timed-young s (now + 1) (omega arith) (λ v. omega (arith, y .events-young v)); floors-young = λ c. omega (arith, y .floors-young c) };
         }
 
-    pub turn-access : 6 ≤ n → n ≤ 7 → Turns events floors now (beforeAt e b p) events′ ((now + 1) ∷ getD floors 1 0 ∷ getD floors 2 0 ∷ 0 ∷ [])
-    turn-access h k =
+    pub turn-others : {x : ℕ} → 5 ≤ n → n ≤ 7 → x ≡ cond (isSetting (roleNo (roleIn e)) || isJumping (roleNo (roleIn e))) (now + 1) (getD floors 1 0)
+        → Turns events floors now (beforeAt e b p) events′ ((now + 1) ∷ x ∷ getD floors 2 0 ∷ 0 ∷ [])
+    turn-others {x} h k w =
         record {
           live-so = λ classes few y.
-              access-before role (globalsIn classes) (keptIn classes) (bytesAt b (p + 1) (outsIn e)) (liveOf events floors classes) q h k
-              (shown now even events′ floors (timed-young s now (omega arith) (y .events-young)) classes few)
+              others-before role (globalsIn classes) (keptIn classes) (bytesAt b (p + 1) (outsIn e)) (liveOf events floors classes) q h k
+              (shown now even events′ floors (timed-young s now (omega arith) (y .events-young)) classes few labelled w)
               (ended now even events floors (bytesAt b (p + 1) (outsIn e)) events′ s (y .floors-young) classes);
           young-so = λ y. record {
             events-young = timed-young s (now + 1) (omega arith) (λ v. omega (arith, y .events-young v));
-            floors-young = four-young (now + 1) (getD floors 1 0) (getD floors 2 0) 0 (now + 1) (omega arith) (omega (arith, y .floors-young 1)) (omega (arith, y .floors-young 2)) (omega arith);
+            floors-young = four-young (now + 1) x (getD floors 2 0) 0 (now + 1) (omega arith) (time-young w (omega (arith, y .floors-young 1))) (omega (arith, y .floors-young 2)) (omega arith);
           };
         }
 

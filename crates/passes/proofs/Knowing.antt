@@ -245,10 +245,10 @@ module _ {b : List ℕ} {p k : ℕ} (s : Stands rowOf b p k) {e n : ℕ} (q : e 
   closing : closes (viewOf document01 (recordAt rowOf b p)) ≡ isClosing (roleNo (roleIn e))
   closing = closes-at document01 (recordAt rowOf b p) ∙ ap isClosing (its-role s q)
 
-  pub over-end : {known′ : Vars} → n < 6 → known′ ≡ empty → Stays b p known values known′ values
-  over-end h z = record { known-after = none-known values z ∙ rw (closing ∙ lt-ltb (numberOf (roleNo (roleIn e))) 6 (omega arith)) }
+  pub over-end : {known′ : Vars} → n < 5 → known′ ≡ empty → Stays b p known values known′ values
+  over-end h z = record { known-after = none-known values z ∙ rw (closing ∙ lt-ltb (numberOf (roleNo (roleIn e))) 5 (omega arith)) }
 
-  module _ (h : 6 ≤ n) (i : n ≡ 8 → ⊥) (w : StatesKnown b p known values NoResult) where
+  module _ (h : 5 ≤ n) (i : n ≡ 8 → ⊥) (w : StatesKnown b p known values NoResult) where
     abbrev o : List ℕ
     o = recordAt rowOf b p
 
@@ -264,9 +264,9 @@ module _ {b : List ℕ} {p k : ℕ} (s : Stands rowOf b p k) {e n : ℕ} (q : e 
 
     over-others : {known′ : Vars} → known′ ≡ without known (bytesAt b (p + 1) (outsIn e)) → Stays b p known values known′ values
     over-others {known′} u =
-        let stays : isClosing (roleNo (roleIn e)) ≡ false = le-ltb (numberOf (roleNo (roleIn e))) 6 (omega arith) in
+        let stays : isClosing (roleNo (roleIn e)) ≡ false = le-ltb (numberOf (roleNo (roleIn e))) 5 (omega arith) in
         let outs : outputs (viewOf document01 o) ≡ bytesAt b (p + 1) (outsIn e) =
-        outputs-at document01 o ∙ ap₂ (λ (t : Bool) (xs : List ℕ). cond t [] xs) (ap isClosing (its-role s q) ∙ stays) (its-outputs s q) in
+        outputs-at lawful o ∙ ap₂ (λ (t : Bool) (xs : List ℕ). cond t [] xs) (ap isClosing (its-role s q) ∙ stays) (its-outputs s q) in
         record {
           known-after =
               forgets known known′ values (bytesAt b (p + 1) (outsIn e)) u

@@ -22,11 +22,14 @@ use Rattle.passes.specs.Knows.{foldedOps}
 abbrev pub liveBefore : Vars → Vars → List ℕ → Vars → Vars
 liveBefore globals kept op l = before globals kept (viewOf document01 op) l
 
--- the same by the op's role and outputs, but for its inputs
+-- what is live at the label that an op sets or may jump to; the globals if it has none
+abbrev pub shownBy : Role → Vars → Vars → Vars
+shownBy role globals kept = cond (isSetting role || isJumping role) kept globals
+
+-- what is live before an op by its role and outputs, but for its inputs
 abbrev pub beforeBy : Role → Vars → Vars → List ℕ → Vars → Vars
 beforeBy role globals kept outs l =
-    cond (isClosing role) (cond (isSetting role || isJumping role) kept globals)
-    (cond (isPure role) (without l outs) (both globals (without l outs)))
+    cond (isClosing role) (shownBy role globals kept) (cond (isPure role) (without l outs) (both (shownBy role globals kept) (without l outs)))
 
 -- the same for the op with this entry at a place
 abbrev pub beforeAt : ℕ → List ℕ → ℕ → Vars → Vars → Vars → Vars
@@ -54,7 +57,7 @@ pub record Young (events floors : List ℕ) (now : ℕ) : Type 0 where
 pub record Classed (classes : List ℕ) : Type 0 where
   pub class-few : (v : ℕ) → getD classes v 2 < 3
 
--- what was live becomes this, of globals, variables that outlive a basic block, and what was live
+-- what was live becomes this, of globals, variables that outlive an extended basic block, and what was live
 pub record Turns (events floors : List ℕ) (now : ℕ) (f : Vars → Vars → Vars → Vars) (events′ floors′ : List ℕ) : Type 0 where
   pub live-so : (classes : List ℕ) → Classed classes → Young events floors now → liveOf events′ floors′ classes ≡ f (globalsIn classes) (keptIn classes) (liveOf events floors classes)
   pub young-so : Young events floors now → Young events′ floors′ (now + 1)

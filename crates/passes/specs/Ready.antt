@@ -14,7 +14,7 @@ use Rattle.ops.specs.Table.{rowOf}
 use Rattle.passes.specs.Laid.{opsAt, placeOf, Laid}
 use Rattle.passes.specs.Live.{Classed}
 
--- the class of the v-th variable, which has this byte at the start of a basic block, where so many are globals
+-- the class of the v-th variable, which has this byte at the start of an extended basic block, where so many are globals
 abbrev pub classBy : ℕ → ℕ → ℕ → ℕ
 classBy code v globals = cond (ltb v globals) 0 (cond (ltb code 15) 1 2)
 

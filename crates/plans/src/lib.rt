@@ -2,15 +2,15 @@
 ghost use mathlib.Core.Path.{_≡_};
 ghost use lib.Dec.{eqb, ltb, leb};
 ghost use lib.ListN.{getD};
-ghost use Rattle.ops.specs.Plans.{rankTable, lengthTable, planAt, lengthIn, outAskIn, firstAskIn, secondAskIn, firstAtIn, secondAtIn, byteAtIn, byteAskIn, moreIn, straightEnd, exitRank, settingRank};
+ghost use Rattle.ops.specs.Plans.{rankTable, lengthTable, planAt, lengthIn, outAskIn, firstAskIn, secondAskIn, firstAtIn, secondAtIn, byteAtIn, byteAskIn, moreIn, straightEnd, flowRank, exitRank, settingRank, hasLabel};
 
 // The rank of each kind; kinds with the same entry have the same, and 21 is no op's. The table is made where the loop over the ops starts, and a byte for a kind is soon made.
 const RANKS: [u8; 256] = [
     21, // 00
     21, // 01 declaration
     20, // 02 set_label
-    17, // 03 br
-    16, // 04 exit_tb
+    19, // 03 br
+    18, // 04 exit_tb
     5, // 05 ext_i32_i64
     5, // 06 extu_i32_i64
     6, // 07 trunc_i64_i32
@@ -48,7 +48,7 @@ const RANKS: [u8; 256] = [
     9, // 27 rotr_i32
     11, // 28 setcond_i32
     13, // 29 movcond_i32
-    18, // 2a brcond_i32
+    16, // 2a brcond_i32
     0, // 2b qemu_ld_i32
     2, // 2c qemu_st_i32
     21, // 2d
@@ -176,7 +176,7 @@ const RANKS: [u8; 256] = [
     10, // a7 rotr_i64
     12, // a8 setcond_i64
     14, // a9 movcond_i64
-    19, // aa brcond_i64
+    17, // aa brcond_i64
     1, // ab qemu_ld_i64
     3, // ac qemu_st_i64
     21, // ad
@@ -524,8 +524,11 @@ const LENGTHS: [u8; 256] = [
     15, // ff
 ];
 
+// The first rank of an op that directs the run.
+const FLOW: u8 = 16;
+
 // The rank of exit_tb.
-pub const EXIT: u8 = 16;
+pub const EXIT: u8 = 18;
 
 pub fn ranks() -> [u8; 256]
     ensures { λ r. ⌜ r ≡ rankTable ⌝ }
@@ -574,10 +577,10 @@ pub fn plan(rank: u8) -> u64
         13 => 0x6_09ba3117, // movcond_i32
         14 => 0x6_09ba5227, // movcond_i64
         15 => 0x2_0014001a, // movi_i32
-        16 => 0x0_00165202, // exit_tb
-        17 => 0x4_00140002, // br
-        18 => 0x4_08e63105, // brcond_i32
-        19 => 0x4_08e65205, // brcond_i64
+        16 => 0x4_08e63105, // brcond_i32
+        17 => 0x4_08e65205, // brcond_i64
+        18 => 0x0_00165202, // exit_tb
+        19 => 0x4_00140002, // br
         20 => 0x4_00140002, // set_label
         _ => 0x0_0454000f,
     }
@@ -637,14 +640,21 @@ pub fn more(h: u64) -> u32
     (h / 8589934592 % 4) as u32
 }
 
-// Nothing else is asked of the op, and the basic block goes on after it.
+// Nothing else is asked of the op, and it goes on with the next.
 pub fn straight(rank: u8) -> bool
     ensures { λ r. ⌜ r ≡ ltb rank straightEnd ⌝ }
 {
     rank < 13
 }
 
-// It ends the basic block.
+// It directs the run: it sets a label, jumps or leaves.
+pub fn directs(rank: u8) -> bool
+    ensures { λ r. ⌜ r ≡ leb flowRank rank ⌝ }
+{
+    FLOW <= rank
+}
+
+// It ends the extended basic block.
 pub fn closes(rank: u8) -> bool
     ensures { λ r. ⌜ r ≡ leb exitRank rank ⌝ }
 {
@@ -653,9 +663,9 @@ pub fn closes(rank: u8) -> bool
 
 // It has a label.
 pub fn labelled(rank: u8) -> bool
-    ensures { λ r. ⌜ r ≡ ltb exitRank rank ⌝ }
+    ensures { λ r. ⌜ r ≡ hasLabel rank ⌝ }
 {
-    EXIT < rank
+    (FLOW <= rank) & (rank != EXIT)
 }
 
 // It sets its label.

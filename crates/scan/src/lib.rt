@@ -53,7 +53,7 @@ fn end_rule(last: u8, targets: &[u8; 32], labels: &[u16; 32]) -> u8
     0
 }
 
-// Reads the ops from a place on; places and labels then hold where each op and label is. base: the variables' bytes at the start of a basic block.
+// Reads the ops from a place on; places and labels then hold where each op and label is. base: the variables' bytes at the start of an extended basic block.
 fn scan_ops(
     block: &[u8],
     start: usize,
@@ -103,7 +103,7 @@ pub struct Found {
     pub ops: usize,
 }
 
-// Reads a block; of an accepted one base then holds the variables' bytes at the start of a basic block, and the other arrays where each op and label is.
+// Reads a block; of an accepted one base then holds the variables' bytes at the start of an extended basic block, and the other arrays where each op and label is.
 pub fn scan(
     block: &[u8],
     base: &mut [u8; 256],

@@ -1,4 +1,4 @@
--- Document 01's list of what is live covers what the ops need, where temporaries keep to their basic blocks. Assumes nothing.
+-- Document 01's list of what is live covers what the ops need, where temporaries keep to their extended basic blocks. Assumes nothing.
 use mathlib.Core.Path.{_≡_, refl}
 use mathlib.Core.Bool.{Bool, true, false, cond, _||_}
 use mathlib.Core.List.{[], _∷_}
@@ -28,7 +28,7 @@ module _ (L : Lang) (glob kept : Vars) (wide : (v : ℕ) → glob v ≡ true →
       let e : closes w ≡ false = pure-open w (and-l (pure w) (noneIn (outputs w) l) d) in
       or-mid (kept v) (has (outputs w) v) (u v) (rw e at h) (dead-out (outputs w) l v (and-r (pure w) (noneIn (outputs w) l) d) q)
 
-  -- what is live outlives the basic block or is written in it
+  -- what is live outlives the extended basic block or is written in it
   pub live-scoped : (r : Prog L) (u : Vars) (v : ℕ) → scoped L kept u r ≡ true → live L glob kept r v ≡ true → (kept v || u v) ≡ true
   live-scoped [] u v c h = or-l (kept v) (u v) (wide v h)
   live-scoped (o ∷ r) u v c h = go (tell (dead w l)) (live-scoped r (wrote u w) v (and-r (mayRead kept u w) (scoped L kept (wrote u w) r) c))

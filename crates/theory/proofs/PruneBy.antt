@@ -45,7 +45,7 @@ seek-prune L note k (o ∷ r) = go (tell (isLabel k (L .view o))) (tell (dead (L
     go (inr e) (inr d) ih = rw (e, d, e) ih
 
 -- what a note of what is live has: the inputs of a kept op are live before it, and what is live after an op is live before it,
--- unless a kept op writes it or ends the basic block
+-- unless a kept op writes it or ends the extended basic block
 pub record Keeps (L : Lang) (note : Prog L → Vars) : Type 0 where
   pub in-live : (o : L .Op) (r : Prog L) (v : ℕ) → dead (L .view o) (note r) ≡ false → has (inputs (L .view o)) v ≡ true → note (o ∷ r) v ≡ true
   pub on-live : (o : L .Op) (r : Prog L) (v : ℕ) → dead (L .view o) (note r) ≡ false → closes (L .view o) ≡ false → has (outputs (L .view o)) v ≡ false → note r v ≡ true → note (o ∷ r) v ≡ true

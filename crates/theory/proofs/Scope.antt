@@ -1,4 +1,4 @@
--- The pass keeps the rule of temporaries: none is read before a write in its basic block. Assumes nothing.
+-- The pass keeps the rule of temporaries: none is read before a write in its extended basic block. Assumes nothing.
 use mathlib.Core.Path.{_≡_, refl}
 use mathlib.Core.Bool.{Bool, true, false, cond, _||_}
 use mathlib.Core.List.{List, [], _∷_}

@@ -1,8 +1,8 @@
 -- What holds of every view, by its constructors; other proofs take no view apart, but for its effect. Assumes nothing.
 use mathlib.Core.Path.{_≡_, refl, ap}
-use mathlib.Core.Bool.{true, false, not, _||_, false≢true, true≢false}
+use mathlib.Core.Bool.{Bool, true, false, cond, not, _||_, false≢true, true≢false}
 use mathlib.Core.Option.{Option, none, some}
-use mathlib.Core.List.{List}
+use mathlib.Core.List.{List, []}
 use mathlib.Core.Logic.{_⊎_, inl, inr}
 use Prim.Native.Nat.{ℕ}
 use borrow.Author.Tests.{not-true}
@@ -10,7 +10,7 @@ use Rattle.theory.specs.Machine.{Touch, always, when, Way, to, out, View
 use Rattle.theory.specs.Machine.{computes, pure, closes, labelOf, anyLabel, isLabel}
 use Rattle.theory.specs.Prune.{dead, there, need}
 use Rattle.theory.proofs.Scoped.{mayRead, wrote}
-use Rattle.theory.specs.Sets.{Vars, has, without, both}
+use Rattle.theory.specs.Sets.{Vars, empty, has, without, plus, both}
 use Rattle.theory.proofs.Sets.{or-cases, or-l, or-r, and-l, and-r, in-all, or-mid, or-no, or-both, or-map, and-map}
 
 pub no-some {ℓ} : {A : Type 0} {B : Type ℓ} {a : A} → none ≡ some a → B
@@ -32,12 +32,12 @@ pub globals-shown : (Val Mem Out Flt : Type 0) (glob : Vars) (outs ins : List �
 globals-shown Val Mem Out Flt glob outs ins f l t v h = or-r (has ins v) _ (or-l (glob v) _ h)
 
 module _ {Val Mem Out Flt : Type 0} where
-  -- a label ends a basic block
+  -- a label ends an extended basic block
   pub label-closes : (w : View Val Mem Out Flt) → anyLabel w ≡ true → closes w ≡ true
   label-closes (calc outs ins f) h = h
   label-closes (access outs ins f) h = h
   label-closes (label k) h = refl
-  label-closes (flow ins c y) h = refl
+  label-closes (flow ins c y) h = absurd (false≢true h)
 
   pub pure-open : (w : View Val Mem Out Flt) → pure w ≡ true → closes w ≡ false
   pure-open (calc outs ins f) h = refl
@@ -77,6 +77,14 @@ module _ {Val Mem Out Flt : Type 0} where
   label-stays k w l h = let p = label-is w (label-any k w h) in rw (p .1)
 
   module _ (glob : Vars) where
+    -- what is live after an op is live before it, unless it writes that or ends the extended basic block
+    pub passes : (w : View Val Mem Out Flt) (l : Vars) (t : ℕ → Vars) (v : ℕ) → closes w ≡ false → has (outputs w) v ≡ false → l v ≡ true → need glob w l t v ≡ true
+    passes (calc outs ins f) l t v e h q = or-r (has ins v) (without l outs v) (rw h q)
+    passes (access outs ins f) l t v e h q = or-r (has ins v) (both glob (without l outs) v) (or-r (glob v) (without l outs v) (rw h q))
+    passes (label k) l t v e h q = q
+    passes (flow ins always y) l t v e h q = absurd (true≢false e)
+    passes (flow ins (when f) y) l t v e h q = or-r (has ins v) (both (there glob y t) l v) (or-r (there glob y t v) (l v) q)
+
     -- with more live after an op and at the labels, more is live before it
     pub need-mono : (w : View Val Mem Out Flt) (l l′ : Vars) (t t′ : ℕ → Vars) (v : ℕ) → (l v ≡ true → l′ v ≡ true) → ((k : ℕ) → t k v ≡ true → t′ k v ≡ true)
         → need glob w l t v ≡ true → need glob w l′ t′ v ≡ true
@@ -97,13 +105,6 @@ module _ {Val Mem Out Flt : Type 0} where
     inputs-need (label k) l t v h = absurd (false≢true h)
     inputs-need (flow ins always y) l t v h = or-l (has ins v) (there glob y t v) h
     inputs-need (flow ins (when f) y) l t v h = or-l (has ins v) (both (there glob y t) l v) h
-
-    -- and so is what is live after it, unless it writes that or ends the basic block
-    pub passes : (w : View Val Mem Out Flt) (l : Vars) (t : ℕ → Vars) (v : ℕ) → closes w ≡ false → has (outputs w) v ≡ false → l v ≡ true → need glob w l t v ≡ true
-    passes (calc outs ins f) l t v e h q = or-r (has ins v) (without l outs v) (rw h q)
-    passes (access outs ins f) l t v e h q = or-r (has ins v) (both glob (without l outs) v) (or-r (glob v) (without l outs v) (rw h q))
-    passes (label k) l t v e h q = q
-    passes (flow ins c y) l t v e h q = absurd (true≢false e)
 
     module _ (kept : Vars) (wide : (v : ℕ) → glob v ≡ true → kept v ≡ true) where
       -- where a temporary that is live after the op is written by then, one that is live before it is written before it
@@ -132,9 +133,13 @@ module _ {Val Mem Out Flt : Type 0} where
           go (inr q) = or-l (kept v) (u v) (there-kept glob y t kept v (wide v) b q)
       need-scoped (flow ins (when f) y) l u t v r a b h = go (or-cases (has ins v) (both (there glob y t) l v) h)
         where
+          past : (x : Bool) → (kept v || cond x empty (plus u []) v) ≡ true → (kept v || u v) ≡ true
+          past true q = or-l (kept v) (u v) (or-no (kept v) q)
+          past false q = q
+
           go₂ : (there glob y t v ≡ true) ⊎ (l v ≡ true) → (kept v || u v) ≡ true
           go₂ (inl q) = or-l (kept v) (u v) (there-kept glob y t kept v (wide v) b q)
-          go₂ (inr q) = or-l (kept v) (u v) (or-no (kept v) (a q))
+          go₂ (inr q) = past (closes {Flt = Flt} (flow ins (when f) y)) (a q)
 
           go : (has ins v ≡ true) ⊎ (both (there glob y t) l v ≡ true) → (kept v || u v) ≡ true
           go (inl q) = in-all kept ins u v r q

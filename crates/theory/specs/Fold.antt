@@ -40,8 +40,9 @@ gain [] f = given (f [])
 gain (i ∷ is) f = []
 
 module _ {Val Mem Out Flt : Type 0} where
-  -- what is known after an op. "It knows the values written by movi or by folded ops in this basic block." "The output of any op that is
-  -- neither a movi nor so folded becomes unknown. Nothing is known at the start or after set_label, br, brcond or exit_tb."
+  -- what is known after an op: "the values written by movi or by folded ops in this" extended basic block. "The output of any op that is
+  -- neither a movi nor so folded becomes unknown. Nothing is known at the start or after set_label, br" or exit_tb; brcond "keeps both",
+  -- temporaries and known values, "for the next op"
   abbrev pub learned : Known Val → View Val Mem Out Flt → Known Val
   learned k w = cond (closes w) nothing (writes none k (outputs w) (gain (inputs w) (computes w)))
 

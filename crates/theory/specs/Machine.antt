@@ -108,13 +108,15 @@ module _ {Val Mem Out Flt : Type 0} where
   pure (label k) = false
   pure (flow ins c y) = false
 
-  -- no temporary and no known value outlives the op.
-  -- "A basic block starts at the first op, at set_label, or after br, brcond or exit_tb"
+  -- no temporary and no known value outlives the op: it ends the extended basic block. "a temporary lives through an extended basic block,
+  -- which a conditional branch does not end on its fall-through path"; an op that may leave the block ends it
   abbrev pub closes : View Val Mem Out Flt → Bool
   closes (calc outs ins f) = false
   closes (access outs ins f) = false
   closes (label k) = true
-  closes (flow ins c y) = true
+  closes (flow ins always y) = true
+  closes (flow ins (when f) (to k)) = false
+  closes (flow ins (when f) (out g)) = true
 
   -- the label to which it may jump
   abbrev pub target : View Val Mem Out Flt → Option ℕ

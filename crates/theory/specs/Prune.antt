@@ -25,8 +25,9 @@ module _ {Val Mem Out Flt : Type 0} (glob : Vars) where
   need (flow ins always y) l t = plus (there glob y t) ins
   need (flow ins (when f) y) l t = plus (both (there glob y t) l) ins
 
-  -- what is live just before a kept op. kept: the globals and local temporaries, which are live at a label and where a basic block ends.
-  -- "exit_tb: all globals, and its operand"; "br and set_label: all globals and local temporaries"; "brcond: those, and its operands";
+  -- what is live just before a kept op. kept: the globals and local temporaries, which are live at a label and where an extended basic
+  -- block ends. "exit_tb: all globals, and its operand"; "br and set_label: all globals and local temporaries"; "Just before brcond, what is
+  -- live is all globals and local temporaries, its operands, and the temporaries live after it";
   -- "load or store: what was live after it less a load's output, then all globals, then its inputs";
   -- "pure op: what was live after it less its output, then its inputs"
   abbrev pub before : Vars → View Val Mem Out Flt → Vars → Vars

@@ -1,7 +1,7 @@
 -- `mark_op` marks what an op leaves. Assumes nothing.
 use borrow.Author.Tests.{not-true, not-false}
 use borrow.Author.Needs.{needs}
-use Rattle.block.proofs.Marking.{operand-here, whole-here, marks-opened, marks-ended}
+use Rattle.block.proofs.Marking.{operand-here, whole-here, marks-opened, marks-directed}
 use Rattle.op_marks.proofs.mark_op.Statement.{statement}
 use Rattle.op_marks.proofs.mark_op.Tie as tie
 
@@ -13,7 +13,7 @@ open-first-requires c κs =
 returns : tie.Need-returns
 returns c =
     let s = c .before .before .before .before .before in
-    marks-opened (s .pre .1) (s .pre .4) (s .pre .3) (s .args .labels .now) (s .args .targets .now) (s .pre .5) (c .open-first .ensures) (c .before .before .before .closes .ensures) (not-true _ (c .before .before .if1 .taken))
+    marks-opened (s .pre .1) (s .pre .4) (s .pre .3) (s .args .labels .now) (s .args .targets .now) (s .pre .5) (c .open-first .ensures) (c .before .before .before .directs .ensures) (not-true _ (c .before .before .if1 .taken))
 
 mark-label-requires : tie.Need-mark-label-requires
 mark-label-requires c κs =
@@ -24,7 +24,7 @@ mark-label-requires c κs =
 returns-2 : tie.Need-returns-2
 returns-2 c =
     let s = c .before .before .before .before .before .before .before .before in
-    marks-ended (s .pre .1) (s .pre .4) (s .pre .3) (c .before .before .before .before .before .before .closes .ensures) (not-false _ (c .before .before .before .before .before .if1 .left)) (c .before .before .before .restart .ensures) (c .mark-label .ensures)
+    marks-directed (s .pre .1) (s .pre .4) (s .pre .3) (c .before .before .before .before .before .before .directs .ensures) (not-false _ (c .before .before .before .before .before .if1 .left)) (c .before .before .before .end-block .ensures) (c .mark-label .ensures)
 
 pub mark-op-spec : {M : Type 1} → statement M
 mark-op-spec = tie.close (tie.spec (λ c κs. search needs) open-first-requires returns (λ c κs. c .before .before .before .before .pre .0) mark-label-requires returns-2)
