@@ -147,7 +147,7 @@ enum ngulo_kind {
 enum ngulo_class {
     NGULO_CLASS_GLOBAL = 0,    /* outlives the block */
     NGULO_CLASS_LOCAL = 1,     /* a local temporary: lives through the block, and starts at zero */
-    NGULO_CLASS_TEMPORARY = 2  /* lives through one extended basic block, in which it is written before it is read */
+    NGULO_CLASS_TEMPORARY = 2  /* lives through an extended basic block; in each it is written before it is read */
 };
 
 /* A declaration's type: the variable's width. */

@@ -92,8 +92,8 @@ static int explain(const struct request *request, const struct bytes *block, con
         return complain("%s: the result is not what is left of the folded block", shown_name(request->files[0]));
     }
     print_fates(&source, fates, request->names);
-    printf("%u op%s of %lu bytes became %u of %lu\n", source.ops, source.ops == 1 ? "" : "s",
-           (unsigned long)block->length, left.ops, (unsigned long)length);
+    printf("%u op%s became %u; the block's %lu bytes became %lu\n", source.ops, source.ops == 1 ? "" : "s", left.ops,
+           (unsigned long)block->length, (unsigned long)length);
     return STATUS_DONE;
 }
 

@@ -164,6 +164,13 @@ static void print_way_out(const struct records *block, const struct fate fates[N
     }
 }
 
+/* Where an extended basic block ends, by its edge. */
+static void print_block_end(const uint8_t *edge, unsigned position)
+{
+    printf("its extended basic block, which ends %s op %u", edge[0] == NGULO_KIND_SET_LABEL ? "before" : "with",
+           position);
+}
+
 /* Why the output of a kept op is live: it is read, or its life goes on; else a brcond or an access is next. */
 static void print_use(const struct records *block, const struct fate fates[NGULO_MAX_OPS], unsigned position,
                       const char *names)
@@ -176,7 +183,8 @@ static void print_use(const struct records *block, const struct fate fates[NGULO
         print_variable(variable, names);
     } else if (is_edge(fates[i].form[0]) && outlives(block, variable, fates[i].form)) {
         print_variable(variable, names);
-        printf(" outlives its extended basic block, which ends at op %u", i);
+        fputs(" outlives ", stdout);
+        print_block_end(fates[i].form, i);
     } else {
         print_way_out(block, fates, position, names);
     }
@@ -197,8 +205,12 @@ static void print_end(const struct records *block, const struct fate fates[NGULO
     }
     fputs("no op that is left reads ", stdout);
     print_variable(variable, names);
-    printf(" before %s, at op %u",
-           class_of(block, variable) == NGULO_CLASS_LOCAL ? "the block is left" : "its extended basic block ends", i);
+    if (class_of(block, variable) == NGULO_CLASS_LOCAL) {
+        printf(" before the block is left, at op %u", i);
+        return;
+    }
+    fputs(" after it in ", stdout);
+    print_block_end(fates[i].form, i);
 }
 
 static void print_fate(const struct records *block, const struct fate fates[NGULO_MAX_OPS], unsigned position,
@@ -217,7 +229,8 @@ static void print_fate(const struct records *block, const struct fate fates[NGUL
         fputs("dropped: ", stdout);
         print_end(block, fates, position, names);
     } else if (is_access(fate->form[0])) {
-        fputs("kept: it may fault", stdout);
+        fputs(shape_of(fate->form[0])->outputs == 0 ? "kept: it writes memory, and may fault" : "kept: it may fault",
+              stdout);
     } else if (is_edge(fate->form[0]) || is_brcond(fate->form[0])) {
         fputs("kept", stdout);
     } else {

@@ -23,7 +23,7 @@ void find_forms(const struct records *block, struct fate fates[NGULO_MAX_OPS]);
  */
 int find_kept(const struct records *block, const struct records *result, struct fate fates[NGULO_MAX_OPS]);
 
-/* Prints a line for each op: what it was folded to, why it was kept or dropped. Names are as in listing.h. */
+/* Prints a line for each op: what it was folded to, whether it was kept, and of most why. Names are as in listing.h. */
 void print_fates(const struct records *block, const struct fate fates[NGULO_MAX_OPS], const char *names);
 
 #endif

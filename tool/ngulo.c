@@ -10,7 +10,7 @@
 
 #define FILE_AND_HEX \
     "  FILE             the block; - is standard input\n" \
-    "  --hex            FILE is hex text: two digits a byte, white space between\n" \
+    "  --hex            FILE is hex text: two digits a byte, white space or none between\n" \
     "                   bytes, # starts a comment that ends with the line\n"
 #define NAMES "  --names A,B,...  names of the globals, from global 0 on, to stand beside them\n"
 #define PLAIN "  --plain          the bare line, for scripts: "
@@ -28,7 +28,7 @@ static const struct command commands[] = {
      "\n"
      "Says 'accepted', or which rule is broken first and where:\n"
      "  block.hex: refusal 7 at 31: label set twice, ...\n"
-     "with the record at that place on the next line.\n"
+     "with the record that it is about, and what is wrong with it, on the next line.\n"
      "\n" FILE_AND_HEX PLAIN "'refusal 7 at 31'\n"},
     {"list", command_list, 1, TAKES_PLAIN | TAKES_NAMES | TAKES_OFFSETS,
      "usage: ngulo list FILE [--names A,B,... | --offsets] [--plain] [--hex]\n"
@@ -67,8 +67,9 @@ static const struct command commands[] = {
      "\n" FILE_AND_HEX
      "                   The result is hex text then too\n"
      "  -o OUT           where the result goes, also --output; - is standard output\n"
-     "  --explain        say for each op what it was folded to, and why it was kept or\n"
-     "                   dropped; the block is then written to OUT alone\n" NAMES PLAIN
+     "  --explain        say for each op what it was folded to, and whether it was kept; of\n"
+     "                   pure ops, loads and stores also why; the block is then written to\n"
+     "                   OUT alone\n" NAMES PLAIN
      "'refusal 7 at 31'\n"},
     {"diff", command_diff, 2, TAKES_PLAIN | TAKES_STATE | TAKES_SEED | TAKES_RUNS,
      "usage: ngulo diff A B [--seed S] [--runs N] [--memory N] [--plain] [--hex]\n"

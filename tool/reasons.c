@@ -6,6 +6,7 @@
 
 /* What the records before a place come to; they break no rule. */
 struct seen {
+    const uint8_t *block;
     const uint8_t *declared[NGULO_MAX_VARIABLES];
     unsigned variables;
     unsigned ops;
@@ -39,6 +40,7 @@ static void look_back(const uint8_t *block, size_t place, struct seen *seen)
     size_t at;
 
     memset(seen, 0, sizeof *seen);
+    seen->block = block;
     for (at = 0; at < place; at += record_length(block[at])) {
         if (block[at] == NGULO_KIND_DECL) {
             seen->declared[seen->variables] = block + at;
@@ -120,6 +122,18 @@ static int speaks_of(unsigned number, const struct seen *seen, const uint8_t *re
     }
 }
 
+/* Where a temporary was written, and where it was lost. */
+static void print_lost(FILE *stream, const struct seen *seen, unsigned v)
+{
+    uint8_t end = seen->block[seen->lost[v]];
+    char name[LISTING_SIZE];
+
+    list_name(end, name);
+    fprintf(stream, "v%u was written at %lu, but the extended basic block of that write ended %s the %s at %lu", v,
+            (unsigned long)seen->written[v], end == NGULO_KIND_SET_LABEL ? "before" : "with", name,
+            (unsigned long)seen->lost[v]);
+}
+
 static void print_operand(FILE *stream, unsigned number, const struct seen *seen, unsigned v)
 {
     if (number == NGULO_REFUSAL_UNDECLARED) {
@@ -129,8 +143,7 @@ static void print_operand(FILE *stream, unsigned number, const struct seen *seen
     } else if (seen->written[v] == 0) {
         fprintf(stream, "v%u is not written yet", v);
     } else {
-        fprintf(stream, "v%u was written at %lu, but its extended basic block ended at %lu", v,
-                (unsigned long)seen->written[v], (unsigned long)seen->lost[v]);
+        print_lost(stream, seen, v);
     }
 }
 

@@ -6,7 +6,7 @@
 
 #include <stdio.h>
 
-/* Prints the record at the place of a refusal from 1 to 10 on a line of its own, with what is wrong with it. */
+/* Prints, on a line of its own, the record that a refusal from 1 to 10 is about, or what is missing, and what is wrong. */
 void print_reason_of(FILE *stream, const struct bytes *block, unsigned number, size_t place);
 
 #endif
