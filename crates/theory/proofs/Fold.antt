@@ -8,10 +8,10 @@ use Prim.Native.Nat.{ℕ}
 use lib.Dec.{eqb}
 use Rattle.theory.specs.Fold.{Known, nothing, Rewrite, put, omit, cut, Mode, on, off, somes, given, gain, learned, Rule, emit}
 use Rattle.theory.specs.Fold.{fold}
-use Rattle.theory.specs.Machine.{Touch, faults, gives, always, when, to, out, View, calc, access, label, flow, Lang}
-use Rattle.theory.specs.Machine.{exit, unstated, State, Effect, falls, jumps, stops, headOr, tailOf, reads, writes, isSome}
+use Rattle.theory.specs.Machine.{Touch, faults, gives, always, when, Way, to, out, View, calc, access, label, flow, Lang}
+use Rattle.theory.specs.Machine.{unstated, State, Effect, falls, jumps, stops, headOr, tailOf, reads, writes, isSome}
 use Rattle.theory.specs.Sets.{upd, All}
-use Rattle.theory.specs.Machine.{anyLabel, isLabel, afterCalc, afterAccess, effect, St, Prog, Effects, seek, moved, runs}
+use Rattle.theory.specs.Machine.{anyLabel, isLabel, afterCalc, afterAccess, sent, effect, St, Prog, Effects, seek, moved, runs}
 use Rattle.theory.proofs.Law.{Right, As, Fits, Lawful}
 use Rattle.theory.proofs.Sets.{tell}
 use Rattle.theory.proofs.Simulation.{definite, Follows, drops, moves, ends, open-end, Matches, simulates}
@@ -68,16 +68,13 @@ module _ {Val : Type 0} (z : Val) where
     right-learned (label j) k s r = right-nothing (s .env)
     right-learned (flow ins always (to j)) k s r = tt
     right-learned (flow ins always (out g)) k s r = tt
-    right-learned (flow ins (when f) (to j)) k s r = go (f (s .mem) (reads (s .env) ins))
+    right-learned (flow ins (when f) y) k s r = go (f (s .mem) (reads (s .env) ins)) y
       where
-        go : (x : Bool) → Leaves (λ t. Right k (t .env)) (cond x (jumps j) (falls s))
-        go true = tt
-        go false = r
-    right-learned (flow ins (when f) (out g)) k s r = go (f (s .mem) (reads (s .env) ins))
-      where
-        go : (x : Bool) → Leaves (λ t. Right nothing (t .env)) (cond x (stops (exit (g (reads (s .env) ins)))) (falls s))
-        go true = tt
-        go false = right-nothing (s .env)
+        go : (x : Bool) (y : Way Val Out) → Leaves (λ t. Right (learned {Flt = Flt} k (flow ins (when f) y)) (t .env)) (cond x (sent y (reads (s .env) ins)) (falls s))
+        go true (to j) = tt
+        go true (out g) = tt
+        go false (to j) = r
+        go false (out g) = right-nothing (s .env)
 
 -- at a label nothing is known
 pub any-learned : {Val Mem Out Flt : Type 0} (k : Known Val) (w : View Val Mem Out Flt) → anyLabel w ≡ true → learned k w ≡ nothing
