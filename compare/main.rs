@@ -27,7 +27,7 @@ usage: compare [options]
   --write-corpus DIR  write the first 2000 cases as fuzz inputs into DIR
   --help              print this text
 
-exit code: 0 no difference, 1 a difference or something never occurred,
+exit code: 0 no difference, 1 a difference or something occurred too seldom,
 2 bad arguments";
 
 struct Options {
@@ -113,7 +113,7 @@ fn compare(options: &Options) -> ExitCode {
     );
     let missing = stats.report();
     if options.blocks >= BLOCKS && !missing.is_empty() {
-        println!("compare: never occurred: {}", missing.join("; "));
+        println!("compare: too seldom: {}", missing.join("; "));
         return ExitCode::FAILURE;
     }
     println!("compare: {} blocks, no difference", options.blocks);

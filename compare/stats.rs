@@ -2,7 +2,7 @@
 
 use crate::calls::Side;
 use crate::cases::{passed, Case, RESULT};
-use crate::extended::{self, Counts, THINGS};
+use crate::extended::{self, Counts, OFTEN, THINGS};
 use crate::second::{self, Block, Ending, Form, Plan, Refusal, MEMORY, OPS, SHAPES, VARIABLES};
 
 /// Things that have to occur, each with how often it did.
@@ -201,7 +201,7 @@ impl Stats {
         let unstated = by_kind(&self.unstated, divides_or_shifts);
         let named = |(name, count): (&&str, u64)| (name.to_string(), count);
         let single = SINGLE.iter().zip(self.single).map(named).collect();
-        let extended = THINGS.iter().zip(self.extended).map(named).collect();
+        let crossing = THINGS.iter().zip(self.extended).map(named).collect();
         vec![
             ("refusals", numbered(&self.refusals, 1)),
             ("endings", numbered(&self.endings, 0)),
@@ -215,7 +215,7 @@ impl Stats {
             ("faults by flags", fault_counts(&self.faults)),
             ("classes and types", numbered(&self.variables, 0)),
             ("jump lengths", numbered(&self.jumps[..OPS - 1], 1)),
-            ("extended basic blocks", extended),
+            (extended::GROUP, crossing),
             ("single things", single),
         ]
     }
@@ -245,11 +245,12 @@ impl Stats {
         all
     }
 
-    /// Prints a line for each group; the things that never occurred.
+    /// Prints a line for each group; the things that occurred too seldom.
     pub fn report(&self) -> Vec<String> {
         let mut missing = vec![];
         for (name, things) in self.groups() {
-            let seen = things.iter().filter(|(_, count)| *count > 0).count();
+            let needed = if name == extended::GROUP { OFTEN } else { 1 };
+            let seen = things.iter().filter(|(_, n)| *n >= needed).count();
             let (least, count) = things
                 .iter()
                 .min_by_key(|(_, count)| *count)
@@ -262,7 +263,7 @@ impl Stats {
             missing.extend(
                 things
                     .iter()
-                    .filter(|(_, n)| *n == 0)
+                    .filter(|(_, n)| *n < needed)
                     .map(|(thing, _)| format!("{name}: {thing}")),
             );
         }

@@ -38,7 +38,7 @@ static const struct command commands[] = {
      "A refused block is answered on standard error.\n"
      "\n" FILE_AND_HEX NAMES
      "  --offsets        before each record the place where it starts, and an op's\n"
-     "                   position; a refused block is listed up to the refused record\n" PLAIN "'refusal 7 at 31'\n"},
+     "                   position; a refused block is listed up to the refusal's place\n" PLAIN "'refusal 7 at 31'\n"},
     {"run", command_run, 1, TAKES_PLAIN | TAKES_NAMES | TAKES_STATE | TAKES_RUN | TAKES_SEED,
      "usage: ngulo run FILE [--global V]... [--memory N | --memory-file F]\n"
      "       ngulo run FILE --seed S [--memory N]\n"
