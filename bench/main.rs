@@ -51,10 +51,11 @@ fn now() -> f64 {
     t[0] as f64 * 1e9 + t[1] as f64
 }
 
-/// The known kinds that no block of the set has.
-fn kinds_left_out(set: &[Case]) -> Vec<u8> {
+/// The known kinds that no block of these sets has.
+fn kinds_left_out(sets: &[Set], names: [&str; 2]) -> Vec<u8> {
     let mut seen = [false; 256];
-    for case in set {
+    let named = |set: &&Set| names.contains(&set.name);
+    for case in sets.iter().filter(named).flat_map(|set| &set.cases) {
         for place in blocks::records(&case.block) {
             seen[case.block[place] as usize] = true;
         }
@@ -185,9 +186,9 @@ fn set_fault(set: &Set) -> Option<String> {
 
 /// Why the sets cannot be timed.
 fn fault(sets: &[Set]) -> Option<String> {
-    let left_out = kinds_left_out(&sets[0].cases);
+    let left_out = kinds_left_out(sets, ["seeded", "fields"]);
     if !left_out.is_empty() {
-        return Some(format!("no seeded block has kinds {left_out:02x?}"));
+        return Some(format!("no block has kinds {left_out:02x?}"));
     }
     sets.iter().find_map(set_fault)
 }

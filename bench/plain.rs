@@ -33,25 +33,34 @@ const UNDECLARED: u8 = NOT_WIDE | NOT_NARROW;
 /// A global or local temporary of 32 bits; one more has 64.
 const DECLARED: u8 = NOT_KNOWN | NOT_WIDE;
 
-/// What speaks against a byte as a constant: it is no condition, no label, no
-/// flags of a load or a store of that width; the last against any byte.
+/// What speaks against a byte as a constant: it is no condition, no flags of an
+/// access, its size is eight bytes, it is signed, it is no position of an
+/// extract2 of that width, no flags of a swap of less than the width or of the
+/// width.
 const CONDITION: u8 = 1;
-const LABEL: u8 = 2;
-const LOAD: [u8; 2] = [4, 8];
-const STORE: [u8; 2] = [16, 32];
-const NEVER: u8 = 64;
+const ACCESS: u8 = 2;
+const EIGHT: u8 = 4;
+const SIGNED: u8 = 8;
+const POSITION: Two = [16, 32];
+const PART: u8 = 64;
+const WHOLE: u8 = 128;
+const LOAD: Two = [ACCESS | EIGHT, ACCESS];
+const STORE: Two = [LOAD[0] | SIGNED, LOAD[1] | SIGNED];
+/// One of these speaks against any byte.
+const NEVER: u8 = PART | WHOLE;
 
 static CONSTANTS: [u8; 256] = {
-    let mut table = [NEVER; 256];
+    let mut table = [0; 256];
     let mut byte = 0;
     while byte < 256 {
-        let (eight, signed) = (byte & 3 == 3, byte & 4 != 0);
-        table[byte] |= (byte > 9) as u8 * CONDITION
-            | (byte > 31) as u8 * LABEL
-            | (byte > 15 || eight) as u8 * LOAD[0]
-            | (byte > 15) as u8 * LOAD[1]
-            | (byte > 15 || signed || eight) as u8 * STORE[0]
-            | (byte > 15 || signed) as u8 * STORE[1];
+        table[byte] = (byte > 9) as u8 * CONDITION
+            | (byte > 15) as u8 * ACCESS
+            | (byte & 3 == 3) as u8 * EIGHT
+            | (byte & 4 != 0) as u8 * SIGNED
+            | (byte > 32) as u8 * POSITION[0]
+            | (byte > 64) as u8 * POSITION[1]
+            | (byte < 2 || byte > 5) as u8 * PART
+            | (byte > 0) as u8 * WHOLE;
         byte += 1;
     }
     table
@@ -71,7 +80,8 @@ struct Row {
     asked: [u8; 3],
     /// Where a constant is, and what must not speak against it.
     constant: Two,
-    /// Is it a movcond, set_label, br, brcond or exit_tb?
+    /// Is it a movcond, deposit, extract, sextract, set_label, br, brcond or
+    /// exit_tb?
     more: bool,
 }
 
@@ -80,7 +90,9 @@ type Two = [u8; 2];
 /// A row from the length and number of operands and what else it has.
 const fn row(size: Two, effect: Effect, inputs: Two, asked: [u8; 3], constant: Two) -> Row {
     let [length, operands] = size;
-    let more = operands == 5 || matches!(effect, Effect::Exit | Effect::Jump | Effect::Branch);
+    let parts = matches!(effect, Effect::Exit | Effect::Jump | Effect::Branch);
+    // A field is two constants.
+    let more = operands == 5 || length == operands + 3 || parts;
     Row {
         length,
         operands,
@@ -101,7 +113,7 @@ const fn kind(kind: u8) -> Row {
     let (w, r) = ([NOT_NARROW, NOT_WIDE][wide], [NARROW, WIDE][wide]);
     match kind {
         0x01 => row([3, 0], Jump, [1, 1], [0; 3], [1, NEVER]),
-        0x02 | 0x03 => row([2, 0], Jump, [1, 1], [0; 3], [1, LABEL]),
+        0x02 | 0x03 => row([2, 0], Jump, [1, 1], [0; 3], NONE),
         0x04 => row([2, 1], Exit, [1, 1], [0, WIDE, WIDE], NONE),
         0x05 | 0x06 => row([3, 2], Pure, [2, 2], [NOT_WIDE, NARROW, NARROW], NONE),
         0x07 => row([3, 2], Pure, [2, 2], [NOT_NARROW, WIDE, WIDE], NONE),
@@ -114,6 +126,13 @@ const fn kind(kind: u8) -> Row {
         // Addresses are 64-bit.
         0x2B | 0xAB => row([4, 2], Load, [2, 2], [w, WIDE, WIDE], [3, LOAD[wide]]),
         0x2C | 0xAC => row([4, 2], Store, [1, 2], [0, r, WIDE], [3, STORE[wide]]),
+        0x2D | 0xAD => row([6, 3], Pure, [2, 3], [w, r, r], [4, 0]),
+        0x2E | 0x2F | 0xAE | 0xAF => row([5, 2], Pure, [2, 2], [w, r, r], [3, 0]),
+        0x30 | 0xB0 => row([5, 3], Pure, [2, 3], [w, r, r], [4, POSITION[wide]]),
+        0x31 | 0xB1 | 0xB2 => row([4, 2], Pure, [2, 2], [w, r, r], [3, PART]),
+        0x32 | 0xB3 => row([4, 2], Pure, [2, 2], [w, r, r], [3, WHOLE]),
+        0x34 | 0x35 | 0xB4 | 0xB5 => row([4, 3], Pure, [2, 3], [w, r, r], NONE),
+        0x36 | 0xB6 => row([3, 2], Pure, [2, 2], [w, r, r], NONE),
         _ => row([0, 0], Jump, [1, 1], [0; 3], NONE),
     }
 }
@@ -279,15 +298,19 @@ impl<'a> Scan<'a> {
         let mut seen = against_a | against_b;
         let mut reads = one(a) | one(b);
         if row.more {
-            if row.operands != 5 {
+            if row.effect != Effect::Pure {
                 let reads = if row.operands > 0 { reads } else { 0 };
                 fold.push(place, output, row.effect, reads);
                 return self.parts(place, record);
             }
-            let (c, d) = (record[4], record[5]);
-            seen |= self.against[c as usize] | self.against[d as usize];
-            reads |= one(c) | one(d);
-            if seen & row.asked[1] != 0 {
+            if row.operands == 5 {
+                let (c, d) = (record[4], record[5]);
+                seen |= self.against[c as usize] | self.against[d as usize];
+                reads |= one(c) | one(d);
+                if seen & row.asked[1] != 0 {
+                    return false;
+                }
+            } else if !field_fits(row, record) {
                 return false;
             }
         }
@@ -358,7 +381,9 @@ impl<'a> Scan<'a> {
         let label = record[record.len() - 1];
         let jumps = matches!(row.effect, Effect::Jump | Effect::Branch);
         let limits = CONSTANTS[record[row.constant[0] as usize] as usize] & row.constant[1];
-        if limits != 0 || jumps && label > 31 || kind == 0x10 && record[6..10] != [0; 4] {
+        let field = matches!(kind & 0x7F, 0x2D..=0x2F) && !field_fits(row, record);
+        let large = kind == 0x10 && record[6..10] != [0; 4];
+        if limits != 0 || field || jumps && label > 31 || large {
             return 6;
         }
         if jumps && self.set & one(label) != 0 {
@@ -366,6 +391,14 @@ impl<'a> Scan<'a> {
         }
         8
     }
+}
+
+/// Has the field a length of at least 1, and does it end within the width?
+#[inline(always)]
+fn field_fits(row: &Row, record: &[u8]) -> bool {
+    let at = row.constant[0] as usize;
+    let width = if record[0] >= 0x80 { 64 } else { 32 };
+    (record[at + 1].wrapping_sub(1) as i32) < width - record[at] as i32
 }
 
 fn movi_value(record: &[u8]) -> u64 {
@@ -422,6 +455,50 @@ fn twice(a: u64, wide: bool) -> u64 {
     a | if wide { 0 } else { a << 32 }
 }
 
+/// So many low bits, at least 1.
+fn ones(length: u8) -> u64 {
+    u64::MAX >> (64 - length)
+}
+
+/// deposit: t1 with the low bits of t2 in the field.
+#[inline(always)]
+fn deposit(t1: u64, t2: u64, position: u8, length: u8) -> u64 {
+    let field = ones(length) << position;
+    t1 & !field | t2 << position & field
+}
+
+/// sextract: the field goes to the top and back.
+#[inline(always)]
+fn sextract(t1: u64, position: u8, length: u8) -> u64 {
+    let top = t1 << (64 - position - length);
+    (top as i64 >> (64 - length)) as u64
+}
+
+/// extract2: the width's bits of t2:t1 from the position on.
+#[inline(always)]
+fn extract2(t1: u64, t2: u64, position: u8, wide: bool) -> u64 {
+    if wide {
+        (((t2 as u128) << 64 | t1 as u128) >> position) as u64
+    } else {
+        (t2 << 32 | t1) >> position
+    }
+}
+
+/// bswap16 to bswap64; none if IZ is set and the input is not zero-extended.
+#[inline(always)]
+fn swapped(record: &[u8], t1: u64) -> Option<u64> {
+    let (unused, flags) = (64 - (8 << ((record[0] & 0x7F) - 0x30)), record[3]);
+    if flags & 1 != 0 && t1 & !(u64::MAX >> unused) != 0 {
+        return None;
+    }
+    let top = t1.swap_bytes();
+    Some(if flags & 4 != 0 {
+        (top as i64 >> unused) as u64
+    } else {
+        top >> unused
+    })
+}
+
 /// The values of all variables.
 type Values = [u64; 64];
 
@@ -463,12 +540,38 @@ fn result(record: &[u8], values: &Values) -> Option<u64> {
         0x26 => twice(a(), wide).rotate_left(counted(b(), wide)?),
         0x27 => twice(a(), wide).rotate_right(counted(b(), wide)?),
         0x28 => holds(record[4], a(), b(), wide) as u64,
-        _ => {
+        0x29 => {
             let chosen = holds(record[6], a(), b(), wide);
             value(values, if chosen { record[4] } else { record[5] })
         }
+        _ => field_swap_or_count(record, values)?,
     };
     Some(cut(result, wide))
+}
+
+/// The result of a bit field, swap or count. Apart, so that the others stay as
+/// fast.
+#[inline(never)]
+fn field_swap_or_count(record: &[u8], values: &Values) -> Option<u64> {
+    let wide = record[0] >= 0x80;
+    let a = || value(values, record[2]);
+    let b = || value(values, record[3]);
+    Some(match record[0] & 0x7F {
+        0x2D => deposit(a(), b(), record[4], record[5]),
+        0x2E => a() >> record[3] & ones(record[4]),
+        0x2F => sextract(a(), record[3], record[4]),
+        0x30 => extract2(a(), b(), record[4], wide),
+        0x31..=0x33 => swapped(record, a())?,
+        0x34 => match a() {
+            0 => b(),
+            a => a.leading_zeros() as u64 - if wide { 0 } else { 32 },
+        },
+        0x35 => match a() {
+            0 => b(),
+            a => a.trailing_zeros() as u64,
+        },
+        _ => a().count_ones() as u64,
+    })
 }
 
 /// The bits above the bytes of an access.

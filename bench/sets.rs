@@ -21,6 +21,7 @@ pub fn all() -> Vec<Set> {
         set("seeded", seeded()),
         set("short", (0..SHORT).map(short).collect()),
         set("globals", (0..CROWDED).map(crowded).collect()),
+        set("fields", fields()),
         set("two records", vec![two_records]),
     ]
 }
@@ -29,10 +30,11 @@ const SEED: u64 = 1;
 /// Of the seeded set: so many blocks of at least so many ops.
 const SEEDED: usize = 200;
 const LEAST_OPS: usize = 64;
-/// How many blocks the sets "short" and "globals" have.
+/// How many blocks the sets "short", "globals" and "fields" have.
 const SHORT: u64 = 400;
 const CROWDED: u64 = 100;
-/// The bytes of memory in these two.
+const FIELDS: usize = 200;
+/// The bytes of memory in these three.
 const MEMORY: usize = 1024;
 
 pub fn ops(block: &[u8]) -> usize {
@@ -64,6 +66,8 @@ struct FrontEnd {
     random: Random,
     block: Vec<u8>,
     ops: usize,
+    /// How many of them are bit fields, swaps and counts.
+    fields: usize,
     /// The values lent for the globals.
     globals: Vec<u64>,
     variables: u8,
@@ -98,6 +102,15 @@ const STORE: u8 = 0xAC;
 const TO_32: u8 = 0x7F;
 const EXTU: u8 = 0x06;
 const TRUNC: u8 = 0x07;
+/// Kinds of 32-bit bit fields, swaps and counts, the fields more often.
+const FIELD_OPS: [u8; 12] = [
+    0x2D, 0x2D, 0x2E, 0x2E, 0x2F, 0x2F, 0x30, 0x31, 0x32, 0x34, 0x35, 0x36,
+];
+const BSWAP64: u8 = 0xB3;
+/// Flags of a swap.
+const IZ: u8 = 1;
+const OZ: u8 = 2;
+const OS: u8 = 4;
 
 impl FrontEnd {
     fn new(random: Random) -> FrontEnd {
@@ -105,6 +118,7 @@ impl FrontEnd {
             random,
             block: vec![],
             ops: 0,
+            fields: 0,
             globals: vec![],
             variables: 0,
             registers: vec![],
@@ -363,6 +377,62 @@ impl FrontEnd {
         self.op(0x02, &[label]);
     }
 
+    /// A bit field, swap or count of registers, of their low halves, or of
+    /// constants.
+    fn field(&mut self) {
+        let (a, b, d) = (self.source(), self.source(), self.target());
+        match self.random.below(10) {
+            0..=5 => self.field_op(WIDE, d, a, b),
+            6..=7 => {
+                let a = self.truncated(a);
+                let b = self.random.pick(&self.flags);
+                let d = self.random.pick(&self.flags[4..]);
+                self.field_op(NARROW, d, a, b);
+            }
+            8 => {
+                let (a, b) = (self.small(), self.small());
+                let a = self.constant(a);
+                let b = self.constant(b);
+                self.field_op(WIDE, d, a, b);
+            }
+            _ => self.load_swapped(d),
+        }
+    }
+
+    fn field_op(&mut self, width: usize, d: u8, a: u8, b: u8) {
+        self.fields += 1;
+        let kind = self.random.pick(&FIELD_OPS);
+        let bits = 32 << width;
+        let length = 1 + self.random.below(bits);
+        let position = self.random.below(bits - length + 1) as u8;
+        let flags = self.random.pick(&[OZ, OS]);
+        let body = match kind {
+            0x2D => vec![d, a, b, position, length as u8],
+            0x2E | 0x2F => vec![d, a, position, length as u8],
+            0x30 => vec![d, a, b, position],
+            0x32 if width == NARROW => vec![d, a, 0],
+            0x31 | 0x32 => vec![d, a, flags],
+            0x36 => vec![d, a],
+            _ => vec![d, a, b],
+        };
+        self.op(kind | (width as u8) << 7, &body);
+    }
+
+    /// A load from memory of the other endianness.
+    fn load_swapped(&mut self, d: u8) {
+        self.fields += 1;
+        let address = self.address();
+        let t = self.temporary(WIDE);
+        let size = 1 + self.random.below(3) as u8;
+        self.op(LOAD, &[t, address, size]);
+        let flags = IZ | self.random.pick(&[OZ, OS]);
+        match size {
+            1 => self.op(0xB1, &[d, t, flags]),
+            2 => self.op(0xB2, &[d, t, flags]),
+            _ => self.op(BSWAP64, &[d, t, 0]),
+        }
+    }
+
     /// The guest's pc, kept up to date for faults.
     fn advance(&mut self) {
         let pc = self.pc;
@@ -442,6 +512,29 @@ fn crowded(number: u64) -> Case {
     while front_end.ops <= most {
         if front_end.random.chance(40) {
             front_end.store();
+        } else {
+            front_end.instruction();
+        }
+    }
+    front_end.end();
+    front_end.case()
+}
+
+/// Blocks of 20 to 40 ops, a third of them bit fields, swaps and counts.
+fn fields() -> Vec<Case> {
+    let belongs = |case: &Case| (20..=40).contains(&ops(&case.block));
+    let cases = (0..).map(field_case);
+    cases.filter(belongs).take(FIELDS).collect()
+}
+
+fn field_case(number: u64) -> Case {
+    let mut front_end = FrontEnd::new(Random::new(SEED, number));
+    front_end.state();
+    let most = 12 + front_end.random.below(22);
+    while front_end.ops < most {
+        // Some more, for the ops of the last instruction and of the end.
+        if 3 * front_end.fields < front_end.ops + 9 {
+            front_end.field();
         } else {
             front_end.instruction();
         }

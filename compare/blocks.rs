@@ -1,7 +1,7 @@
 //! Blocks to compare on. Each case follows from the seed and its number alone.
 
 use crate::cases::Case;
-use crate::second::{Form, LABELS, MEMORY, OPS, SHAPES, VARIABLES};
+use crate::second::{Form, IZ, LABELS, MEMORY, OPS, OS, OZ, SHAPES, VARIABLES};
 
 /// A small generator of pseudo-random numbers (splitmix64).
 pub struct Random(u64);
@@ -84,13 +84,152 @@ fn corner(random: &mut Random, wide: bool) -> u64 {
     narrowed(value, wide)
 }
 
+/// Values that bit fields, swaps and counts tell apart.
+const BITS: [u64; 16] = [
+    0,
+    0,
+    1,
+    0x80,
+    0x1234,
+    0x8000,
+    0xFFFF,
+    0x1_0000,
+    0x1234_5678,
+    0x8000_0000,
+    0xFFFF_FFFF,
+    0x1_0000_0000,
+    0x0123_4567_89AB_CDEF,
+    0xFEDC_BA98_7654_3210,
+    0x8000_0000_0000_0000,
+    0xFFFF_FFFF_FFFF_FFFF,
+];
+
+fn some_value(random: &mut Random) -> u64 {
+    if random.chance(30) {
+        random.next()
+    } else {
+        random.pick(&BITS)
+    }
+}
+
+/// Whether request 03 added the kind: a bit field, swap or count.
+fn is_added(kind: u8) -> bool {
+    kind & 0x7F >= 0x2D
+}
+
+fn width(kind: u8) -> u8 {
+    if kind & 0x80 != 0 {
+        64
+    } else {
+        32
+    }
+}
+
+/// How many low bits a swap that carries OZ or OS has to swap.
+fn part(kind: u8) -> Option<u8> {
+    match kind {
+        0x31 | 0xB1 => Some(16),
+        0xB2 => Some(32),
+        _ => None,
+    }
+}
+
+/// A field within the width, often at one of its ends.
+fn field(random: &mut Random, width: u8) -> Vec<u8> {
+    let length = match random.below(5) {
+        0 => 1,
+        1 => width,
+        _ => 1 + random.below(width as usize) as u8,
+    };
+    let last = width - length;
+    let position = match random.below(4) {
+        0 => 0,
+        1 => last,
+        _ => random.below(last as usize + 1) as u8,
+    };
+    vec![position, length]
+}
+
+/// What follows the operands of a kind that request 03 added.
+fn good(random: &mut Random, kind: u8) -> Vec<u8> {
+    let width = width(kind);
+    match kind & 0x7F {
+        0x2D..=0x2F => field(random, width),
+        0x30 if random.chance(40) => vec![random.pick(&[0, 1, width - 1, width])],
+        0x30 => vec![random.below(width as usize + 1) as u8],
+        0x31..=0x33 if part(kind).is_some() => {
+            vec![random.pick(&[OZ, OS]) | random.pick(&[0, IZ])]
+        }
+        0x31..=0x33 => vec![0],
+        _ => vec![],
+    }
+}
+
+/// A kind that has such constants; not every block has variables of 32 bits.
+fn limited(random: &mut Random) -> u8 {
+    let kind = match random.below(9) {
+        0..=3 => 0x2D + random.below(3) as u8,
+        4 => 0x30,
+        _ => random.pick(&[0x31, 0x32, 0x32, 0x33]),
+    };
+    if kind == 0x33 || random.chance(35) {
+        kind | 0x80
+    } else {
+        kind
+    }
+}
+
+/// The same just beyond a limit.
+fn bad(random: &mut Random, kind: u8) -> Vec<u8> {
+    let width = width(kind);
+    let position = random.below(width as usize + 1) as u8;
+    match kind & 0x7F {
+        0x2D..=0x2F => match random.below(5) {
+            0 | 1 => vec![position, 0],
+            2 | 3 => vec![position, width + 1 - position],
+            // The end is within the width if it is reckoned in a byte.
+            _ => vec![
+                255 - position,
+                position + 1 + random.below(width as usize) as u8,
+            ],
+        },
+        0x30 => vec![random.pick(&[width + 1, width + 1, width + 2, 128, 255])],
+        0x31..=0x33 if random.chance(30) => {
+            let low = good(random, kind)[0];
+            vec![low | 8 << random.below(5)]
+        }
+        0x31..=0x33 if part(kind).is_some() => vec![random.pick(&[0, IZ, OZ | OS, IZ | OZ | OS])],
+        0x31..=0x33 if random.chance(70) => vec![random.pick(&[IZ, OZ, OS])],
+        0x31..=0x33 => vec![1 + random.below(7) as u8],
+        _ => vec![],
+    }
+}
+
 /// What a block is made for.
 #[derive(Clone, Copy)]
 struct Setting {
     /// The length of the memory lent.
     memory: usize,
-    /// Newer front ends read temporaries past a brcond, older ones do not.
+    /// Newer front ends read temporaries past a brcond and write the kinds
+    /// that request 03 added, older ones do not.
     newer: bool,
+}
+
+impl Setting {
+    fn has(self, kind: u8) -> bool {
+        self.newer || !is_added(kind)
+    }
+}
+
+/// What a block may have wrong.
+#[derive(Clone, Copy, PartialEq, Eq)]
+enum Slip {
+    Nothing,
+    /// Older front ends read temporaries before a write, and newer ones after
+    /// the end of their extended basic block.
+    Lifetimes,
+    /// Fields, positions and flags of swaps lie on both sides of their limits.
+    Constants,
 }
 
 /// How often ops of each sort come, in cases of a hundred, and how many ops.
@@ -136,9 +275,7 @@ struct Maker<'a> {
     set: u32,
     jumped: u32,
     setting: Setting,
-    /// Whether older front ends read temporaries before a write, and newer
-    /// ones after the end of their extended basic block.
-    careless: bool,
+    slip: Slip,
 }
 
 /// The most ops that `branch` makes, and the label it owes.
@@ -158,7 +295,7 @@ impl Maker<'_> {
             set: 0,
             jumped: 0,
             setting,
-            careless: false,
+            slip: Slip::Nothing,
         };
         for variable in 0..variables {
             let class = if variable < globals {
@@ -177,6 +314,10 @@ impl Maker<'_> {
             maker.types.push(width);
         }
         maker
+    }
+
+    fn careless(&self) -> bool {
+        self.slip == Slip::Lifetimes
     }
 
     fn of_width(&self, wide: bool) -> Vec<u8> {
@@ -203,7 +344,7 @@ impl Maker<'_> {
     /// A variable that may be read here, often one that was just written.
     fn input(&mut self, wide: bool) -> Option<u8> {
         let mut all = self.of_width(wide);
-        let any = self.careless && !self.setting.newer;
+        let any = self.careless() && !self.setting.newer;
         if any && self.random.chance(15) && !all.is_empty() {
             return Some(self.random.pick(&all));
         }
@@ -240,7 +381,7 @@ impl Maker<'_> {
     fn ends(&mut self, form: Form) -> bool {
         match form {
             Form::SetLabel | Form::Br | Form::ExitTb => {
-                let forgets = self.careless && self.setting.newer;
+                let forgets = self.careless() && self.setting.newer;
                 !forgets || self.random.chance(50)
             }
             Form::BrCond => !self.setting.newer,
@@ -292,9 +433,16 @@ impl Maker<'_> {
     /// An op that fold may replace.
     fn compute(&mut self, risk: usize) -> Option<()> {
         let kinds: Vec<u8> = (0..=255)
-            .filter(|&k| SHAPES[k as usize].form == Form::Compute)
+            .filter(|&k| SHAPES[k as usize].form == Form::Compute && self.setting.has(k))
             .collect();
-        let kind = self.random.pick(&kinds);
+        let kind = if self.slip == Slip::Constants && self.random.chance(50) {
+            limited(self.random)
+        } else {
+            self.random.pick(&kinds)
+        };
+        if is_added(kind) {
+            return self.added(kind, risk);
+        }
         let shape = SHAPES[kind as usize];
         let wide = |i: u8| shape.wide >> i & 1 != 0;
         let mut body = vec![self.output(wide(0))?];
@@ -318,6 +466,57 @@ impl Maker<'_> {
         }
         self.op(kind, &body);
         Some(())
+    }
+
+    /// A bit field, swap or count.
+    fn added(&mut self, kind: u8, risk: usize) -> Option<()> {
+        let wide = kind & 0x80 != 0;
+        let constants = if self.slip == Slip::Constants && self.random.chance(40) {
+            bad(self.random, kind)
+        } else {
+            good(self.random, kind)
+        };
+        let mut body = vec![self.output(wide)?];
+        while body.len() <= SHAPES[kind as usize].inputs as usize {
+            body.push(match part(kind) {
+                Some(bits) if constants[0] & IZ != 0 => self.extended(bits, wide, risk)?,
+                _ => self.some_bits(wide)?,
+            });
+        }
+        body.extend(constants);
+        // There is no bswap64 of 32 bits.
+        let missing = kind == 0xB3 && self.slip == Slip::Constants && self.random.chance(20);
+        self.op(if missing { 0x33 } else { kind }, &body);
+        Some(())
+    }
+
+    /// An input, often one that fold knows.
+    fn some_bits(&mut self, wide: bool) -> Option<u8> {
+        if self.random.chance(60) {
+            return self.input(wide);
+        }
+        let value = some_value(self.random);
+        self.known(wide, value)
+    }
+
+    /// An input mostly zero-extended from so many bits.
+    fn extended(&mut self, bits: u8, wide: bool, risk: usize) -> Option<u8> {
+        if self.random.chance(risk) && self.random.chance(50) {
+            return self.some_bits(wide);
+        }
+        if self.random.chance(50) {
+            let first = if self.random.chance(risk) {
+                1 << bits
+            } else {
+                0
+            };
+            let value = first | some_value(self.random) & ((1 << bits) - 1);
+            return self.known(wide, value);
+        }
+        let (output, input) = (self.output(wide)?, self.input(wide)?);
+        let extract = if wide { 0xAE } else { 0x2E };
+        self.op(extract, &[output, input, 0, bits]);
+        Some(output)
     }
 
     /// An address about the memory's length, or near 2^64.
@@ -434,7 +633,7 @@ impl Maker<'_> {
         for _ in 0..1 + self.random.below(2) {
             before.push(self.write(wide)?);
         }
-        match self.random.below(if self.careless { 4 } else { 10 }) {
+        match self.random.below(if self.careless() { 4 } else { 10 }) {
             0 => self.br(label),
             1 => self.exit(),
             _ => self.brcond(label)?,
@@ -570,11 +769,11 @@ fn memory_length(random: &mut Random) -> usize {
     }
 }
 
-fn made(random: &mut Random, setting: Setting, careless: bool) -> Vec<u8> {
+fn made(random: &mut Random, setting: Setting, slip: Slip) -> Vec<u8> {
     let style = style(random);
     let variables = variables(random);
     let mut maker = Maker {
-        careless,
+        slip,
         ..Maker::new(random, variables, setting)
     };
     maker.body(&style);
@@ -583,7 +782,7 @@ fn made(random: &mut Random, setting: Setting, careless: bool) -> Vec<u8> {
 
 /// An accepted block.
 fn accepted(random: &mut Random, setting: Setting) -> Vec<u8> {
-    made(random, setting, false)
+    made(random, setting, Slip::Nothing)
 }
 
 /// The starts of the records, as far as they can be read.
@@ -654,7 +853,7 @@ fn broken_record(random: &mut Random, block: &[u8], starts: &[usize]) -> usize {
     random.pick(if any { starts } else { &some })
 }
 
-/// Raises one field of one record just above its limit.
+/// Raises one byte of one record just above its limit.
 fn broken(random: &mut Random, setting: Setting) -> Vec<u8> {
     let mut block = accepted(random, setting);
     let starts = records(&block);
@@ -680,6 +879,14 @@ fn broken(random: &mut Random, setting: Setting) -> Vec<u8> {
         Form::SetLabel | Form::Br => LABELS as u8,
         Form::BrCond if field == 3 => LABELS as u8,
         Form::Load | Form::Store => random.pick(&[16, 3, 4, 7, 0x20, 0x80]),
+        _ if is_added(block[start]) => {
+            let constants = bad(random, block[start]);
+            block.splice(
+                start + 1 + operands..start + 1 + shape.body as usize,
+                constants,
+            );
+            block[place]
+        }
         _ => 10,
     };
     block
@@ -741,7 +948,7 @@ fn jump_gone_wrong(random: &mut Random, setting: Setting) -> Vec<u8> {
 }
 
 /// One damage: a byte or a record changed, removed, inserted, swapped, cut.
-fn damage(random: &mut Random, block: &mut Vec<u8>) {
+fn damage(random: &mut Random, block: &mut Vec<u8>, setting: Setting) {
     if block.is_empty() {
         return;
     }
@@ -756,7 +963,10 @@ fn damage(random: &mut Random, block: &mut Vec<u8>) {
         1 => block[place] ^= 1 << random.below(8),
         2 => block[place] = random.below(12) as u8,
         3 => drop(block.remove(place)),
-        4 => block.insert(place, random.below(48) as u8),
+        4 => block.insert(
+            place,
+            random.below(if setting.newer { 0x38 } else { 0x30 }) as u8,
+        ),
         5 => block.truncate(place),
         6 => drop(block.splice(one..one, record(block, two))),
         7 => {
@@ -776,13 +986,13 @@ fn swap(block: &mut Vec<u8>, one: usize, two: usize) {
 fn damaged(random: &mut Random, setting: Setting) -> Vec<u8> {
     let mut block = accepted(random, setting);
     for _ in 0..1 + random.below(3) {
-        damage(random, &mut block);
+        damage(random, &mut block, setting);
     }
     block
 }
 
 /// Byte soup, uniform or of known kinds with small operands.
-fn soup(random: &mut Random) -> Vec<u8> {
+fn soup(random: &mut Random, setting: Setting) -> Vec<u8> {
     let length = random.below(80);
     if random.chance(30) {
         return (0..length).map(|_| random.next() as u8).collect();
@@ -798,7 +1008,8 @@ fn soup(random: &mut Random) -> Vec<u8> {
         });
     }
     let known = |kind: &u8| {
-        SHAPES[*kind as usize].form != Form::Unknown && (!tame || *kind >= 0x90 && *kind != 0xAA)
+        let has = SHAPES[*kind as usize].form != Form::Unknown && setting.has(*kind);
+        has && (!tame || *kind >= 0x90 && *kind != 0xAA)
     };
     let kinds: Vec<u8> = (0..=255).filter(known).collect();
     while block.len() < length {
@@ -841,14 +1052,19 @@ fn long(random: &mut Random, setting: Setting) -> Vec<u8> {
 }
 
 /// Globals that fit the block's declarations, as far as it has any.
-pub fn lent(random: &mut Random, block: &[u8]) -> Vec<u64> {
+fn lent(random: &mut Random, block: &[u8], setting: Setting) -> Vec<u64> {
     let mut globals = vec![];
     for start in records(block) {
         if block[start] != 1 || start + 2 >= block.len() || globals.len() == VARIABLES {
             break;
         }
         if block[start + 1] == 0 {
-            globals.push(corner(random, block[start + 2] != 0));
+            let wide = block[start + 2] != 0;
+            globals.push(if setting.newer && random.chance(40) {
+                narrowed(some_value(random), wide)
+            } else {
+                corner(random, wide)
+            });
         }
     }
     globals
@@ -886,13 +1102,14 @@ fn made_case(mut random: Random, number: u64, newer: bool) -> Case {
         ),
         3..=8 => limit(&mut random, hundreds * 6 + (number % 100) as usize, setting),
         9..=13 => broken(&mut random, setting),
-        14..=16 => made(&mut random, setting, true),
-        17..=19 if newer => made(&mut random, setting, true),
+        14..=16 => made(&mut random, setting, Slip::Lifetimes),
+        17..=19 if newer => made(&mut random, setting, Slip::Lifetimes),
+        20..=25 if newer => made(&mut random, setting, Slip::Constants),
         17..=28 => damaged(&mut random, setting),
-        29..=36 => soup(&mut random),
+        29..=36 => soup(&mut random, setting),
         _ => accepted(&mut random, setting),
     };
-    let globals = lent(&mut random, &block);
+    let globals = lent(&mut random, &block, setting);
     let memory = (0..length).map(|_| random.next() as u8).collect();
     Case {
         block,

@@ -6,10 +6,12 @@ mod calls;
 mod cases;
 mod demand;
 mod extended;
+mod fields;
 mod paper;
 mod second;
 mod shrink;
 mod stats;
+mod worked;
 
 use cases::{difference, hex, run_differs, Case};
 use stats::Stats;

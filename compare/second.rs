@@ -79,7 +79,13 @@ const fn row(form: Form, body: u8, outputs: u8, inputs: u8, wide: u8) -> Shape {
     }
 }
 
-/// Kinds 10 to 2C, and with 80 added their 64-bit forms.
+/// The flags of a swap: its input is zero-extended, its output is, or is
+/// sign-extended.
+pub const IZ: u8 = 1;
+pub const OZ: u8 = 2;
+pub const OS: u8 = 4;
+
+/// Kinds 10 to 36, and with 80 added their 64-bit forms.
 const fn sized(kind: u8) -> Shape {
     let wide = if kind & 0x80 != 0 { 0xFF } else { 0 };
     match kind & 0x7F {
@@ -91,7 +97,15 @@ const fn sized(kind: u8) -> Shape {
         0x2A => row(Form::BrCond, 4, 0, 2, wide),
         // Addresses are 64-bit.
         0x2B => row(Form::Load, 3, 1, 1, wide | 0b10),
-        _ => row(Form::Store, 3, 0, 2, wide | 0b10),
+        0x2C => row(Form::Store, 3, 0, 2, wide | 0b10),
+        // deposit; extract and sextract; extract2.
+        0x2D => row(Form::Compute, 5, 1, 2, wide),
+        0x2E | 0x2F => row(Form::Compute, 4, 1, 1, wide),
+        0x30 => row(Form::Compute, 4, 1, 2, wide),
+        // bswap16, bswap32 and bswap64; clz and ctz; ctpop.
+        0x31..=0x33 => row(Form::Compute, 3, 1, 1, wide),
+        0x34 | 0x35 => row(Form::Compute, 3, 1, 2, wide),
+        _ => row(Form::Compute, 2, 1, 1, wide),
     }
 }
 
@@ -103,7 +117,9 @@ const fn shape(kind: u8) -> Shape {
         0x04 => row(Form::ExitTb, 1, 0, 1, 0b1),
         0x05 | 0x06 => row(Form::Compute, 2, 1, 1, 0b01),
         0x07 => row(Form::Compute, 2, 1, 1, 0b10),
-        0x10..=0x2C | 0x90..=0xAC => sized(kind),
+        // 000 has no bswap64 of 32 bits.
+        0x33 => row(Form::Unknown, 0, 0, 0, 0),
+        0x10..=0x36 | 0x90..=0xB6 => sized(kind),
         _ => row(Form::Unknown, 0, 0, 0, 0),
     }
 }
@@ -166,13 +182,13 @@ impl<'a> Op<'a> {
         self.body[0] as usize
     }
 
-    /// What follows the operands: value, cond, label or flags.
+    /// What follows the operands: value, cond, label, flags, position, length.
     pub fn constants(&self) -> &'a [u8] {
         &self.body[self.operands()..]
     }
 
     /// The value of a movi.
-    fn value(&self) -> u64 {
+    pub fn value(&self) -> u64 {
         let mut eight = [0; 8];
         eight.copy_from_slice(&self.body[1..9]);
         u64::from_le_bytes(eight)
@@ -187,7 +203,36 @@ impl<'a> Op<'a> {
         self.kind & 0x80 != 0
     }
 
-    /// Pure ops are kinds 05 to 07 and 10 to 29 in either width.
+    /// The op's width in bits.
+    pub fn width(&self) -> u32 {
+        if self.has_64_bits() {
+            64
+        } else {
+            32
+        }
+    }
+
+    /// The kind of the 32-bit form.
+    pub fn narrow_kind(&self) -> u8 {
+        self.kind & 0x7F
+    }
+
+    /// The position and length of a deposit, extract or sextract.
+    pub fn field(&self) -> (u32, u32) {
+        let constants = self.constants();
+        (constants[0] as u32, constants[1] as u32)
+    }
+
+    /// How many low bits a bswap16, bswap32 or bswap64 swaps.
+    pub fn swapped(&self) -> u32 {
+        match self.narrow_kind() {
+            0x31 => 16,
+            0x32 => 32,
+            _ => 64,
+        }
+    }
+
+    /// Pure ops are kinds 05 to 07, 10 to 29 and 2D to 36 in either width.
     pub fn is_pure(&self) -> bool {
         matches!(self.shape.form, Form::Movi | Form::Compute)
     }
@@ -369,14 +414,21 @@ impl Reader {
     }
 }
 
-/// 6, cond above 9, bad flags, label above 31, 32-bit movi of 2^32 or more.
+/// 6, cond above 9, bad flags, label above 31, 32-bit movi of 2^32 or more,
+/// bad field or position.
 fn constants(op: &Op) -> Result<(), u8> {
     let constants = op.constants();
     let good = match op.shape.form {
         Form::SetLabel | Form::Br => op.label() < LABELS,
         Form::BrCond => constants[0] <= 9 && op.label() < LABELS,
         Form::Movi => op.has_64_bits() || op.value() <= u32::MAX as u64,
-        Form::Compute => constants.is_empty() || constants[0] <= 9,
+        Form::Compute => match op.narrow_kind() {
+            0x28 | 0x29 => constants[0] <= 9,
+            0x2D..=0x2F => field_fits(op),
+            0x30 => constants[0] as u32 <= op.width(),
+            0x31..=0x33 => swap_flags_fit(op, constants[0]),
+            _ => true,
+        },
         Form::Load => flags_fit(op, constants[0]),
         Form::Store => flags_fit(op, constants[0]) && constants[0] & 4 == 0,
         _ => true,
@@ -391,6 +443,22 @@ fn constants(op: &Op) -> Result<(), u8> {
 /// Other bits are zero, and the size never exceeds the width.
 fn flags_fit(op: &Op, flags: u8) -> bool {
     flags <= 15 && (op.has_64_bits() || flags & 3 != 3)
+}
+
+/// A field has a length of at least 1 and ends within the width.
+fn field_fits(op: &Op) -> bool {
+    let (position, length) = op.field();
+    length >= 1 && position + length <= op.width()
+}
+
+/// A swap of less than the width carries exactly one of OZ and OS, and maybe
+/// IZ; other swaps carry zero flags.
+fn swap_flags_fit(op: &Op, flags: u8) -> bool {
+    if op.swapped() < op.width() {
+        matches!(flags & !IZ, OZ | OS)
+    } else {
+        flags == 0
+    }
 }
 
 /// Records are read in order and the first bad one answers.
@@ -463,10 +531,70 @@ fn shift(kind: u8, a: u64, count: u64, wide: bool) -> Option<u64> {
     })
 }
 
-/// The result of an op of kinds 05 to 07 or 11 to 29, none if not stated.
-fn result(op: &Op, [a, b, v1, v2]: [u64; 4]) -> Option<u64> {
+/// So many low bits, at least 1.
+fn ones(length: u32) -> u64 {
+    u64::MAX >> (64 - length)
+}
+
+/// t1 with the low bits of t2 in the field.
+fn deposit(op: &Op, t1: u64, t2: u64) -> u64 {
+    let (position, length) = op.field();
+    let field = ones(length) << position;
+    t1 & !field | t2 << position & field
+}
+
+/// The field, extended to the left with zeros.
+fn extract(op: &Op, t1: u64) -> u64 {
+    let (position, length) = op.field();
+    t1 >> position & ones(length)
+}
+
+/// The field, extended to the left with its sign bit, that at position +
+/// length - 1.
+fn sextract(op: &Op, t1: u64) -> u64 {
+    let (position, length) = op.field();
+    let top = t1 << (64 - position - length);
+    (top as i64 >> (64 - length)) as u64
+}
+
+/// As many bits as the width from t2:t1, beginning at the position.
+fn extract2(op: &Op, t1: u64, t2: u64) -> u64 {
+    let both = (t2 as u128) << op.width() | t1 as u128;
+    (both >> op.constants()[0]) as u64
+}
+
+/// The low bytes in the other order; none if IZ is set and the input is not
+/// zero-extended.
+fn swap(op: &Op, t1: u64) -> Option<u64> {
+    let (flags, bits) = (op.constants()[0], op.swapped());
+    if flags & IZ != 0 && t1 & !ones(bits) != 0 {
+        return None;
+    }
+    let top = t1.swap_bytes();
+    Some(if flags & OS != 0 {
+        (top as i64 >> (64 - bits)) as u64
+    } else {
+        top >> (64 - bits)
+    })
+}
+
+/// clz and ctz: t2 if t1 is zero.
+fn count(op: &Op, t1: u64, t2: u64) -> u64 {
+    if t1 == 0 {
+        return t2;
+    }
+    if op.narrow_kind() == 0x34 {
+        (t1.leading_zeros() - (64 - op.width())) as u64
+    } else {
+        t1.trailing_zeros() as u64
+    }
+}
+
+/// The result of an op of kinds 05 to 07, 11 to 29 or 2D to 36, none if not
+/// stated.
+pub fn result(op: &Op, [a, b, v1, v2]: [u64; 4]) -> Option<u64> {
     let wide = op.has_64_bits();
-    let all = match op.kind & 0x7F {
+    let all = match op.narrow_kind() {
         0x05 => return Some(signed(a, false) as u64),
         0x06 => return Some(a),
         0x07 | 0x11 => a,
@@ -489,8 +617,15 @@ fn result(op: &Op, [a, b, v1, v2]: [u64; 4]) -> Option<u64> {
         0x22 => a.checked_rem(b)?,
         kind @ 0x23..=0x27 => shift(kind, a, b, wide)?,
         0x28 => holds(op.constants()[0], a, b, wide) as u64,
-        _ if holds(op.constants()[0], a, b, wide) => v1,
-        _ => v2,
+        0x29 if holds(op.constants()[0], a, b, wide) => v1,
+        0x29 => v2,
+        0x2D => deposit(op, a, b),
+        0x2E => extract(op, a),
+        0x2F => sextract(op, a),
+        0x30 => extract2(op, a, b),
+        0x31..=0x33 => swap(op, a)?,
+        0x34 | 0x35 => count(op, a, b),
+        _ => a.count_ones() as u64,
     };
     Some(if wide { all } else { all as u32 as u64 })
 }
@@ -559,12 +694,22 @@ fn fit(block: &Block, globals: &[u64], memory: &[u8]) -> Result<(), Refusal> {
 
 /// A run takes the block, the globals as 64-bit numbers, and the memory.
 pub fn run(bytes: &[u8], globals: &mut [u64], memory: &mut [u8]) -> Result<Ending, Refusal> {
+    watched(bytes, globals, memory, |_, _| ())
+}
+
+/// A run in which `see` is shown each op that is due, with its inputs' values.
+pub fn watched(
+    bytes: &[u8],
+    globals: &mut [u64],
+    memory: &mut [u8],
+    see: impl FnMut(&Op, [u64; 4]),
+) -> Result<Ending, Refusal> {
     let block = read(bytes)?;
     fit(&block, globals, memory)?;
     // Local temporaries start at zero.
     let mut values = [0; VARIABLES];
     values[..globals.len()].copy_from_slice(globals);
-    let ending = execute(&block, bytes, &mut values, memory);
+    let ending = execute(&block, bytes, &mut values, memory, see);
     globals.copy_from_slice(&values[..globals.len()]);
     Ok(ending)
 }
@@ -575,12 +720,14 @@ fn execute(
     bytes: &[u8],
     values: &mut [u64; VARIABLES],
     memory: &mut [u8],
+    mut see: impl FnMut(&Op, [u64; 4]),
 ) -> Ending {
     let mut position = 0;
     let mut count = 0;
     loop {
         let op = block.op(bytes, position);
         let now = inputs(&op, values);
+        see(&op, now);
         count += 1;
         position += 1;
         match op.shape.form {

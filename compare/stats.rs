@@ -2,8 +2,9 @@
 
 use crate::calls::Side;
 use crate::cases::{passed, Case, RESULT};
-use crate::extended::{self, Counts, OFTEN, THINGS};
-use crate::second::{self, Block, Ending, Form, Plan, Refusal, MEMORY, OPS, SHAPES, VARIABLES};
+use crate::extended::{self, Counts, THINGS};
+use crate::fields;
+use crate::second::{self, Block, Ending, Form, Op, Plan, Refusal, MEMORY, OPS, SHAPES, VARIABLES};
 
 /// Things that have to occur, each with how often it did.
 type Things = Vec<(String, u64)>;
@@ -34,9 +35,10 @@ pub struct Stats {
     folded: [u64; 256],
     dropped: [u64; 256],
     unstated: [u64; 256],
-    /// By cond or flags, then kind.
+    /// By cond or flags, then kind; flags of accesses, and of swaps.
     conds: [[u64; 256]; 10],
     flags: [[u64; 256]; 16],
+    swaps: [[u64; 256]; 8],
     /// By flags, with 16 added for a store.
     faults: [u64; 32],
     /// By class and type: 2 * class + type.
@@ -45,6 +47,7 @@ pub struct Stats {
     jumps: [u64; OPS],
     single: [u64; SINGLE.len()],
     extended: Counts,
+    fields: fields::Counts,
     pub accepted_blocks: u64,
 }
 
@@ -60,11 +63,13 @@ impl Stats {
             unstated: [0; 256],
             conds: [[0; 256]; 10],
             flags: [[0; 256]; 16],
+            swaps: [[0; 256]; 8],
             faults: [0; 32],
             variables: [0; 6],
             jumps: [0; OPS],
             single: [0; SINGLE.len()],
             extended: [0; THINGS.len()],
+            fields: fields::Counts::default(),
             accepted_blocks: 0,
         }
     }
@@ -88,6 +93,7 @@ impl Stats {
     fn refused(&mut self, refusal: Refusal, bytes: &[u8]) {
         self.refusals[refusal.number as usize] += 1;
         self.single[11] += (refusal.number == 7 && refusal.place == bytes.len()) as u64;
+        self.fields.refused(refusal, bytes);
         if refusal.number == 8 {
             extended::refused(&mut self.extended, bytes, refusal.place);
         }
@@ -103,13 +109,10 @@ impl Stats {
             let op = block.op(bytes, position);
             self.accepted[op.kind as usize] += 1;
             let constants = op.constants();
-            match op.shape.form {
-                Form::Compute | Form::BrCond if !constants.is_empty() => {
-                    self.conds[constants[0] as usize][op.kind as usize] += 1;
-                }
-                Form::Load | Form::Store => {
-                    self.flags[constants[0] as usize][op.kind as usize] += 1
-                }
+            match op.narrow_kind() {
+                0x28..=0x2A => self.conds[constants[0] as usize][op.kind as usize] += 1,
+                0x2B | 0x2C => self.flags[constants[0] as usize][op.kind as usize] += 1,
+                0x31..=0x33 => self.swaps[constants[0] as usize][op.kind as usize] += 1,
                 _ => {}
             }
             if matches!(op.shape.form, Form::Br | Form::BrCond) {
@@ -126,6 +129,7 @@ impl Stats {
 
     fn note_plan(&mut self, block: &Block, bytes: &[u8], plan: &Plan) {
         extended::note(&mut self.extended, block, bytes, plan);
+        self.fields.note(block, bytes, plan);
         for position in 0..block.ops {
             let kind = block.op(bytes, position).kind as usize;
             self.folded[kind] += plan.folded[position].is_some() as u64;
@@ -143,7 +147,8 @@ impl Stats {
     /// The run's ending; the ops on its path as far as the first branch.
     pub fn note_run(&mut self, case: &Case) {
         let (mut globals, mut memory) = (case.globals.clone(), case.memory.clone());
-        let ending = second::run(&case.block, &mut globals, &mut memory);
+        let see = |op: &Op, now| self.fields.due(op, now);
+        let ending = second::watched(&case.block, &mut globals, &mut memory, see);
         let Ok(block) = second::read(&case.block) else {
             return;
         };
@@ -197,8 +202,9 @@ impl Stats {
         let ops = |kind: usize| !matches!(SHAPES[kind].form, Form::Unknown | Form::Declaration);
         let folds = |kind: usize| SHAPES[kind].form == Form::Compute;
         let pure = |kind: usize| matches!(SHAPES[kind].form, Form::Compute | Form::Movi);
-        let divides_or_shifts = |kind: usize| folds(kind) && matches!(kind & 0x7F, 0x1F..=0x27);
-        let unstated = by_kind(&self.unstated, divides_or_shifts);
+        // Divisions, shifts and rotates, and the swaps that may have IZ.
+        let may_lack = |kind: usize| matches!(kind & 0x7F, 0x1F..=0x27 | 0x31) || kind == 0xB2;
+        let unstated = by_kind(&self.unstated, |kind| folds(kind) && may_lack(kind));
         let named = |(name, count): (&&str, u64)| (name.to_string(), count);
         let single = SINGLE.iter().zip(self.single).map(named).collect();
         let crossing = THINGS.iter().zip(self.extended).map(named).collect();
@@ -212,10 +218,12 @@ impl Stats {
             ("kinds without a result", unstated),
             ("conds by kind", self.cond_counts()),
             ("flags by kind", self.flag_counts()),
+            ("swap flags by kind", self.swap_counts()),
             ("faults by flags", fault_counts(&self.faults)),
             ("classes and types", numbered(&self.variables, 0)),
             ("jump lengths", numbered(&self.jumps[..OPS - 1], 1)),
             (extended::GROUP, crossing),
+            (fields::GROUP, self.fields.named()),
             ("single things", single),
         ]
     }
@@ -245,11 +253,29 @@ impl Stats {
         all
     }
 
+    /// The flags that each swap may have.
+    fn swap_counts(&self) -> Things {
+        let mut all = vec![];
+        for kind in [0x31, 0xB1, 0xB2] {
+            for flags in 2..=5 {
+                all.push((format!("{kind:02X} flags {flags}"), self.swaps[flags][kind]));
+            }
+        }
+        for kind in [0x32, 0xB3] {
+            all.push((format!("{kind:02X} flags 0"), self.swaps[0][kind]));
+        }
+        all
+    }
+
     /// Prints a line for each group; the things that occurred too seldom.
     pub fn report(&self) -> Vec<String> {
         let mut missing = vec![];
         for (name, things) in self.groups() {
-            let needed = if name == extended::GROUP { OFTEN } else { 1 };
+            let needed = match name {
+                extended::GROUP => extended::OFTEN,
+                fields::GROUP => fields::OFTEN,
+                _ => 1,
+            };
             let seen = things.iter().filter(|(_, n)| *n >= needed).count();
             let (least, count) = things
                 .iter()

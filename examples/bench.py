@@ -6,7 +6,7 @@ ngulo.h says what the calls promise and what they ask of a caller.
 import ctypes
 import sys
 
-VERSION = "0.4"  # what this program is written for: major and minor number
+VERSION = "0.5"  # what this program is written for: major and minor number
 MAX_RESULT = 2752  # bytes: has room for every result
 ENDING_EXIT, ENDING_FAULT, ENDING_NO_RESULT = 1, 2, 3
 

@@ -27,9 +27,9 @@
 
 /* The version of this header; ngulo_version() is that of the library. */
 #define NGULO_VERSION_MAJOR 0
-#define NGULO_VERSION_MINOR 4
+#define NGULO_VERSION_MINOR 5
 #define NGULO_VERSION_PATCH 0
-#define NGULO_VERSION "0.4.0"
+#define NGULO_VERSION "0.5.0"
 #define NGULO_VERSION_NUMBER (65536 * NGULO_VERSION_MAJOR + 256 * NGULO_VERSION_MINOR + NGULO_VERSION_PATCH)
 
 /* What stands before the library's functions. Define it yourself to have something else there. */
@@ -70,7 +70,8 @@ extern "C" {
 #define NGULO_MAX_MEMORY 65536  /* bytes lent to a run */
 #define NGULO_MAX_RESULT 2752   /* bytes: 64 declarations of 3 and 256 ops of at most 10 */
 
-/* The first byte of a record. Operands are the numbers of variables, a byte each, outputs first. */
+/* The first byte of a record. Operands are the numbers of variables, a byte each, outputs first. A bit field starts at
+   bit pos, counted from the lowest, and has len bits. */
 enum ngulo_kind {
     NGULO_KIND_DECL = 0x01,              /* class, type */
     NGULO_KIND_SET_LABEL = 0x02,         /* label */
@@ -108,6 +109,15 @@ enum ngulo_kind {
     NGULO_KIND_BRCOND_I32 = 0x2A,        /* a, b, cond, label */
     NGULO_KIND_QEMU_LD_I32 = 0x2B,       /* d, address, flags */
     NGULO_KIND_QEMU_ST_I32 = 0x2C,       /* value, address, flags */
+    NGULO_KIND_DEPOSIT_I32 = 0x2D,       /* d, a, b, pos, len */
+    NGULO_KIND_EXTRACT_I32 = 0x2E,       /* d, a, pos, len */
+    NGULO_KIND_SEXTRACT_I32 = 0x2F,      /* d, a, pos, len */
+    NGULO_KIND_EXTRACT2_I32 = 0x30,      /* d, a, b, pos */
+    NGULO_KIND_BSWAP16_I32 = 0x31,       /* d, a, flags */
+    NGULO_KIND_BSWAP32_I32 = 0x32,       /* d, a, flags */
+    NGULO_KIND_CLZ_I32 = 0x34,           /* d, a, b */
+    NGULO_KIND_CTZ_I32 = 0x35,           /* d, a, b */
+    NGULO_KIND_CTPOP_I32 = 0x36,         /* d, a */
     NGULO_KIND_MOVI_I64 = 0x90,          /* d, constant of eight bytes, little-endian */
     NGULO_KIND_MOV_I64 = 0x91,           /* d, a */
     NGULO_KIND_NEG_I64 = 0x92,           /* d, a */
@@ -136,10 +146,21 @@ enum ngulo_kind {
     NGULO_KIND_MOVCOND_I64 = 0xA9,       /* d, c1, c2, v1, v2, cond */
     NGULO_KIND_BRCOND_I64 = 0xAA,        /* a, b, cond, label */
     NGULO_KIND_QEMU_LD_I64 = 0xAB,       /* d, address, flags */
-    NGULO_KIND_QEMU_ST_I64 = 0xAC        /* value, address, flags */
+    NGULO_KIND_QEMU_ST_I64 = 0xAC,       /* value, address, flags */
+    NGULO_KIND_DEPOSIT_I64 = 0xAD,       /* d, a, b, pos, len */
+    NGULO_KIND_EXTRACT_I64 = 0xAE,       /* d, a, pos, len */
+    NGULO_KIND_SEXTRACT_I64 = 0xAF,      /* d, a, pos, len */
+    NGULO_KIND_EXTRACT2_I64 = 0xB0,      /* d, a, b, pos */
+    NGULO_KIND_BSWAP16_I64 = 0xB1,       /* d, a, flags */
+    NGULO_KIND_BSWAP32_I64 = 0xB2,       /* d, a, flags */
+    NGULO_KIND_BSWAP64_I64 = 0xB3,       /* d, a, flags */
+    NGULO_KIND_CLZ_I64 = 0xB4,           /* d, a, b */
+    NGULO_KIND_CTZ_I64 = 0xB5,           /* d, a, b */
+    NGULO_KIND_CTPOP_I64 = 0xB6          /* d, a */
 };
 
-/* The 64-bit form of a kind from NGULO_KIND_MOVI_I32 to NGULO_KIND_QEMU_ST_I32 is so much more. */
+/* The 64-bit form of a kind from NGULO_KIND_MOVI_I32 to NGULO_KIND_CTPOP_I32 is so much more. bswap64 has no 32-bit
+   form. */
 #define NGULO_KIND_WIDE 0x80
 
 /* A declaration's class: how long the variable lives. Extended basic blocks end before set_label and after br and
@@ -178,7 +199,7 @@ enum ngulo_refusal {
     NGULO_REFUSAL_BAD_DECLARATION = 3,  /* after an op, bad class or type, global after a non-global, 65th variable */
     NGULO_REFUSAL_UNDECLARED = 4,       /* variable not declared */
     NGULO_REFUSAL_WRONG_WIDTH = 5,      /* an operand has the wrong width */
-    NGULO_REFUSAL_BAD_FIELD = 6,        /* cond above 9, bad flags, label above 31, 32-bit movi of 2^32 or more */
+    NGULO_REFUSAL_BAD_FIELD = 6,        /* cond above 9, label above 31, bad flags, pos or len, movi_i32 from 2^32 on */
     NGULO_REFUSAL_BAD_LABEL = 7,        /* set twice, or jump to one already set; never set: at the block's length */
     NGULO_REFUSAL_UNWRITTEN = 8,        /* temporary read before a write in its extended basic block */
     NGULO_REFUSAL_TOO_MANY_OPS = 9,     /* 257th op */
@@ -212,6 +233,16 @@ enum ngulo_flag {
     NGULO_FLAG_SIZE = 3,       /* the bits that hold the size */
     NGULO_FLAG_SIGNED = 4,     /* a load that sign-extends */
     NGULO_FLAG_BIG_ENDIAN = 8
+};
+
+/*
+ * The flags of a swap: NGULO_BSWAP_IZ | NGULO_BSWAP_OZ. bswap16 and bswap32_i64 have exactly one of OZ and OS, with or
+ * without IZ; the flags of bswap32_i32 and bswap64_i64 are 0.
+ */
+enum ngulo_bswap_flag {
+    NGULO_BSWAP_IZ = 1,  /* the input is zero-extended from what is swapped; if it is not, no result is stated */
+    NGULO_BSWAP_OZ = 2,  /* the output is zero-extended */
+    NGULO_BSWAP_OS = 4   /* the output is sign-extended */
 };
 
 /* report[NGULO_REPORT_ACCESS] after the fault of a store has this more than its flags. */
@@ -339,7 +370,7 @@ static inline const char *ngulo_refusal_text(unsigned number)
     case NGULO_REFUSAL_BAD_DECLARATION: return "bad or misplaced declaration, or 65th variable";
     case NGULO_REFUSAL_UNDECLARED: return "variable not declared";
     case NGULO_REFUSAL_WRONG_WIDTH: return "an operand has the wrong width";
-    case NGULO_REFUSAL_BAD_FIELD: return "bad condition, flags, label or 32-bit constant";
+    case NGULO_REFUSAL_BAD_FIELD: return "bad condition, flags, label, position, length or 32-bit constant";
     case NGULO_REFUSAL_BAD_LABEL: return "label set twice, jumped to after it was set, or never set";
     case NGULO_REFUSAL_UNWRITTEN: return "temporary read before a write in its extended basic block";
     case NGULO_REFUSAL_TOO_MANY_OPS: return "257th op";

@@ -1,7 +1,7 @@
 /*
  * The calls for C on case 12, on a fault, on an op without a stated result, across a conditional branch, on every
- * refusal, with no bytes lent, and in place; the conditions at the corners of both widths. Answers 0 if all are as they
- * should be.
+ * refusal, with no bytes lent, and in place; the conditions at the corners of both widths; bit fields at every position
+ * and length, swaps with all flags, and counts, each run and folded. Answers 0 if all are as they should be.
  */
 #include "ngulo.h"
 
@@ -193,6 +193,13 @@ static const struct refused_block refused_blocks[] = {
     {"flag bit 4", {0x01, 0x00, 0x01, 0xAB, 0x00, 0x00, 0x10}, 7, NGULO_REFUSAL_BAD_FIELD, 3},
     {"label 32", {0x02, NGULO_MAX_LABELS}, 2, NGULO_REFUSAL_BAD_FIELD, 0},
     {"a 32-bit movi of 2^32", {0x01, 0x00, 0x00, 0x10, 0x00, 0x00, 0x00, 0x00, 0x00, 0x01}, 13, NGULO_REFUSAL_BAD_FIELD, 3},
+    {"bswap64 in 32 bits", {0x01, 0x00, 0x00, 0x33, 0x00, 0x00, 0x00}, 7, NGULO_REFUSAL_UNKNOWN_KIND, 3},
+    {"a field of no bits", {0x01, 0x00, 0x00, 0x2E, 0x00, 0x00, 0x00, 0x00}, 8, NGULO_REFUSAL_BAD_FIELD, 3},
+    {"a field that ends beyond the width", {0x01, 0x00, 0x00, 0x2D, 0x00, 0x00, 0x00, 0x1F, 0x02}, 9, NGULO_REFUSAL_BAD_FIELD, 3},
+    {"a position above the width", {0x01, 0x00, 0x01, 0xB0, 0x00, 0x00, 0x00, 0x41}, 8, NGULO_REFUSAL_BAD_FIELD, 3},
+    {"a swap with OZ and OS", {0x01, 0x00, 0x00, 0x31, 0x00, 0x00, 0x06}, 7, NGULO_REFUSAL_BAD_FIELD, 3},
+    {"a swap of the whole width with IZ", {0x01, 0x00, 0x01, 0xB3, 0x00, 0x00, 0x01}, 7, NGULO_REFUSAL_BAD_FIELD, 3},
+    {"a field of a temporary not written", {0x01, 0x02, 0x00, 0x2F, 0x00, 0x00, 0x00, 0x01}, 8, NGULO_REFUSAL_UNWRITTEN, 3},
     {"a label set twice", {0x02, 0x00, 0x02, 0x00}, 4, NGULO_REFUSAL_BAD_LABEL, 2},
     {"a jump to a label already set", {0x02, 0x00, 0x03, 0x00}, 4, NGULO_REFUSAL_BAD_LABEL, 2},
     {"a label never set", {0x01, 0x00, 0x01, 0x03, 0x00, 0x04, 0x00}, 7, NGULO_REFUSAL_BAD_LABEL, 7},
@@ -410,6 +417,305 @@ static void conditions(void)
     }
 }
 
+/* A pure op on v1 and its inputs v2 and v3, at most two bytes after them. */
+struct pure_op {
+    const char *what;
+    uint8_t kind;
+    unsigned inputs;
+    uint8_t after[2];
+    size_t after_length;
+};
+
+static unsigned width_of(const struct pure_op *op)
+{
+    return op->kind >= NGULO_KIND_WIDE ? 64 : 32;
+}
+
+static size_t add_movi(uint8_t *block, size_t at, const struct pure_op *op, uint8_t variable, uint64_t value)
+{
+    size_t i;
+
+    block[at] = width_of(op) == 64 ? NGULO_KIND_MOVI_I64 : NGULO_KIND_MOVI_I32;
+    block[at + 1] = variable;
+    for (i = 0; i < 8; i += 1) {
+        block[at + 2 + i] = (uint8_t)(value >> 8 * i);
+    }
+    return at + 10;
+}
+
+static size_t add_op(uint8_t *block, size_t at, const struct pure_op *op)
+{
+    size_t k;
+
+    block[at] = op->kind;
+    for (k = 1; k <= 1 + op->inputs; k += 1) {
+        block[at + k] = (uint8_t)k;
+    }
+    memcpy(block + at + k, op->after, op->after_length);
+    return at + k + op->after_length;
+}
+
+static size_t add_exit(uint8_t *block, size_t at)
+{
+    block[at] = NGULO_KIND_EXIT_TB;
+    block[at + 1] = 0;
+    return at + 2;
+}
+
+/* Four globals: v0 for the exit, and three of the op's width. */
+static size_t add_globals(uint8_t *block, const struct pure_op *op)
+{
+    size_t at;
+
+    for (at = 0; at < 12; at += 3) {
+        block[at] = NGULO_KIND_DECL;
+        block[at + 1] = NGULO_CLASS_GLOBAL;
+        block[at + 2] = at == 0 || width_of(op) == 64 ? NGULO_TYPE_I64 : NGULO_TYPE_I32;
+    }
+    return at;
+}
+
+enum { PURE_SIZE = 64 };
+
+/* The op is run: it gives this, or has no stated result. */
+static void expect_run(const struct pure_op *op, uint64_t a, uint64_t b, int stated, uint64_t expected)
+{
+    uint8_t block[PURE_SIZE];
+    size_t length = add_exit(block, add_op(block, add_globals(block, op), op));
+    uint64_t globals[4] = {7, 9, 0, 0};
+    uint64_t report[4] = {9, 9, 9, 9};
+
+    globals[2] = a;
+    globals[3] = b;
+    expect(op->what, ngulo_run_nullable(block, length, globals, 4, NULL, 0, report), 0);
+    if (stated) {
+        expect_report(op->what, report, NGULO_ENDING_EXIT, 7, 0, 2);
+    } else {
+        expect_report(op->what, report, NGULO_ENDING_NO_RESULT, 0, 0, 0);
+    }
+    expect(op->what, globals[1], stated ? expected : 9);
+}
+
+/* The op on known inputs becomes a movi of what it gives, or stays if no result is stated. */
+static void expect_fold(const struct pure_op *op, uint64_t a, uint64_t b, int stated, uint64_t expected)
+{
+    uint8_t block[PURE_SIZE];
+    uint8_t folded[PURE_SIZE];
+    uint8_t out[PURE_SIZE];
+    size_t at = add_movi(block, add_movi(block, add_globals(block, op), op, 2, a), op, 3, b);
+    size_t length = add_exit(block, add_op(block, at, op));
+    size_t folded_length;
+
+    memcpy(folded, block, at);
+    folded_length = add_exit(folded, stated ? add_movi(folded, at, op, 1, expected) : add_op(folded, at, op));
+    expect(op->what, ngulo_pass(block, length, out, sizeof out), 256 * folded_length);
+    expect(op->what, (uint64_t)memcmp(out, folded, folded_length), 0);
+}
+
+static void expect_value(const struct pure_op *op, uint64_t a, uint64_t b, int stated, uint64_t expected)
+{
+    expect_run(op, a, b, stated, expected);
+    expect_fold(op, a, b, stated, expected);
+}
+
+/* With these bytes after its inputs the op is accepted, or refused by 6. */
+static int expect_field(const struct pure_op *op, int accepted)
+{
+    uint8_t block[PURE_SIZE];
+    size_t length = add_exit(block, add_op(block, add_globals(block, op), op));
+
+    expect(op->what, ngulo_check(block, length), accepted ? 0 : NGULO_REFUSAL_BAD_FIELD + 256 * 12);
+    return accepted;
+}
+
+static unsigned bit(uint64_t value, unsigned place)
+{
+    return (unsigned)(value >> place & 1);
+}
+
+/* What a bit of the result is, of a field or a swap. */
+static unsigned result_bit(const struct pure_op *op, uint64_t a, uint64_t b, unsigned i)
+{
+    unsigned pos = op->after[0];
+    unsigned len = op->after[1];
+    unsigned bytes;
+
+    switch (op->kind & ~NGULO_KIND_WIDE) {
+    case NGULO_KIND_DEPOSIT_I32:
+        return i >= pos && i < pos + len ? bit(b, i - pos) : bit(a, i);
+    case NGULO_KIND_EXTRACT_I32:
+        return i < len ? bit(a, pos + i) : 0;
+    case NGULO_KIND_SEXTRACT_I32:
+        return bit(a, pos + (i < len ? i : len - 1));
+    case NGULO_KIND_EXTRACT2_I32:
+        return pos + i < width_of(op) ? bit(a, pos + i) : bit(b, pos + i - width_of(op));
+    default:
+        bytes = 2u << ((op->kind & ~NGULO_KIND_WIDE) - NGULO_KIND_BSWAP16_I32);
+        return i < 8 * bytes ? bit(a, 8 * (bytes - 1 - i / 8) + i % 8) : op->after[0] & NGULO_BSWAP_OS ? bit(a, 7) : 0;
+    }
+}
+
+static uint64_t result_of(const struct pure_op *op, uint64_t a, uint64_t b)
+{
+    uint64_t result = 0;
+    unsigned i;
+
+    for (i = 0; i < width_of(op); i += 1) {
+        result |= (uint64_t)result_bit(op, a, b, i) << i;
+    }
+    return result;
+}
+
+/* Every position and length, of 256 each; where they are good, on two pairs of values. */
+static void fields(struct pure_op op)
+{
+    uint64_t all = width_of(&op) == 64 ? UINT64_MAX : UINT32_MAX;
+    unsigned i;
+
+    for (i = 0; i < 65536; i += 1) {
+        op.after[0] = (uint8_t)(i / 256);
+        op.after[1] = (uint8_t)(i % 256);
+        if (expect_field(&op, i % 256 >= 1 && i / 256 + i % 256 <= width_of(&op))) {
+            uint64_t a = UINT64_C(0x8123456789ABCDEF) & all;
+            uint64_t b = UINT64_C(0x5AA5F00F9669C33C) & all;
+
+            expect_value(&op, a, b, 1, result_of(&op, a, b));
+            expect_value(&op, all, 0, 1, result_of(&op, all, 0));
+        }
+    }
+}
+
+static void positions(struct pure_op op)
+{
+    uint64_t all = width_of(&op) == 64 ? UINT64_MAX : UINT32_MAX;
+    unsigned pos;
+
+    for (pos = 0; pos < 256; pos += 1) {
+        op.after[0] = (uint8_t)pos;
+        if (expect_field(&op, pos <= width_of(&op))) {
+            uint64_t a = UINT64_C(0x8123456789ABCDEF) & all;
+
+            expect_value(&op, a, all - a, 1, result_of(&op, a, all - a));
+        }
+    }
+}
+
+/* A swap of so many bits: all flags, on inputs that are zero-extended from there and others. */
+static void swaps(struct pure_op op, unsigned bits)
+{
+    static const uint64_t inputs[] = {0, 0x80, 0x8000, 0x1234, 0xFFFF, 0x10000, 0x12345678, 0xFFFFFFFF, UINT64_C(0x100000000),
+                                      UINT64_C(0x8123456789ABCDEF), UINT64_MAX};
+    unsigned whole = bits == width_of(&op);
+    unsigned flags;
+    size_t k;
+
+    for (flags = 0; flags < 256; flags += 1) {
+        op.after[0] = (uint8_t)flags;
+        if (!expect_field(&op, whole ? flags == 0 : flags >= NGULO_BSWAP_OZ && flags <= NGULO_BSWAP_OS + NGULO_BSWAP_IZ)) {
+            continue;
+        }
+        for (k = 0; k < sizeof inputs / sizeof inputs[0]; k += 1) {
+            uint64_t a = width_of(&op) == 64 ? inputs[k] : inputs[k] & UINT32_MAX;
+
+            expect_value(&op, a, 0, !(flags & NGULO_BSWAP_IZ) || a >> bits == 0, result_of(&op, a, 0));
+        }
+    }
+}
+
+static uint64_t count_of(const struct pure_op *op, uint64_t a, uint64_t b)
+{
+    unsigned ones = 0;
+    unsigned highest = 0;
+    unsigned lowest = 0;
+    unsigned i;
+
+    for (i = 0; i < width_of(op); i += 1) {
+        lowest = bit(a, i) && ones == 0 ? i : lowest;
+        highest = bit(a, i) ? i : highest;
+        ones += bit(a, i);
+    }
+    switch (op->kind & ~NGULO_KIND_WIDE) {
+    case NGULO_KIND_CLZ_I32: return a == 0 ? b : width_of(op) - 1 - highest;
+    case NGULO_KIND_CTZ_I32: return a == 0 ? b : lowest;
+    default: return ones;
+    }
+}
+
+/* Zero, every bit alone, and every bit with those below it. */
+static void counts(const struct pure_op *op)
+{
+    unsigned i;
+
+    expect_value(op, 0, 77, 1, count_of(op, 0, 77));
+    for (i = 0; i < width_of(op); i += 1) {
+        uint64_t alone = (uint64_t)1 << i;
+
+        expect_value(op, alone, 77, 1, count_of(op, alone, 77));
+        expect_value(op, alone + (alone - 1), 77, 1, count_of(op, alone + (alone - 1), 77));
+    }
+}
+
+/* Of two inputs the first is known: the op stays, also where the second would not matter. */
+static void stays_half_known(const struct pure_op *op)
+{
+    uint8_t block[PURE_SIZE];
+    uint8_t out[PURE_SIZE];
+    size_t length = add_exit(block, add_op(block, add_movi(block, add_globals(block, op), op, 2, 1), op));
+
+    expect(op->what, ngulo_pass(block, length, out, sizeof out), 256 * length);
+    expect(op->what, (uint64_t)memcmp(out, block, length), 0);
+}
+
+/* The next op writes its output, so it goes. */
+static void dropped_if_dead(const struct pure_op *op)
+{
+    uint8_t block[PURE_SIZE];
+    uint8_t left[PURE_SIZE];
+    uint8_t out[PURE_SIZE];
+    size_t at = add_globals(block, op);
+    size_t length = add_exit(block, add_movi(block, add_op(block, at, op), op, 1, 5));
+    size_t left_length = add_exit(left, add_movi(left, add_globals(left, op), op, 1, 5));
+
+    expect(op->what, ngulo_pass(block, length, out, sizeof out), 256 * left_length);
+    expect(op->what, (uint64_t)memcmp(out, left, left_length), 0);
+}
+
+static void bits(void)
+{
+    static const struct pure_op ops[] = {
+        {"deposit", NGULO_KIND_DEPOSIT_I32, 2, {1, 2}, 2},   {"extract", NGULO_KIND_EXTRACT_I32, 1, {1, 2}, 2},
+        {"sextract", NGULO_KIND_SEXTRACT_I32, 1, {1, 2}, 2}, {"extract2", NGULO_KIND_EXTRACT2_I32, 2, {0, 0}, 1},
+        {"bswap16", NGULO_KIND_BSWAP16_I32, 1, {2, 0}, 1},   {"bswap32", NGULO_KIND_BSWAP32_I32, 1, {0, 0}, 1},
+        {"clz", NGULO_KIND_CLZ_I32, 2, {0, 0}, 0},           {"ctz", NGULO_KIND_CTZ_I32, 2, {0, 0}, 0},
+        {"ctpop", NGULO_KIND_CTPOP_I32, 1, {0, 0}, 0}};
+    static const struct pure_op bswap64 = {"bswap64", NGULO_KIND_BSWAP64_I64, 1, {0, 0}, 1};
+    size_t i;
+
+    for (i = 0; i < 18; i += 1) {
+        struct pure_op op = ops[i / 2];
+
+        op.kind = (uint8_t)(op.kind + i % 2 * NGULO_KIND_WIDE);
+        if (op.kind == NGULO_KIND_BSWAP32_I64) {
+            op.after[0] = NGULO_BSWAP_OS;
+        }
+        dropped_if_dead(&op);
+        if (op.inputs == 2) {
+            stays_half_known(&op);
+        }
+        if (op.after_length == 2) {
+            fields(op);
+        } else if (op.after_length == 0) {
+            counts(&op);
+        } else if (op.inputs == 2) {
+            positions(op);
+        } else {
+            swaps(op, ops[i / 2].kind == NGULO_KIND_BSWAP16_I32 ? 16 : 32);
+        }
+    }
+    dropped_if_dead(&bswap64);
+    swaps(bswap64, 64);
+}
+
 int main(void)
 {
     expect("version", ngulo_version(), NGULO_VERSION_NUMBER);
@@ -426,6 +732,7 @@ int main(void)
     lends_nothing();
     lends_all();
     conditions();
+    bits();
     if (failures == 0) {
         puts("calls from C: as they should be");
     }

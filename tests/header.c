@@ -53,9 +53,10 @@ static void numbers(void)
 {
     expect("first kind", NGULO_KIND_DECL, 0x01);
     expect("first op by width", NGULO_KIND_MOVI_I32, 0x10);
-    expect("last op by width", NGULO_KIND_QEMU_ST_I32, 0x2C);
+    expect("last op by width", NGULO_KIND_CTPOP_I32, 0x36);
     expect("first wide op", NGULO_KIND_MOVI_I64, NGULO_KIND_MOVI_I32 + NGULO_KIND_WIDE);
-    expect("last wide op", NGULO_KIND_QEMU_ST_I64, NGULO_KIND_QEMU_ST_I32 + NGULO_KIND_WIDE);
+    expect("last wide op", NGULO_KIND_CTPOP_I64, NGULO_KIND_CTPOP_I32 + NGULO_KIND_WIDE);
+    expect("wide op without a narrow one", NGULO_KIND_BSWAP64_I64, 0xB3);
     expect("global", NGULO_CLASS_GLOBAL, 0);
     expect("local temporary", NGULO_CLASS_LOCAL, 1);
     expect("temporary", NGULO_CLASS_TEMPORARY, 2);
@@ -65,6 +66,8 @@ static void numbers(void)
     expect("first unsigned condition", NGULO_COND_LTU, 6);
     expect("last condition", NGULO_COND_GTU, 9);
     expect("flags", NGULO_FLAG_SIZE + NGULO_FLAG_SIGNED + NGULO_FLAG_BIG_ENDIAN, 15);
+    expect("a swap's input flag", NGULO_BSWAP_IZ, 1);
+    expect("a swap's output flags", 16 * NGULO_BSWAP_OZ + NGULO_BSWAP_OS, 0x24);
 }
 
 /* The version is said once in words and once in numbers. */
@@ -270,6 +273,7 @@ static void texts(void)
             expect("text: twice", strcmp(ngulo_refusal_text(i), ngulo_refusal_text(j)) == 0, 0);
         }
     }
+    expect("text: 6", (uint64_t)strcmp(ngulo_refusal_text(6), "bad condition, flags, label, position, length or 32-bit constant"), 0);
     expect("text: 8", (uint64_t)strcmp(ngulo_refusal_text(8), "temporary read before a write in its extended basic block"), 0);
     expect("text: 255", (uint64_t)strcmp(ngulo_refusal_text(255), "no refusal has this number"), 0);
 }

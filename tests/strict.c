@@ -17,6 +17,7 @@ uint64_t use_names(void)
     static const uint8_t block[] = {NGULO_KIND_DECL, NGULO_CLASS_GLOBAL, NGULO_TYPE_I64,
                                     NGULO_KIND_WIDE + NGULO_KIND_SETCOND_I32, 0, 0, 0, NGULO_COND_GTU,
                                     NGULO_KIND_QEMU_LD_I64, 0, 0, NGULO_SIZE_2 | NGULO_FLAG_SIGNED | NGULO_FLAG_BIG_ENDIAN,
+                                    NGULO_KIND_WIDE + NGULO_KIND_BSWAP16_I32, 0, 0, NGULO_BSWAP_IZ | NGULO_BSWAP_OZ,
                                     NGULO_KIND_EXIT_TB, 0};
 
     return ngulo_check(block, sizeof block);

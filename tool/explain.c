@@ -2,9 +2,22 @@
 
 #include "listing.h"
 #include "probe.h"
+#include "words.h"
 
 #include <stdio.h>
 #include <string.h>
+
+static int reads(const uint8_t *op, unsigned variable)
+{
+    const struct shape *shape = shape_of(op[0]);
+
+    return memchr(op + 1 + shape->outputs, (int)variable, shape->inputs) != NULL;
+}
+
+static int writes(const uint8_t *op, unsigned variable)
+{
+    return shape_of(op[0])->outputs == 1 && op[1] == variable;
+}
 
 /*
  * The ops of an extended basic block from its start to a position, and an exit. Every brcond among them jumps to one
@@ -52,6 +65,45 @@ static void find_form(const struct records *block, unsigned start, unsigned posi
     }
 }
 
+/* What fold knows a variable by at a position: the movi that wrote it last in the extended basic block; else NULL. */
+static const uint8_t *known_by(const struct fate fates[NGULO_MAX_OPS], unsigned start, unsigned position,
+                               unsigned variable)
+{
+    unsigned i = position;
+
+    while (i > start && !writes(fates[i - 1].form, variable)) {
+        i -= 1;
+    }
+    return i > start && is_movi(fates[i - 1].form[0]) ? fates[i - 1].form : NULL;
+}
+
+/* Is no result stated for an op although its inputs are all known? A run of their movis and the op stops there. */
+static int find_unstated(const struct records *block, const struct fate fates[NGULO_MAX_OPS], unsigned start,
+                         unsigned position)
+{
+    const uint8_t *op = op_at(block, position);
+    const struct shape *shape = shape_of(op[0]);
+    uint64_t globals[NGULO_MAX_VARIABLES] = {0};
+    uint64_t report[NGULO_REPORT_LENGTH];
+    struct probe probe;
+    uint64_t answer;
+    unsigned k;
+
+    start_probe(&probe, block);
+    for (k = 1; k <= shape->inputs; k += 1) {
+        const uint8_t *movi = known_by(fates, start, position, op[shape->outputs + k]);
+
+        if (movi == NULL) {
+            return 0;
+        }
+        add_record(&probe, movi);
+    }
+    add_record(&probe, op);
+    add_record(&probe, last_op(block));
+    answer = ngulo_run_nullable(probe.bytes, probe.length, globals, block->variables, NULL, 0, report);
+    return !ngulo_is_refused(answer) && ngulo_report_ending(report) == NGULO_ENDING_NO_RESULT;
+}
+
 static int same_record(const uint8_t *a, const uint8_t *b)
 {
     return a[0] == b[0] && memcmp(a, b, record_length(a[0])) == 0;
@@ -78,6 +130,7 @@ void find_forms(const struct records *block, struct fate fates[NGULO_MAX_OPS])
         } else if (!is_brcond(op_at(block, i)[0])) {
             find_form(block, start, i, fates[i].form);
             fates[i].folded = !same_record(fates[i].form, op_at(block, i));
+            fates[i].unstated = !fates[i].folded && find_unstated(block, fates, start, i);
         }
     }
 }
@@ -95,18 +148,6 @@ int find_kept(const struct records *block, const struct records *result, struct 
         }
     }
     return left == 0;
-}
-
-static int reads(const uint8_t *op, unsigned variable)
-{
-    const struct shape *shape = shape_of(op[0]);
-
-    return memchr(op + 1 + shape->outputs, (int)variable, shape->inputs) != NULL;
-}
-
-static int writes(const uint8_t *op, unsigned variable)
-{
-    return shape_of(op[0])->outputs == 1 && op[1] == variable;
 }
 
 /* The first op after a position that is left and reads or writes a variable, or is an edge. The last op is one. */
@@ -224,6 +265,8 @@ static void print_fate(const struct records *block, const struct fate fates[NGUL
     if (fate->folded) {
         list_record(fate->form, text);
         printf("folded to %s, ", text);
+    } else if (fate->unstated) {
+        printf("not folded (no stated result: %s), ", unstated_words(fate->form[0]));
     }
     if (!fate->kept) {
         fputs("dropped: ", stdout);

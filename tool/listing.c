@@ -40,7 +40,7 @@ void list_record(const uint8_t *record, char text[LISTING_SIZE])
     for (k = 1; k <= operands; k += 1) {
         add_field(text, k == 1, 'v', record[k]);
     }
-    if (narrow_kind(record[0]) == NGULO_KIND_MOVI_I32) {
+    if (is_movi(record[0])) {
         add_field(text, 0, '$', movi_constant(record));
         return;
     }

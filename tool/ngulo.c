@@ -47,7 +47,7 @@ static const struct command commands[] = {
      "Says how the run ended, in one line of these:\n"
      "  exit 0x2a after 5 ops\n"
      "  fault after 3 ops: load of 4 bytes at 0x10, unsigned, little-endian\n"
-     "  no stated result at op 4 after 2 ops: divu_i64 v0, v0, v1\n"
+     "  no stated result at op 4 after 2 ops: divu_i64 v0, v0, v1: the divisor is zero\n"
      "  block.hex: refusal 11 at 0: globals or memory do not fit the block: ...\n"
      "Unless it was refused, the globals follow, one a line.\n"
      "\n" FILE_AND_HEX STATE
@@ -67,9 +67,9 @@ static const struct command commands[] = {
      "\n" FILE_AND_HEX
      "                   The result is hex text then too\n"
      "  -o OUT           where the result goes, also --output; - is standard output\n"
-     "  --explain        say for each op what it was folded to, and whether it was kept; of\n"
-     "                   pure ops, loads and stores also why; the block is then written to\n"
-     "                   OUT alone\n" NAMES PLAIN
+     "  --explain        say for each op what it was folded to, or that its inputs are known\n"
+     "                   but no result is stated, and whether it was kept; of pure ops, loads\n"
+     "                   and stores also why; the block is then written to OUT alone\n" NAMES PLAIN
      "'refusal 7 at 31'\n"},
     {"diff", command_diff, 2, TAKES_PLAIN | TAKES_STATE | TAKES_SEED | TAKES_RUNS,
      "usage: ngulo diff A B [--seed S] [--runs N] [--memory N] [--plain] [--hex]\n"

@@ -78,6 +78,35 @@ static void print_bad_flags(FILE *stream, const uint8_t *record)
     }
 }
 
+static void print_bad_swap_flags(FILE *stream, const uint8_t *record)
+{
+    unsigned flags = record[3];
+
+    fprintf(stream, ": flags 0x%02x: ", flags);
+    if (record[0] == NGULO_KIND_BSWAP32_I32 || record[0] == NGULO_KIND_BSWAP64_I64) {
+        fputs("they are to be zero where the whole width is swapped", stream);
+    } else if (flags > NGULO_BSWAP_IZ + NGULO_BSWAP_OZ + NGULO_BSWAP_OS) {
+        fputs("the bits from 3 on are to be zero", stream);
+    } else {
+        fprintf(stream, "exactly one of OZ (2) and OS (4) is to be set, and %s",
+                flags & NGULO_BSWAP_OZ ? "both are" : "neither is");
+    }
+}
+
+/* Of deposit, extract and sextract, whose last bytes are pos and len. */
+static void print_bad_bits(FILE *stream, const uint8_t *record)
+{
+    const uint8_t *pos = record + record_length(record[0]) - 2;
+
+    fprintf(stream, ": pos %u, len %u: ", (unsigned)pos[0], (unsigned)pos[1]);
+    if (pos[1] == 0) {
+        fputs("a field has at least one bit", stream);
+    } else {
+        fprintf(stream, "the field's highest bit would be %u, but the op's is %u", (unsigned)(pos[0] + pos[1] - 1),
+                op_bits(record[0]) - 1);
+    }
+}
+
 static void print_bad_field(FILE *stream, const uint8_t *record)
 {
     unsigned last = record[record_length(record[0]) - 1];
@@ -93,6 +122,19 @@ static void print_bad_field(FILE *stream, const uint8_t *record)
     case NGULO_KIND_QEMU_LD_I32:
     case NGULO_KIND_QEMU_ST_I32:
         print_bad_flags(stream, record);
+        break;
+    case NGULO_KIND_DEPOSIT_I32:
+    case NGULO_KIND_EXTRACT_I32:
+    case NGULO_KIND_SEXTRACT_I32:
+        print_bad_bits(stream, record);
+        break;
+    case NGULO_KIND_EXTRACT2_I32:
+        fprintf(stream, ": pos %u: it is to be at most %u, the op's width", last, op_bits(record[0]));
+        break;
+    case NGULO_KIND_BSWAP16_I32:
+    case NGULO_KIND_BSWAP32_I32:
+    case NGULO_KIND_BSWAP64_I64 - NGULO_KIND_WIDE:
+        print_bad_swap_flags(stream, record);
         break;
     default:
         if (is_brcond(record[0]) && record[3] > NGULO_COND_GTU) {
@@ -235,7 +277,8 @@ void print_reason_of(FILE *stream, const struct bytes *block, unsigned number, s
     } else if (number == NGULO_REFUSAL_BAD_LABEL && left == 0) {
         print_unset_label(stream, block);
     } else if (number == NGULO_REFUSAL_UNKNOWN_KIND) {
-        fprintf(stream, "  at %lu: kind %02X\n", (unsigned long)place, (unsigned)block->data[place]);
+        fprintf(stream, "  at %lu: kind %02X%s\n", (unsigned long)place, (unsigned)block->data[place],
+                is_narrow_bswap64(block->data[place]) ? ": bswap64 has a 64-bit form only, B3" : "");
     } else if (number == NGULO_REFUSAL_RECORD_CUT) {
         list_name(block->data[place], text);
         fprintf(stream, "  at %lu: %s, a record of %lu bytes, %lu left\n", (unsigned long)place, text,

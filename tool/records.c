@@ -2,7 +2,7 @@
 
 #include <string.h>
 
-/* From kind 00 to kind 2C. */
+/* From kind 00 to kind 36. */
 static const struct shape shapes[] = {
     {NULL, 0, 0, 0},          {"decl", 0, 0, 2},
     {"set_label", 0, 0, 1},   {"br", 0, 0, 1},
@@ -26,18 +26,31 @@ static const struct shape shapes[] = {
     {"rotl", 1, 2, 0},        {"rotr", 1, 2, 0},
     {"setcond", 1, 2, 1},     {"movcond", 1, 4, 1},
     {"brcond", 0, 2, 2},      {"qemu_ld", 1, 1, 1},
-    {"qemu_st", 0, 2, 1}};
+    {"qemu_st", 0, 2, 1},     {"deposit", 1, 2, 2},
+    {"extract", 1, 1, 2},     {"sextract", 1, 1, 2},
+    {"extract2", 1, 2, 1},    {"bswap16", 1, 1, 1},
+    {"bswap32", 1, 1, 1},     {"bswap64", 1, 1, 1},
+    {"clz", 1, 2, 0},         {"ctz", 1, 2, 0},
+    {"ctpop", 1, 1, 0}};
 
 uint8_t narrow_kind(uint8_t kind)
 {
     return kind >= NGULO_KIND_WIDE + NGULO_KIND_MOVI_I32 ? (uint8_t)(kind - NGULO_KIND_WIDE) : kind;
 }
 
+int is_narrow_bswap64(uint8_t kind)
+{
+    return kind == NGULO_KIND_BSWAP64_I64 - NGULO_KIND_WIDE;
+}
+
 const struct shape *shape_of(uint8_t kind)
 {
     size_t row = narrow_kind(kind);
 
-    return row < sizeof shapes / sizeof shapes[0] && shapes[row].name != NULL ? &shapes[row] : NULL;
+    if (is_narrow_bswap64(kind) || row >= sizeof shapes / sizeof shapes[0] || shapes[row].name == NULL) {
+        return NULL;
+    }
+    return &shapes[row];
 }
 
 size_t record_length(uint8_t kind)
@@ -55,6 +68,11 @@ int is_access(uint8_t kind)
 int is_brcond(uint8_t kind)
 {
     return narrow_kind(kind) == NGULO_KIND_BRCOND_I32;
+}
+
+int is_movi(uint8_t kind)
+{
+    return narrow_kind(kind) == NGULO_KIND_MOVI_I32;
 }
 
 int is_edge(uint8_t kind)
@@ -75,6 +93,11 @@ unsigned operand_type(uint8_t kind, unsigned place)
     default: /* by the op's width, but for an address */
         return kind >= NGULO_KIND_WIDE || (is_access(kind) && place == 2) ? NGULO_TYPE_I64 : NGULO_TYPE_I32;
     }
+}
+
+unsigned op_bits(uint8_t kind)
+{
+    return kind >= NGULO_KIND_WIDE ? 64 : 32;
 }
 
 uint8_t label_of(const uint8_t *op)

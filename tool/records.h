@@ -28,8 +28,11 @@ struct records {
 /* NULL for an unknown kind. */
 const struct shape *shape_of(uint8_t kind);
 
-/* The kind of the 32-bit form. */
+/* The kind of the 32-bit form; of bswap64_i64 33, which is no kind. */
 uint8_t narrow_kind(uint8_t kind);
+
+/* Is it 33? bswap64 has a 64-bit form only. */
+int is_narrow_bswap64(uint8_t kind);
 
 /* The length of a record, its kind known. */
 size_t record_length(uint8_t kind);
@@ -43,8 +46,14 @@ int is_access(uint8_t kind);
 /* brcond? */
 int is_brcond(uint8_t kind);
 
+/* movi? */
+int is_movi(uint8_t kind);
+
 /* The type of the operand at a place of a record of this kind: at 1 the first. */
 unsigned operand_type(uint8_t kind, unsigned place);
+
+/* The width of an op in bits, its kind from 10 on. */
+unsigned op_bits(uint8_t kind);
 
 /* The label of set_label, br or brcond: its last byte. */
 uint8_t label_of(const uint8_t *op);

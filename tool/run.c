@@ -40,8 +40,10 @@ static void say_ending(const struct records *block, const uint64_t report[4])
     ending_words(report, ending);
     fputs(ending, stdout);
     if (ngulo_report_ending(report) == NGULO_ENDING_NO_RESULT) {
-        list_record(op_at(block, (unsigned)ngulo_report_position(report)), op);
-        printf(": %s", op);
+        const uint8_t *unstated = op_at(block, (unsigned)ngulo_report_position(report));
+
+        list_record(unstated, op);
+        printf(": %s: %s", op, unstated_words(unstated[0]));
     }
     putchar('\n');
 }

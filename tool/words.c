@@ -1,6 +1,6 @@
 #include "words.h"
 
-#include "ngulo.h"
+#include "records.h"
 
 #include <inttypes.h>
 #include <stdio.h>
@@ -38,5 +38,29 @@ void ending_words(const uint64_t report[4], char text[ENDING_SIZE])
     default:
         snprintf(text, ENDING_SIZE, "ending %u, which this program does not know", ngulo_report_ending(report));
         break;
+    }
+}
+
+const char *unstated_words(uint8_t kind)
+{
+    switch (narrow_kind(kind)) {
+    case NGULO_KIND_DIVS_I32:
+    case NGULO_KIND_REMS_I32:
+        return "the divisor is zero, or the smallest value is divided by minus one";
+    case NGULO_KIND_DIVU_I32:
+    case NGULO_KIND_REMU_I32:
+        return "the divisor is zero";
+    case NGULO_KIND_SHL_I32:
+    case NGULO_KIND_SHR_I32:
+    case NGULO_KIND_SAR_I32:
+    case NGULO_KIND_ROTL_I32:
+    case NGULO_KIND_ROTR_I32:
+        return "the count is not below the width";
+    case NGULO_KIND_BSWAP16_I32:
+        return "IZ is set, but the input is not zero above bit 15";
+    case NGULO_KIND_BSWAP32_I32:
+        return "IZ is set, but the input is not zero above bit 31";
+    default:
+        return "";
     }
 }

@@ -17,4 +17,7 @@ void access_words(const uint64_t report[4], char text[ACCESS_SIZE]);
  */
 void ending_words(const uint64_t report[4], char text[ENDING_SIZE]);
 
+/* Where no result is stated for an op of this kind; "" if it always has one. */
+const char *unstated_words(uint8_t kind);
+
 #endif

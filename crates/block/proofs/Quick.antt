@@ -18,11 +18,11 @@ use Rattle.ops.specs.Limits.{maxOps, labelCount}
 use Rattle.ops.specs.Rows.{outsIn, insIn, restIn, testIn, roleIn, typesIn, typesOf, rowIn, roleNo, isKnown, isClosing, isSetting, isJumping, at, condOk, labelOk, testOk, asksFor}
 use Rattle.ops.specs.Table.{kindTable}
 use Rattle.ops.specs.Plans.{typeIn, noOp, lengthBy, outAskBy, secondBy, inAskBy, inAtBy, byteTestBy, askOf, byteAtBy, moreBy, planOf, lengthIn, outAskIn, firstAskIn, secondAskIn, firstAtIn, secondAtIn, byteAtIn, byteAskIn, moreIn}
-use Rattle.ops.proofs.Plans.{Plan, plan, Sort, plainly, four-inputs, constant-sort, labelled, Sorted, sorted, no-op-so, no-plan, or-not, first-read}
+use Rattle.ops.proofs.Plans.{Plan, plan, Sort, plainly, four-inputs, constant-sort, labelled, by-number, Sorted, sorted, no-op-so, no-plan, or-not, first-read}
 use Rattle.ops.proofs.Ranges.{everyFrom, ranged, beq-same}
 use Rattle.ops.proofs.Table.{asks-few}
 use Rattle.block.specs.Rules.{labelFree}
-use Rattle.block.specs.Scan.{codesIn, meets, fitsAs, operandsFit, numbered, operandsOk, opStands, opOk, opPasses, Placed, codeAt, threeFit, byteOk, refusalsOf, refusalsFrom, refusalTable, labelFits, moreOk}
+use Rattle.block.specs.Scan.{codesIn, meets, fitsAs, operandsFit, numbered, operandsOk, opStands, opOk, opPasses, Placed, codeAt, threeFit, byteOk, refusalsOf, refusalsFrom, refusalTable, labelFits, bytesPass, moreOk}
 use Rattle.block.proofs.Rests.{branch-test, label-test, constant-test}
 
 -- nothing is asked
@@ -305,6 +305,14 @@ module _ (b : List ℕ) (p : ℕ) (vars labels : List ℕ) {e h : ℕ} (g : Plan
   unfolding moreOk
   more-label y = rw (g .more-so ∙ y)
 
+  more-test : lengthIn h ≡ 1 + (count + restIn e) → moreBy e ≡ 4 → more ≡ rest
+  unfolding moreOk
+  more-test n y =
+      let i : byteAtBy e ≡ 1 + count = rw (y, and-none (eqb (byteTestBy e) 0)) in
+      let d : lengthIn h - byteAtIn h ≡ restIn e = omega (arith, n, g .byte-at, i) in
+      let q : p + byteAtIn h ≡ p + 1 + count = omega (arith, g .byte-at, i) in
+      rw (g .more-so ∙ y, g .test-so, d, q)
+
   three-so : threeFit h b p vars ≡ three e b p vars
   three-so = rw (g .out-ask, g .first-ask, g .second-ask, g .first-at, g .second-at)
 
@@ -338,6 +346,8 @@ module _ (b : List ℕ) (p : ℕ) (vars labels : List ℕ) {e h : ℕ} (g : Plan
       let X = at b (p + 1 + count) in
       rw (three-so, three-fit e b p vars o i, byte-there z ∙ byte-so 2 X two-bytes ∙ two-test X, more-label m, l, branch-test b (p + 1 + count) e few t, c, free-label s)
       (and-after (operandsOk e b p vars) (condOk X) (labelOk L) (not (numbered labels L)) ∙ ap (λ (x : Bool). x && not (numbered labels L)) (and-assoc (operandsOk e b p vars) (condOk X) (labelOk L)))
+  quick-so o n (by-number i m t l s) =
+      rw (three-so, three-fit e b p vars o i, byte-none t, more-test n m, free-none s) (and-middle (operandsOk e b p vars) rest)
 
 -- the op at a place: the entry and plan of its kind
 module _ (b : List ℕ) (p ops : ℕ) (vars labels : List ℕ) (k : ℕ) {e h : ℕ} (its : k ≡ getD b p 0) (q : e ≡ getD kindTable k 0) (z : h ≡ planOf e) where
@@ -401,11 +411,23 @@ module _ (b : List ℕ) (p ops : ℕ) (vars labels : List ℕ) (k : ℕ) {e h : 
         go (inr y) x = let a : inAtBy e (secondBy e) ≡ 1 = rw y in omega (arith, its-plan .second-at, a, length-so is-op, op .has-byte)
 
     byte-in : byteAtIn h < lengthIn h
-    byte-in = go (byteTestBy e) refl
+    byte-in = go (byteTestBy e) refl (op .sort)
       where
-        go : (t : ℕ) → byteTestBy e ≡ t → byteAtIn h < lengthIn h
-        go zero y = let a : byteAtBy e ≡ 0 = rw y in omega (arith, its-plan .byte-at, a, length-so is-op)
-        go (suc t) y =
+        at-none : byteTestBy e ≡ 0 → eqb (moreBy e) 4 ≡ false → byteAtIn h < lengthIn h
+        at-none y m = let a : byteAtBy e ≡ 0 = rw (y, m) in omega (arith, its-plan .byte-at, a, length-so is-op)
+
+        less : {m : ℕ} → moreBy e ≡ m → eqb m 4 ≡ false → eqb (moreBy e) 4 ≡ false
+        less q z = ap (λ (n : ℕ). eqb n 4) q ∙ z
+
+        go : (t : ℕ) → byteTestBy e ≡ t → Sort e → byteAtIn h < lengthIn h
+        go zero y (by-number i m t l s) =
+            let a : byteAtBy e ≡ 1 + (outsIn e + insIn e) = rw (m, and-none (eqb (byteTestBy e) 0)) in
+            omega (arith, its-plan .byte-at, a, length-so is-op, l)
+        go zero y (plainly i m t s) = at-none y (less m refl)
+        go zero y (four-inputs i x u v m t s) = at-none y (less m refl)
+        go zero y (constant-sort i x m t s) = at-none y (less m refl)
+        go zero y (labelled i m x r s) = at-none y (less m refl)
+        go (suc t) y sort =
             let a : byteAtBy e ≡ 1 + (outsIn e + insIn e) = rw (y, ne-eqb (suc t) 0 (λ u. omega arith)) in
             let y′ : cond (eqb (testIn e) 3) 2 (cond (ltb 1 (testIn e) && ltb (testIn e) 8) (testIn e) 0) ≡ suc t = rw is-op at y in
             let r : 1 ≤ asksFor (testIn e) = tested (testIn e) (omega arith) (λ u. omega (arith, sym y′ ∙ u)) in
@@ -418,7 +440,15 @@ module _ (b : List ℕ) (p ops : ℕ) (vars labels : List ℕ) (k : ℕ) {e h : 
         let y′ = its-plan .more-so ∙ y in
         let r : asksFor (testIn e) ≡ 8 = ap asksFor u in
         ((λ w. absurd (omega (arith, y′, m, w))), (λ w. omega (arith, length-so is-op, i, x, r, asks-few k q)))
+    more-in t m (by-number i y x l s) = let y′ = its-plan .more-so ∙ y in ((λ u. absurd (omega (arith, y′, m, u))), (λ u. absurd (omega (arith, y′, m, u))))
     more-in t m (labelled i y x r s) = let y′ = its-plan .more-so ∙ y in ((λ u. absurd (omega (arith, y′, m, u))), (λ u. absurd (omega (arith, y′, m, u))))
+
+    few-asked : Sort e → moreIn h < 5
+    few-asked (plainly i y x s) = omega (arith, its-plan .more-so, y)
+    few-asked (four-inputs i x u v y z s) = omega (arith, its-plan .more-so, y)
+    few-asked (constant-sort i x y u s) = omega (arith, its-plan .more-so, y)
+    few-asked (labelled i y x r s) = omega (arith, its-plan .more-so, y)
+    few-asked (by-number i y x l s) = omega (arith, its-plan .more-so, y)
 
     placed-op : Placed h b p
     placed-op =
@@ -430,6 +460,7 @@ module _ (b : List ℕ) (p ops : ℕ) (vars labels : List ℕ) (k : ℕ) {e h : 
           byte = byte-in;
           constant = λ m. more-in 1 m (op .sort) .1 refl;
           inputs = λ m. more-in 3 m (op .sort) .0 refl;
+          few = few-asked (op .sort);
         }
 
     alike : ops < 256 → (threeFit h b p vars && byteOk (byteTestBy e) (getD b (p + byteAtIn h) 0) && moreOk h b p vars labels) ≡ passes
@@ -451,6 +482,7 @@ module _ (b : List ℕ) (p ops : ℕ) (vars labels : List ℕ) (k : ℕ) {e h : 
           byte = omega (arith, long, its-plan .byte-at, o .byte);
           constant = λ m. absurd (omega (arith, its-plan .more-so, o .more, m));
           inputs = λ m. absurd (omega (arith, its-plan .more-so, o .more, m));
+          few = omega (arith, its-plan .more-so, o .more);
         }
 
     none-byte : byteOk (byteTestBy e) (getD b (p + byteAtIn h) 0) ≡ false
@@ -541,16 +573,22 @@ module _ (h : ℕ) (b : List ℕ) (p : ℕ) (vars labels : List ℕ) {m : ℕ} (
   unfolding moreOk
   more-1 y f = f ∙ sym (rw (sym e ∙ y))
 
-  pub more-2 : {r : Bool} → m % 2 ≡ 0 → (m ≡ 0 → ⊥) → r ≡ labelFits labels (getD b (p + lengthIn h - 1) 0) → r ≡ moreOk h b p vars labels
+  pub more-2 : {r : Bool} → m ≡ 2 → r ≡ labelFits labels (getD b (p + lengthIn h - 1) 0) → r ≡ moreOk h b p vars labels
   unfolding moreOk
-  more-2 x y f = let q : moreIn h ≡ 2 = omega (arith, e) in f ∙ sym (rw q)
+  more-2 y f = f ∙ sym (rw (sym e ∙ y))
 
-  pub is-3 : m % 2 ≡ 1 → (m ≡ 1 → ⊥) → moreIn h ≡ 3
-  is-3 x y = omega (arith, e)
+  -- a plan asks for one of five things
+  module _ (few : moreIn h < 5) where
+    pub is-3 : m % 2 ≡ 1 → (m ≡ 1 → ⊥) → moreIn h ≡ 3
+    is-3 x y = omega (arith, e)
 
-  pub more-3 : {r : Bool} → m % 2 ≡ 1 → (m ≡ 1 → ⊥) → r ≡ (meets (firstAskIn h) (codeAt b vars (p + 4)) && meets (firstAskIn h) (codeAt b vars (p + 5))) → r ≡ moreOk h b p vars labels
-  unfolding moreOk
-  more-3 x y f = f ∙ sym (rw (is-3 x y))
+    pub more-3 : {r : Bool} → m % 2 ≡ 1 → (m ≡ 1 → ⊥) → r ≡ (meets (firstAskIn h) (codeAt b vars (p + 4)) && meets (firstAskIn h) (codeAt b vars (p + 5))) → r ≡ moreOk h b p vars labels
+    unfolding moreOk
+    more-3 x y f = f ∙ sym (rw (is-3 x y))
+
+    pub more-4 : {r : Bool} → m % 2 ≡ 0 → (m ≡ 0 → ⊥) → (m ≡ 2 → ⊥) → r ≡ bytesPass h b p → r ≡ moreOk h b p vars labels
+    unfolding moreOk
+    more-4 x y z f = let q : moreIn h ≡ 4 = omega (arith, e) in f ∙ sym (rw q)
 
 pub label-by : (labels b : List ℕ) {i j : ℕ} {r : Bool} → r ≡ numbered labels (getD b i 0) → i ≡ j → (ltb (getD b i 0) labelCount && not r) ≡ labelFits labels (getD b j 0)
 label-by labels b {i} e q = ap (λ (x : Bool). ltb (getD b i 0) labelCount && not x) e ∙ ap (λ (n : ℕ). labelFits labels (getD b n 0)) q

@@ -2,22 +2,20 @@
 use mathlib.Core.Path.{_≡_, ap, ap₂, _∙_, subst}
 use mathlib.Core.Bool.{true, false, _&&_}
 use mathlib.Core.List.{List}
-use Prim.Native.Nat.{ℕ, zero, suc, _+_, _^_, _≤_, _<_}
+use Prim.Native.Nat.{ℕ, _+_, _^_, _≤_, _<_}
 use native.Mathlib.Omega.{arith}
 use native.Mathlib.Nat.{zero-add, add-zero}
 use lib.Dec.{ltb}
 use lib.ListN.{take, drop}
 use lib.Seq.{getD-take, getD-drop}
 use borrow.Author.Tests.{ne-eqb}
+use Rattle.word.specs.Fields.{fieldOk, positionOk}
+use Rattle.word.specs.Swaps.{swapFlagsOk, noFlagsOk}
 use Rattle.memory.specs.Access.{flagsOk}
 use Rattle.memory.specs.Bytes.{lowFirst}
 use Rattle.memory.proofs.Numbers.{low-same}
+use Rattle.ops.proofs.Ranges.{Past}
 use Rattle.ops.specs.Rows.{restIn, testIn, at, condOk, labelOk, testOk, asksFor}
-
--- none of the numbers 1 to n
-abbrev pub Past : ℕ → ℕ → Type 0
-Past t zero = Unit {0}
-Past t (suc n) = Past t n × (t ≡ 1 + n → ⊥)
 
 -- the test of any bytes, by its number
 module _ (bytes : List ℕ) {t : ℕ} where
@@ -53,11 +51,50 @@ module _ (bytes : List ℕ) {t : ℕ} where
   unfolding testOk
   test-8 q = rw q
 
-  -- what a match on the numbers 1 to 8 leaves over
-  pub no-test : Past t 8 → true ≡ testOk t bytes
+  pub test-9 : t ≡ 9 → testOk t bytes ≡ fieldOk 32 (at bytes 0) (at bytes 1)
   unfolding testOk
-  no-test ((((((((u, n1), n2), n3), n4), n5), n6), n7), n8) =
-      rw (ne-eqb t 1 n1, ne-eqb t 2 n2, ne-eqb t 3 n3, ne-eqb t 4 n4, ne-eqb t 5 n5, ne-eqb t 6 n6, ne-eqb t 7 n7, ne-eqb t 8 n8)
+  test-9 q = rw q
+
+  pub test-10 : t ≡ 10 → testOk t bytes ≡ fieldOk 64 (at bytes 0) (at bytes 1)
+  unfolding testOk
+  test-10 q = rw q
+
+  pub test-11 : t ≡ 11 → testOk t bytes ≡ positionOk 32 (at bytes 0)
+  unfolding testOk
+  test-11 q = rw q
+
+  pub test-12 : t ≡ 12 → testOk t bytes ≡ positionOk 64 (at bytes 0)
+  unfolding testOk
+  test-12 q = rw q
+
+  pub test-13 : t ≡ 13 → testOk t bytes ≡ swapFlagsOk (at bytes 0)
+  unfolding testOk
+  test-13 q = rw q
+
+  pub test-14 : t ≡ 14 → testOk t bytes ≡ noFlagsOk (at bytes 0)
+  unfolding testOk
+  test-14 q = rw q
+
+  -- what a match on the numbers 1 to 14 leaves over
+  pub no-test : Past 1 14 t → true ≡ testOk t bytes
+  unfolding testOk
+  no-test ((((((((((((((u, n1), n2), n3), n4), n5), n6), n7), n8), n9), n10), n11), n12), n13), n14) =
+      rw (
+        ne-eqb t 1 n1,
+        ne-eqb t 2 n2,
+        ne-eqb t 3 n3,
+        ne-eqb t 4 n4,
+        ne-eqb t 5 n5,
+        ne-eqb t 6 n6,
+        ne-eqb t 7 n7,
+        ne-eqb t 8 n8,
+        ne-eqb t 9 n9,
+        ne-eqb t 10 n10,
+        ne-eqb t 11 n11,
+        ne-eqb t 12 n12,
+        ne-eqb t 13 n13,
+        ne-eqb t 14 n14,
+      )
 
 -- an entry whose test asks for no more bytes than there are
 module _ (b : List ℕ) (p e : ℕ) (few : asksFor (testIn e) ≤ restIn e) where

@@ -9,7 +9,7 @@ use lib.ListN.{length, getD, take, drop, set, replicate}
 use Rattle.theory.specs.Sets.{All, Vars, empty, has}
 use Rattle.ops.specs.Rows.{known, bodyLength, Table}
 use Rattle.ops.specs.Limits.{maxVariables, maxOps, labelCount}
-use Rattle.ops.specs.Plans.{ask, lengthIn, outAskIn, firstAskIn, secondAskIn, firstAtIn, secondAtIn, byteAtIn, moreIn, settingRank, hasLabel, exitRank, planAt}
+use Rattle.ops.specs.Plans.{ask, lengthIn, outAskIn, firstAskIn, secondAskIn, firstAtIn, secondAtIn, byteAtIn, moreIn, testAs, settingRank, hasLabel, exitRank, planAt}
 use Rattle.memory.specs.Bytes.{lowFirst}
 use Rattle.ops.specs.Rows.{Row, outsIn, insIn, restIn, testIn, roleIn, typesIn, rowIn, roleNo, isKnown, isClosing, isSetting, isJumping, testOk}
 use Rattle.ops.specs.Fields.{rowAt, bytesAt, outsBy, labelBy}
@@ -248,7 +248,7 @@ refusalTable = refusalsFrom 0 256
 abbrev pub labelFits : List ℕ → ℕ → Bool
 labelFits labels l = ltb l labelCount && not (numbered labels l)
 
--- the bytes that these tests read are inside
+-- the bytes that these tests read are inside; what else is asked is one of five things
 pub record Placed (h : ℕ) (block : List ℕ) (place : ℕ) : Type 0 where
   pub whole : place + lengthIn h ≤ length block
   pub operand : 1 < lengthIn h
@@ -257,12 +257,18 @@ pub record Placed (h : ℕ) (block : List ℕ) (place : ℕ) : Type 0 where
   pub byte : byteAtIn h < lengthIn h
   pub constant : moreIn h ≡ 1 → 10 ≤ lengthIn h
   pub inputs : moreIn h ≡ 3 → 5 < lengthIn h
+  pub few : moreIn h < 5
+
+-- the bytes after the operands pass the test that the plan names
+abbrev pub bytesPass : ℕ → List ℕ → ℕ → Bool
+bytesPass h block place = testOk (testAs h) (take (lengthIn h - byteAtIn h) (drop (place + byteAtIn h) block))
 
 unfoldable pub moreOk : ℕ → List ℕ → ℕ → List ℕ → List ℕ → Bool
 moreOk h block place vars labels =
     cond (eqb (moreIn h) 1) (ltb (lowFirst block (place + 2) 8) (2 ^ 32))
     (cond (eqb (moreIn h) 2) (labelFits labels (getD block (place + lengthIn h - 1) 0))
-    (cond (eqb (moreIn h) 3) (meets (firstAskIn h) (codeAt block vars (place + 4)) && meets (firstAskIn h) (codeAt block vars (place + 5))) true))
+    (cond (eqb (moreIn h) 3) (meets (firstAskIn h) (codeAt block vars (place + 4)) && meets (firstAskIn h) (codeAt block vars (place + 5)))
+    (cond (eqb (moreIn h) 4) (bytesPass h block place) true)))
 
 -- the places of ops that start at a place, the first of them the i-th; and the labels' numbers
 unfoldable pub placesFrom : ℕ → ℕ → List ℕ → List (List ℕ) → List ℕ

@@ -3,3 +3,4 @@ pub mod Examples
 pub mod Table
 pub mod Conditions
 pub mod Extended
+pub mod Fields

@@ -15,14 +15,18 @@ either lo hi k = between lo hi k || between (0x80 + lo) (0x80 + hi) k
 abbrev pub given : Bool → ℕ → ℕ → Bool
 given test n m = not test || eqb n m
 
--- the kinds there are, those that fold ("kinds 05 to 07 or 11 to 29 (either width)"), and the pure ones ("kinds 05 to 07 and 10 to 29 in either width")
+-- "kinds 2D to 36 in this order, plus 80 for 64 bits"; "000 has no 32-bit bswap64"
+abbrev pub bitKind : ℕ → Bool
+bitKind k = either 0x2D 0x36 k && not (eqb k 0x33)
+
+-- the kinds there are, those that fold ("kinds 05 to 07 or 11 to 29 (either width)", and 2D to 36), and the pure ones ("kinds 05 to 07 and 10 to 29 in either width", and 2D to 36)
 abbrev pub kindRow : ℕ → Bool
 kindRow k =
-    Bool·beq (known rowOf k) (between 0x01 0x07 k || either 0x10 0x2C k)
-    && Bool·beq (foldableRow (rowOf k)) (between 0x05 0x07 k || either 0x11 0x29 k)
-    && Bool·beq (pureKind rowOf k) (between 0x05 0x07 k || either 0x10 0x29 k)
+    Bool·beq (known rowOf k) (between 0x01 0x07 k || (either 0x10 0x2C k || bitKind k))
+    && Bool·beq (foldableRow (rowOf k)) (between 0x05 0x07 k || (either 0x11 0x29 k || bitKind k))
+    && Bool·beq (pureKind rowOf k) (between 0x05 0x07 k || (either 0x10 0x29 k || bitKind k))
 
--- the lengths of the bodies in document 01's table of ops, and of the declaration
+-- the lengths of the bodies in document 01's table of ops, of the declaration, and of "000's operands in its order, one byte each"
 abbrev pub lengthRow : ℕ → Bool
 lengthRow k =
     given (eqb k 0x01) (bodyLength rowOf k) 2
@@ -32,6 +36,18 @@ lengthRow k =
     && given (either 0x14 0x27 k || either 0x2B 0x2C k) (bodyLength rowOf k) 3
     && given (either 0x28 0x28 k || either 0x2A 0x2A k) (bodyLength rowOf k) 4
     && given (either 0x29 0x29 k) (bodyLength rowOf k) 6
+    && given (either 0x2D 0x2D k) (bodyLength rowOf k) 5
+    && given (either 0x2E 0x30 k) (bodyLength rowOf k) 4
+    && given (either 0x31 0x32 k || (eqb k 0xB3 || either 0x34 0x35 k)) (bodyLength rowOf k) 3
+    && given (either 0x36 0x36 k) (bodyLength rowOf k) 2
+    && given (either 0x2D 0x2D k) (bodyLength rowOf k) 5
+    && given (either 0x2E 0x30 k) (bodyLength rowOf k) 4
+    && given (either 0x31 0x32 k || (eqb k 0xB3 || either 0x34 0x35 k)) (bodyLength rowOf k) 3
+    && given (either 0x36 0x36 k) (bodyLength rowOf k) 2
+    && given (either 0x2D 0x2D k) (bodyLength rowOf k) 5
+    && given (either 0x2E 0x30 k) (bodyLength rowOf k) 4
+    && given (either 0x31 0x32 k || (eqb k 0xB3 || either 0x34 0x35 k)) (bodyLength rowOf k) 3
+    && given (either 0x36 0x36 k) (bodyLength rowOf k) 2
 
 -- an output for each pure op and each load, none for any other
 abbrev pub outputRow : ℕ → Bool

@@ -29,7 +29,8 @@ pub fn eval(kind: u8, bytes: &[u8], a: u64, b: u64, x: u64, y: u64) -> Stated
 {
     match kind {
         0x05..=0x07 => Stated::Value(converted(kind, a)),
-        0x11..=0x29 => eval32::family(
+        0x80..=0xff => eval64::family(kind - 0x80, bytes, a, b, x, y),
+        _ => eval32::family(
             kind,
             bytes,
             convert::trunc_i64_i32(a),
@@ -37,7 +38,5 @@ pub fn eval(kind: u8, bytes: &[u8], a: u64, b: u64, x: u64, y: u64) -> Stated
             convert::trunc_i64_i32(x),
             convert::trunc_i64_i32(y),
         ),
-        0x91..=0xa9 => eval64::family(kind - 0x80, bytes, a, b, x, y),
-        _ => Stated::NoResult,
     }
 }

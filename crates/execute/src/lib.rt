@@ -6,11 +6,11 @@ ghost use Rattle.theory.specs.Machine.{cost};
 ghost use Rattle.ops.specs.Table.{kindTable};
 ghost use Rattle.runs.specs.Runs.{answerOf};
 ghost use Rattle.runs.specs.Steps.{endOf, stateOf, ReadyToRun, Executed};
+use dispatch::step;
 use marks::index;
 use runs::Ending;
 use runs::Outcome;
 use runs::Stop;
-use step::step;
 
 fn wide(x: u16) -> usize
     ensures { λ r. ⌜ r ≡ x ⌝ }

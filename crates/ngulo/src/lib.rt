@@ -33,7 +33,7 @@ fn refused(number: u8, place: usize) -> u64
 pub extern "C" fn ngulo_version() -> u64
     ensures { λ r. ⌜ r ≡ version ⌝ }
 {
-    65536 * 0 + 256 * 4 + 0
+    65536 * 0 + 256 * 5 + 0
 }
 
 // 0 if the block is accepted, else number + 256 * place.

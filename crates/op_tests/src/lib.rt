@@ -6,7 +6,7 @@ ghost use lib.Dec.{ltb};
 ghost use lib.ListN.{length, getD};
 ghost use Rattle.memory.specs.Bytes.{lowFirst};
 ghost use Rattle.ops.specs.Plans.{lengthBy, lengthIn, firstAskIn, rankOf, entryAt};
-ghost use Rattle.block.specs.Scan.{Placed, codeAt, meets, threeFit, refusalTable, labelFits, moreOk, opPasses};
+ghost use Rattle.block.specs.Scan.{Placed, codeAt, meets, threeFit, refusalTable, labelFits, bytesPass, moreOk, opPasses};
 use memory::from_little_endian;
 use ops::LABELS;
 use ops::MAX_OPS;
@@ -21,10 +21,12 @@ use plans::plan;
 use plans::second_ask;
 use plans::second_at;
 use plans::straight;
+use plans::test;
 use rules::byte_ok;
 use rules::code;
 use rules::is_set;
 use rules::meets;
+use rules::rest_ok;
 
 // The output and the first two inputs of an op with this plan may be used so.
 fn three_fit(h: u64, block: &[u8], at: usize, vars: &[u8; 256]) -> bool
@@ -65,6 +67,16 @@ fn constant_ok(block: &[u8], p: usize) -> bool
     from_little_endian(&block[p..end]) < 0x1_0000_0000
 }
 
+// The bytes after the operands pass the test that its plan names.
+fn bytes_ok(h: u64, block: &[u8], at: usize) -> bool
+    requires { ⌜ Placed h (now block) at ⌝ }
+    ensures { λ r. ⌜ r ≡ bytesPass h (now (block .entry)) at ⌝ }
+{
+    let p = at + byte_at(h);
+    let end = at + length(h);
+    rest_ok(test(h), &block[p..end])
+}
+
 // What else its plan asks.
 fn more_ok(h: u64, block: &[u8], at: usize, vars: &[u8; 256], labels: &[u16; 32]) -> bool
     requires { ⌜ Placed h (now block) at ⌝ }
@@ -80,7 +92,10 @@ fn more_ok(h: u64, block: &[u8], at: usize, vars: &[u8; 256], labels: &[u16; 32]
     if m == 0 {
         return true;
     }
-    label_ok(h, block, at, labels)
+    if m == 2 {
+        return label_ok(h, block, at, labels);
+    }
+    bytes_ok(h, block, at)
 }
 
 // Whether an op, the op-th, stands at a place, whole, and meets every rule: the fast test. rank is that of its kind, n the length of its record.

@@ -4,21 +4,26 @@ use mathlib.Core.Bool.{Bool, true, false, cond, not, _&&_, _||_}
 use mathlib.Core.Option.{Option, some}
 use mathlib.Core.List.{List, [], _∷_}
 use mathlib.Core.Logic.{_⊎_, inl, inr}
-use Prim.Native.Nat.{ℕ, zero, suc, _-_, _%_, _^_, _≤_, _<_}
+use Prim.Native.Nat.{ℕ, zero, suc, _+_, _-_, _*_, _%_, _^_, _≤_, _<_}
 use native.Mathlib.Omega.{arith}
-use lib.Dec.{eqb, leb, lit<, lit≤}
+use lib.Dec.{eqb, ltb, leb, lit<, lit≤}
 use lib.Bits.{and-lt, or-lt, xor-lt}
-use borrow.Author.Tests.{eqb-true, eqb-false, ne-eqb, leb-true, le-leb, lt-leb}
+use borrow.Author.Tests.{eqb-true, eqb-false, ne-eqb, ltb-true, ltb-false, leb-true, le-leb, lt-leb}
 use native.Mathlib.Nat.{lt-of-lt-of-le}
 use lib.Pow.{pow-pos}
-use Rattle.theory.proofs.Sets.{and-l, and-r, tell}
+use Rattle.theory.proofs.Sets.{and-l, and-r, tell, clash}
 use Rattle.word.specs.Condition.{condW}
 use Rattle.word.specs.Word.{byDivisor, bySigned, byCount}
 use Rattle.word.proofs.Fits.{mod-fits, add-fits, sub-fits, mul-fits, neg-fits, shl-fits, not-fits, eqv-fits, nand-fits, nor-fits, andc-fits, orc-fits}
 use Rattle.word.proofs.Fits.{divu-fits, remu-fits, shr-fits, rotl-fits, rotr-fits, sar-fits, divs-fits, rems-fits, extend-fits, divisor-states}
 use Rattle.word.proofs.Fits.{signed-states, count-states}
+use Rattle.word.specs.Fields.{byField, extract2W}
+use Rattle.word.specs.Swaps.{bswapW}
+use Rattle.word.proofs.FieldLeaves.{field-states, position-states, deposit-fits, extracted-fits, sextract-fits, extract2-fits}
+use Rattle.word.proofs.Swaps.{input-states, bswap-fits}
+use Rattle.word.proofs.Counts.{clz-fits, ctz-fits, ctpop-fits}
 use Rattle.word.proofs.Tests.{cond-told, cond-all}
-use Rattle.ops.specs.Eval.{convertOf, unaryOf, logicOf, divideOf, shiftOf, setcondOf, movcondOf}
+use Rattle.ops.specs.Eval.{convertOf, unaryOf, logicOf, divideOf, shiftOf, setcondOf, movcondOf, depositOf, extractOf, extract2Of, swappedBytes, swapOf, countOf, ctpopOf}
 use Rattle.ops.specs.Rows.{bitsOf, roleNo, typesOf, at, tableOf}
 use Rattle.ops.specs.Kinds.{between, wideOf, computedOf}
 use Rattle.ops.specs.Table.{kindTable, rowOf}
@@ -106,8 +111,40 @@ movcond-below : (w c a b x y : ℕ) → x < 2 ^ w → y < 2 ^ w → Below w (mov
 unfolding movcondOf
 movcond-below w c a b x y hx hy = below w _ (cond-all (λ (n : ℕ). n < 2 ^ w) (condW w c a b) hx hy)
 
--- the kinds 11 to 29 at a width of 32 or 64 bits, whose inputs all fit
-module _ (w : ℕ) (room : 1 < 2 ^ w) (j : ℕ) (bytes vs : List ℕ) (fits : (i : ℕ) → at vs i < 2 ^ w) where
+-- fields, swaps and counts
+module _ (w pos len a : ℕ) where
+  by-field : {y : ℕ} → (pos + len ≤ w → y < 2 ^ w) → Below w (byField w pos len y)
+  by-field {y} h x e = let s = field-states w pos len y x e in rw (s .1) (h (s .0))
+
+  deposit-below : (b : ℕ) → a < 2 ^ w → Below w (depositOf w pos len a b)
+  unfolding depositOf
+  deposit-below b h = by-field (λ l. deposit-fits w pos len a l b h)
+
+  extract-below : (k : ℕ) → Below w (extractOf w k pos len a)
+  unfolding extractOf
+  extract-below k = either w (eqb k 0x2E) (by-field (extracted-fits w pos len a)) (by-field (sextract-fits w pos len a))
+
+extract2-below : (w pos a b : ℕ) → Below w (extract2Of w pos a b)
+unfolding extract2Of
+extract2-below w pos a b x e = rw (position-states w pos (extract2W w pos a b) x e) (extract2-fits w pos a b)
+
+swap-below : (w k flags a : ℕ) → Below w (swapOf w k flags a)
+unfolding swapOf
+swap-below w k flags a =
+    let n = swappedBytes k in
+    cond-told (Below w) (leb (8 * n) w) (λ t x e. rw (input-states n flags a (bswapW w n flags a) x e) (bswap-fits w n flags a (leb-true (8 * n) w t))) (λ t x e. no-some e)
+
+module _ (w a : ℕ) (ha : a < 2 ^ w) (room : w < 2 ^ w) where
+  count-below : (k b : ℕ) → b < 2 ^ w → Below w (countOf w k a b)
+  unfolding countOf
+  count-below k b hb = either w (eqb k 0x34) (below w _ (clz-fits w a ha room b hb)) (below w _ (ctz-fits w a ha room b hb))
+
+  ctpop-below : Below w (ctpopOf w a)
+  unfolding ctpopOf
+  ctpop-below = below w _ (ctpop-fits w a ha room)
+
+-- at a width of 32 or 64 bits, with inputs that all fit
+module _ (w : ℕ) (some-bits : 0 < w) (room : w < 2 ^ w) (j : ℕ) (bytes vs : List ℕ) (fits : (i : ℕ) → at vs i < 2 ^ w) where
   wide-below : Below w (wideOf w j bytes vs)
   unfolding wideOf
   wide-below =
@@ -115,9 +152,15 @@ module _ (w : ℕ) (room : 1 < 2 ^ w) (j : ℕ) (bytes vs : List ℕ) (fits : (i
       (either w (between 0x14 0x1E j) (logic-below w j _ (fits 0) _ (fits 1))
       (either w (between 0x1F 0x22 j) (divide-below w j _ (fits 0) _)
       (either w (between 0x23 0x27 j) (shift-below w j _ (fits 0) _)
-      (either w (eqb j 0x28) (setcond-below w _ _ _ room)
+      (either w (eqb j 0x28) (setcond-below w _ _ _ (omega (arith, room)))
       (either w (eqb j 0x29) (movcond-below w _ _ _ _ _ (fits 2) (fits 3))
-      (λ x e. no-some e))))))
+      (either w (eqb j 0x2D) (deposit-below w _ _ _ _ (fits 0))
+      (either w (between 0x2E 0x2F j) (extract-below w _ _ _ j)
+      (either w (eqb j 0x30) (extract2-below w _ _ _)
+      (either w (between 0x31 0x33 j) (swap-below w j _ _)
+      (either w (between 0x34 0x35 j) (count-below w _ (fits 0) room j _ (fits 1))
+      (either w (eqb j 0x36) (ctpop-below w _ (fits 0) room)
+      (λ x e. no-some e))))))))))))
 
 -- the types of a kind that may fold: its output's, and its inputs'
 abbrev pub outType : ℕ → ℕ
@@ -146,13 +189,16 @@ pub record Types (k out inp : ℕ) : Type 0 where
 pub extending : (k : ℕ) → 0x05 ≤ k → k ≤ 0x06 → Types k 1 0
 extending k p q = record { out-is = rw (within 0x05 0x06 k p q); in-is = rw (ne-eqb k 0x07 (omega arith), lt-leb 0x80 k (omega arith)) }
 
-pub narrow : (k : ℕ) → 0x11 ≤ k → k ≤ 0x29 → Types k 0 0
-narrow k p q =
-    record { out-is = rw (outside 0x05 0x06 k (λ l m. omega arith), lt-leb 0x80 k (omega arith)); in-is = rw (ne-eqb k 0x07 (omega arith), lt-leb 0x80 k (omega arith)) }
+pub narrow : (k : ℕ) → between 0x05 0x07 k ≡ false → k < 0x80 → Types k 0 0
+narrow k n l = go (tell (eqb k 0x07)) (tell (between 0x05 0x06 k))
+  where
+    go : (eqb k 0x07 ≡ true) ⊎ (eqb k 0x07 ≡ false) → (between 0x05 0x06 k ≡ true) ⊎ (between 0x05 0x06 k ≡ false) → Types k 0 0
+    go (inl e) y = let q = eqb-true k 0x07 e in clash (between 0x05 0x07 k) (within 0x05 0x07 k (omega arith) (omega arith)) n
+    go (inr e) (inl y) = let h : k ≤ 0x06 = leb-true k 0x06 (and-r (leb 0x05 k) (leb k 0x06) y) in clash (between 0x05 0x07 k) (within 0x05 0x07 k (leb-true 0x05 k (and-l (leb 0x05 k) (leb k 0x06) y)) (omega arith)) n
+    go (inr e) (inr y) = record { out-is = rw (y, lt-leb 0x80 k l); in-is = rw (e, lt-leb 0x80 k l) }
 
-pub wide : (k : ℕ) → 0x91 ≤ k → k ≤ 0xA9 → Types k 1 1
-wide k p q =
-    record { out-is = rw (outside 0x05 0x06 k (λ l m. omega arith), le-leb 0x80 k (omega arith)); in-is = rw (ne-eqb k 0x07 (omega arith), le-leb 0x80 k (omega arith)) }
+pub wide : (k : ℕ) → 0x80 ≤ k → Types k 1 1
+wide k l = record { out-is = rw (outside 0x05 0x06 k (λ p q. omega arith), le-leb 0x80 k l); in-is = rw (ne-eqb k 0x07 (omega arith), le-leb 0x80 k l) }
 
 module _ (k : ℕ) (bytes vs : List ℕ) (fits : (i : ℕ) → at vs i < 2 ^ bitsOf (inType k)) where
   abbrev Fit : Option ℕ → Type 0
@@ -176,9 +222,8 @@ module _ (k : ℕ) (bytes vs : List ℕ) (fits : (i : ℕ) → at vs i < 2 ^ bit
   unfolding computedOf
   computed-below =
       cond-told Fit (between 0x05 0x07 k) converted
-      (λ n. cond-told Fit (between 0x11 0x29 k) (λ t. at-types (narrow k (range t .0) (range t .1)) (wide-below 32 (lit< tt) k bytes vs))
-      (λ m. cond-told Fit (between 0x91 0xA9 k) (λ t. at-types (wide k (range t .0) (range t .1)) (wide-below 64 (lit< tt) (k - 0x80) bytes vs))
-      (λ o x e. no-some e)))
+      (λ n. cond-told Fit (ltb k 0x80) (λ t. at-types (narrow k n (ltb-true k 0x80 t)) (wide-below 32 (lit< tt) (lit< tt) k bytes vs))
+      (λ t. at-types (wide k (ltb-false k 0x80 t)) (wide-below 64 (lit< tt) (lit< tt) (k - 0x80) bytes vs)))
 
 -- the row of such a kind has these types
 abbrev typed : ℕ → Bool

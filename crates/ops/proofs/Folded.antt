@@ -3,21 +3,21 @@ use mathlib.Core.Path.{_≡_, refl, sym, ap, _∙_}
 use mathlib.Core.Bool.{true, false}
 use mathlib.Core.Option.{none}
 use mathlib.Core.List.{List, [], _∷_}
-use mathlib.Core.Logic.{_⊎_, inl, inr}
+use mathlib.Core.Logic.{⊎-elim, _⊎_, inl, inr}
 use Prim.Native.Nat.{ℕ, zero, suc, _-_, _%_, _^_, _≤_, _<_}
 use native.Mathlib.Omega.{arith}
 use native.Mathlib.Nat.{mod-mod, mod-eq-of-lt, zero-mod}
 use lib.Dec.{eqb}
 use lib.ListN.{length}
-use borrow.Author.Tests.{eqb-true, eqb-false}
+use borrow.Author.Tests.{eqb-true, eqb-false, lt-ltb, le-ltb}
 use Rattle.theory.proofs.Sets.{and-l, and-r, tell}
 use Rattle.ops.specs.Eval.{convertOf}
 use Rattle.ops.specs.Evaluate.{foldedOf}
 use Rattle.ops.specs.Rows.{bitsOf, at}
-use Rattle.ops.specs.Kinds.{wideOf, computedOf}
+use Rattle.ops.specs.Kinds.{between, wideOf, computedOf}
 use Rattle.ops.specs.Table.{rowOf}
 use Rattle.ops.specs.Ops.{atTypes}
-use Rattle.ops.proofs.Inputs.{within, outside, folds-alike, foldable-kinds}
+use Rattle.ops.proofs.Inputs.{within, outside, folds-alike, unstated-kind}
 use Rattle.ops.proofs.Fits.{allAre, inType, ins-are, extending, narrow, wide}
 use Rattle.ops.specs.Folds.{foldableRow}
 
@@ -50,40 +50,38 @@ module _ (k : ℕ) (bytes : List ℕ) (a b x y : ℕ) where
       (folds-alike k h
       (record {
         values = λ i l. read-at t ((rowOf k) .ins) four (ap (λ (n : ℕ). allAre n ((rowOf k) .ins)) (sym e) ∙ ins-are k h) i l ∙ sym (each-reduced (2 ^ bitsOf t) four i);
-        byte = λ q. refl;
+        bytes-so = λ i l. refl;
       }))
 
-  -- the kinds 11 to 29 and 91 to A9, from inputs read at their width
-  pub read-narrow : {p q r s : ℕ} → 0x11 ≤ k → k ≤ 0x29 → p ≡ a % 2 ^ 32 → q ≡ b % 2 ^ 32 → r ≡ x % 2 ^ 32 → s ≡ y % 2 ^ 32
+  -- a kind that may fold, and one that does not
+  by-row : (t : ℕ) → k < 256 → inType k ≡ t → computedOf k bytes (reduced (2 ^ bitsOf t) four) ≡ foldedOf k bytes a b x y
+  unfolding foldedOf
+  by-row t h e = go (tell (foldableRow (rowOf k)))
+    where
+      go : (foldableRow (rowOf k) ≡ true) ⊎ (foldableRow (rowOf k) ≡ false) → computedOf k bytes (reduced (2 ^ bitsOf t) four) ≡ foldedOf k bytes a b x y
+      go (inl f) = sym (folds-at t e f)
+      go (inr f) = unstated-kind k h f bytes (reduced (2 ^ bitsOf t) four) ∙ sym (rw f)
+
+  -- the kinds below 80 but for 05 to 07, and those from 80 on, from inputs read at their width
+  pub read-narrow : {p q r s : ℕ} → (k < 0x05) ⊎ ((0x07 < k) × (k < 0x80)) → p ≡ a % 2 ^ 32 → q ≡ b % 2 ^ 32 → r ≡ x % 2 ^ 32 → s ≡ y % 2 ^ 32
       → wideOf 32 k bytes (p ∷ q ∷ r ∷ s ∷ []) ≡ foldedOf k bytes a b x y
   unfolding computedOf
-  read-narrow l m e f g h =
-      let may : foldableRow (rowOf k) ≡ true = foldable-kinds k (omega arith) ∙ rw (outside 0x05 0x07 k (λ u v. omega arith), within 0x11 0x29 k l m) in
-      rw (e, f, g, h) (sym (folds-at 0 ((narrow k l m) .in-is) may ∙ rw (outside 0x05 0x07 k (λ u v. omega arith), within 0x11 0x29 k l m)))
+  read-narrow o e f g h =
+      let none : between 0x05 0x07 k ≡ false = outside 0x05 0x07 k (λ u v. ⊎-elim (λ t. omega arith) (λ t. omega (arith, t .0)) o) in
+      let l : k < 0x80 = ⊎-elim (λ t. omega arith) (λ t. t .1) o in
+      rw (e, f, g, h) (sym (rw (none, lt-ltb k 0x80 l)) ∙ by-row 0 (omega arith) ((narrow k none l) .in-is))
 
-  pub read-wide : 0x91 ≤ k → k ≤ 0xA9 → a < 2 ^ 64 → b < 2 ^ 64 → x < 2 ^ 64 → y < 2 ^ 64 → wideOf 64 (k - 0x80) bytes four ≡ foldedOf k bytes a b x y
+  pub read-wide : 0x80 ≤ k → k < 256 → a < 2 ^ 64 → b < 2 ^ 64 → x < 2 ^ 64 → y < 2 ^ 64 → wideOf 64 (k - 0x80) bytes four ≡ foldedOf k bytes a b x y
   unfolding computedOf
   read-wide l m e f g h =
-      let may : foldableRow (rowOf k) ≡ true =
-      foldable-kinds k (omega arith) ∙ rw (outside 0x05 0x07 k (λ u v. omega arith), outside 0x11 0x29 k (λ u v. omega arith), within 0x91 0xA9 k l m) in
-      sym
-      (folds-at 1 ((wide k l m) .in-is) may
-      ∙ rw
-      (outside 0x05 0x07 k (λ u v. omega arith), outside 0x11 0x29 k (λ u v. omega arith), within 0x91 0xA9 k l m, mod-eq-of-lt e, mod-eq-of-lt f, mod-eq-of-lt g, mod-eq-of-lt h))
+      sym (rw (outside 0x05 0x07 k (λ u v. omega arith), le-ltb k 0x80 l, mod-eq-of-lt e, mod-eq-of-lt f, mod-eq-of-lt g, mod-eq-of-lt h)) ∙ by-row 1 m ((wide k l) .in-is)
 
   -- the kinds 05 to 07: each reads the low 32 bits
   pub folded-convert : 0x05 ≤ k → k ≤ 0x07 → a < 2 ^ 64 → foldedOf k bytes a b x y ≡ convertOf k (a % 2 ^ 32)
   unfolding computedOf convertOf
   folded-convert p q h = go (tell (eqb k 0x07))
     where
-      may : foldableRow (rowOf k) ≡ true
-      may = foldable-kinds k (omega arith) ∙ rw (within 0x05 0x07 k p q)
-
       go : (eqb k 0x07 ≡ true) ⊎ (eqb k 0x07 ≡ false) → foldedOf k bytes a b x y ≡ convertOf k (a % 2 ^ 32)
-      go (inl e) = folds-at 1 (ap inType (eqb-true k 0x07 e)) may ∙ rw (within 0x05 0x07 k p q, eqb-true k 0x07 e, mod-eq-of-lt h, mod-mod a (2 ^ 32))
-      go (inr e) = folds-at 0 ((extending k p (omega (arith, eqb-false k 0x07 e))) .in-is) may ∙ rw (within 0x05 0x07 k p q)
-
-  -- every other kind
-  pub unfolded : k < 256 → (0x05 ≤ k → k ≤ 0x07 → ⊥) → (0x11 ≤ k → k ≤ 0x29 → ⊥) → (0x91 ≤ k → k ≤ 0xA9 → ⊥) → foldedOf k bytes a b x y ≡ none
-  unfolding foldedOf
-  unfolded h l m n = rw (foldable-kinds k h, outside 0x05 0x07 k l, outside 0x11 0x29 k m, outside 0x91 0xA9 k n)
+      go (inl e) =
+          sym (by-row 1 (omega arith) (ap inType (eqb-true k 0x07 e))) ∙ rw (within 0x05 0x07 k p q, eqb-true k 0x07 e, mod-eq-of-lt h, mod-mod a (2 ^ 32))
+      go (inr e) = sym (by-row 0 (omega arith) ((extending k p (omega (arith, eqb-false k 0x07 e))) .in-is)) ∙ rw (within 0x05 0x07 k p q)

@@ -12,7 +12,7 @@ use Rattle.theory.proofs.Sets.{and-l, and-r, tell, clash}
 use Rattle.ops.specs.Rows.{outsIn, insIn, restIn, testIn, roleIn, typesOf, roleNo, isKnown, isClosing, isSetting, isJumping}
 use Rattle.ops.specs.Table.{kindTable}
 use Rattle.ops.specs.Plans.{typeIn, noOp, lengthBy, outAskBy, secondBy, inAskBy, inAtBy, byteTestBy, askOf, byteAtBy, moreBy, planOf, each, standsFor, rankOf, planAt, straightEnd, flowRank, exitRank, settingRank, hasLabel, rankTable, lengthTable}
-use Rattle.ops.specs.Plans.{lengthIn, outAskIn, firstAskIn, secondAskIn, firstAtIn, secondAtIn, byteAtIn, byteAskIn, moreIn}
+use Rattle.ops.specs.Plans.{lengthIn, outAskIn, firstAskIn, secondAskIn, firstAtIn, secondAtIn, byteAtIn, byteAskIn, moreIn, testAs}
 use Rattle.ops.proofs.Ranges.{every, beq-same}
 use Rattle.ops.proofs.Table.{table-long, past, for-each}
 
@@ -28,6 +28,7 @@ pub record Plan (e h : ℕ) : Type 0 where
   pub byte-ask : byteAskIn h ≡ askOf (byteTestBy e)
   pub byte-few : byteTestBy e < 8
   pub more-so : moreIn h ≡ moreBy e
+  pub test-so : testAs h ≡ testIn e
 
 -- both parts of a test that passes
 abbrev pub Both : Bool → Bool → Type 0
@@ -47,7 +48,7 @@ digitsOk k e =
     && (eqb (secondAtIn h) (inAtBy e (secondBy e))
     && (eqb (byteAtIn h) (byteAtBy e)
     && (eqb (byteAskIn h) (askOf (byteTestBy e))
-    && (ltb (byteTestBy e) 8 && eqb (moreIn h) (moreBy e)))))))))
+    && (ltb (byteTestBy e) 8 && (eqb (moreIn h) (moreBy e) && eqb (testAs h) (testIn e))))))))))
 
 digits-right : every digitsOk 0 kindTable ≡ true
 unfolding planOf kindTable typesOf
@@ -63,7 +64,8 @@ by-digits k e t =
     let (a6, t6) = both _ _ t5 in
     let (a7, t7) = both _ _ t6 in
     let (a8, t8) = both _ _ t7 in
-    let (a9, a10) = both _ _ t8 in
+    let (a9, t9) = both _ _ t8 in
+    let (a10, a11) = both _ _ t9 in
     record {
       length-so = eqb-true _ _ a1;
       out-ask = eqb-true _ _ a2;
@@ -75,19 +77,21 @@ by-digits k e t =
       byte-ask = eqb-true _ _ a8;
       byte-few = ltb-true _ _ a9;
       more-so = eqb-true _ _ a10;
+      test-so = eqb-true _ _ a11;
     }
 
 pub plan : (k : ℕ) {e : ℕ} → e ≡ getD kindTable k 0 → Plan e (planOf e)
 unfolding planOf typesOf
 plan k q = rw q (by-digits k (getD kindTable k 0) (for-each digitsOk digits-right (λ k. refl) k))
 
--- what an op of an entry has: at most one output, and inputs, bytes and label as one of four sorts
+-- what an op of an entry has: at most one output, and inputs, bytes and label as one of five sorts
 pub data Sort (e : ℕ) : Type 0 where
   plainly : insIn e < 3 → moreBy e ≡ 0 → byteTestBy e ≡ testIn e → (isSetting (roleNo (roleIn e)) || isJumping (roleNo (roleIn e))) ≡ false → Sort e
   four-inputs : insIn e ≡ 4 → outsIn e ≡ 1 → typeIn e 3 ≡ typeIn e 1 → typeIn e 4 ≡ typeIn e 1 → moreBy e ≡ 3 → byteTestBy e ≡ testIn e
       → (isSetting (roleNo (roleIn e)) || isJumping (roleNo (roleIn e))) ≡ false → Sort e
   constant-sort : insIn e ≡ 0 → outsIn e ≡ 1 → moreBy e ≡ 1 → testIn e ≡ 8 → (isSetting (roleNo (roleIn e)) || isJumping (roleNo (roleIn e))) ≡ false → Sort e
   labelled : insIn e < 3 → moreBy e ≡ 2 → (testIn e ≡ 1) ⊎ (testIn e ≡ 3) → testIn e ≡ 2 * restIn e - 1 → (isSetting (roleNo (roleIn e)) || isJumping (roleNo (roleIn e))) ≡ true → Sort e
+  by-number : insIn e < 3 → moreBy e ≡ 4 → byteTestBy e ≡ 0 → 1 ≤ restIn e → (isSetting (roleNo (roleIn e)) || isJumping (roleNo (roleIn e))) ≡ false → Sort e
 
 pub record Sorted (k e : ℕ) : Type 0 where
   pub few-outs : outsIn e < 2
@@ -105,7 +109,8 @@ sortOk e =
     cond (eqb (moreBy e) 0) (ltb (insIn e) 3 && (eqb (byteTestBy e) (testIn e) && not (jumps e)))
     (cond (eqb (moreBy e) 3) (eqb (insIn e) 4 && (eqb (outsIn e) 1 && (eqb (typeIn e 3) (typeIn e 1) && (eqb (typeIn e 4) (typeIn e 1) && (eqb (byteTestBy e) (testIn e) && not (jumps e))))))
     (cond (eqb (moreBy e) 1) (ltb (insIn e) 1 && (eqb (outsIn e) 1 && (eqb (testIn e) 8 && not (jumps e))))
-    (ltb (insIn e) 3 && (eqb (moreBy e) 2 && ((eqb (testIn e) 1 || eqb (testIn e) 3) && (eqb (testIn e) (2 * restIn e - 1) && jumps e))))))
+    (cond (eqb (moreBy e) 4) (ltb (insIn e) 3 && (eqb (byteTestBy e) 0 && (leb 1 (restIn e) && not (jumps e))))
+    (ltb (insIn e) 3 && (eqb (moreBy e) 2 && ((eqb (testIn e) 1 || eqb (testIn e) 3) && (eqb (testIn e) (2 * restIn e - 1) && jumps e)))))))
 
 abbrev opOk : ℕ → ℕ → Bool
 opOk k e =
@@ -141,6 +146,15 @@ by-sort e h = go0 (tell (eqb (moreBy e) 0))
         one-of (inl z) t = inl (eqb-true _ _ z)
         one-of (inr z) t = inr (eqb-true _ _ (or-not (eqb (testIn e) 1) (eqb (testIn e) 3) z t))
 
+    go4 : (eqb (moreBy e) 4 ≡ true) ⊎ (eqb (moreBy e) 4 ≡ false) → eqb (moreBy e) 0 ≡ false → eqb (moreBy e) 3 ≡ false → eqb (moreBy e) 1 ≡ false → Sort e
+    go4 (inl z) y x w =
+        let t : (ltb (insIn e) 3 && (eqb (byteTestBy e) 0 && (leb 1 (restIn e) && not (jumps e)))) ≡ true = rw (y, x, w, z) at h in
+        let (a1, t1) = both _ _ t in
+        let (a2, t2) = both _ _ t1 in
+        let (a3, a4) = both _ _ t2 in
+        by-number (ltb-true _ _ a1) (eqb-true _ _ z) (eqb-true _ _ a2) (leb-true _ _ a3) (not-so _ a4)
+    go4 (inr z) y x w = go3 (rw (y, x, w, z) at h)
+
     go2 : (eqb (moreBy e) 1 ≡ true) ⊎ (eqb (moreBy e) 1 ≡ false) → eqb (moreBy e) 0 ≡ false → eqb (moreBy e) 3 ≡ false → Sort e
     go2 (inl z) y x =
         let t : (ltb (insIn e) 1 && (eqb (outsIn e) 1 && (eqb (testIn e) 8 && not (jumps e)))) ≡ true = rw (y, x, z) at h in
@@ -149,7 +163,7 @@ by-sort e h = go0 (tell (eqb (moreBy e) 0))
         let (a3, a4) = both _ _ t2 in
         let l : insIn e < 1 = ltb-true _ _ a1 in
         constant-sort (omega arith) (eqb-true _ _ a2) (eqb-true _ _ z) (eqb-true _ _ a3) (not-so _ a4)
-    go2 (inr z) y x = go3 (rw (y, x, z) at h)
+    go2 (inr z) y x = go4 (tell (eqb (moreBy e) 4)) y x z
 
     go1 : (eqb (moreBy e) 3 ≡ true) ⊎ (eqb (moreBy e) 3 ≡ false) → eqb (moreBy e) 0 ≡ false → Sort e
     go1 (inl z) y =
@@ -264,7 +278,7 @@ pub plan-at : (k : ℕ) {e n : ℕ} → e ≡ getD kindTable k 0 → n ≡ rankO
 plan-at k {e} q r = rw r (eqb-true _ _ (both _ _ (ranked k q) .0))
 
 -- beyond the ranks of ops is the plan of none
-pub plan-none : (n : ℕ) → 21 ≤ n → 0x0454000f ≡ planAt n
+pub plan-none : (n : ℕ) → length standsFor ≤ n → 0x0454000f ≡ planAt n
 unfolding planAt planOf kindTable typesOf
 plan-none n l = let z : getD standsFor n 0 ≡ 0 = past standsFor n l in rw z
 

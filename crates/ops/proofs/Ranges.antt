@@ -49,3 +49,12 @@ beq-same false false h = refl
 
 pub agreed : (f g : ℕ → Bool) (n : ℕ) → everyFrom (λ k. Bool·beq (f k) (g k)) 0 n ≡ true → (k : ℕ) → k < n → f k ≡ g k
 agreed f g n t k h = beq-same (f k) (g k) (ranged (λ j. Bool·beq (f j) (g j)) n 0 t k (omega arith) (omega arith))
+
+-- what a match on n numbers from lo leaves over; from 0 on, the numbers from n on
+abbrev pub Past : ℕ → ℕ → ℕ → Type 0
+Past lo zero k = Unit {0}
+Past lo (suc n) k = Past lo n k × (k ≡ lo + n → ⊥)
+
+pub left-over : (n k : ℕ) → Past 0 n k → n ≤ k
+left-over zero k p = omega arith
+left-over (suc n) k (p, d) = let l = left-over n k p in let d′ : k ≡ n → ⊥ = λ e. d (e ∙ sym (zero-add n)) in omega arith

@@ -3,11 +3,11 @@ use mathlib.Core.Path.{_≡_, refl, sym, ap, _∙_, subst}
 use mathlib.Core.Bool.{Bool, true, false, cond, not, _&&_, _||_}
 use mathlib.Core.List.{List, [], _∷_}
 use mathlib.Core.Logic.{_⊎_, inl, inr}
-use Prim.Native.Nat.{ℕ, zero, suc, _+_, _*_, _/_, _%_, _^_, _≤_, _<_}
+use Prim.Native.Nat.{ℕ, zero, suc, _+_, _/_, _%_, _^_, _≤_, _<_}
 use native.Mathlib.Omega.{arith}
 use lib.Dec.{eqb, ltb, leb, lit<}
 use lib.ListN.{length, getD}
-use borrow.Author.Tests.{eqb-true, eqb-false, ltb-true, ltb-false, leb-true}
+use borrow.Author.Tests.{eqb-true, ltb-true, ltb-false, leb-true}
 use Rattle.word.proofs.Tests.{cond-all}
 use Rattle.theory.proofs.Sets.{and-l, and-r, tell}
 use Rattle.ops.specs.Rows.{Role, unknown, declares, setsLabel, jumpsTo, exits, branches, loads, stores, constant, computing, roleNo, Row, entry}
@@ -23,14 +23,13 @@ typeAt k = cond (leb 0x80 k) 1 0
 pub type-small : (k : ℕ) → typeAt k < 2
 type-small k = cond-all (λ (n : ℕ). n < 2) (leb 0x80 k) (lit< tt) (lit< tt)
 
--- the one row of a role at a type; a computing op has one output, and no byte or a condition after the operands
+-- the one row of a role at a type; a computing op has one output
 abbrev pub rowWith : List ℕ → List ℕ → ℕ → ℕ → Role → Row
 rowWith outs ins rest test role = record { outs = outs; ins = ins; rest = rest; test = test; role = role }
 
 pub record Computing (row : Row) : Type 0 where
   pub type : ℕ
   pub one-out : row .outs ≡ type ∷ []
-  pub rest-is : ((row .rest ≡ 0) × (row .test ≡ 0)) ⊎ ((row .rest ≡ 1) × (row .test ≡ 2))
 
 abbrev pub RowFor : Role → ℕ → Row → Type 0
 RowFor unknown t row = row ≡ rowWith [] [] 0 0 unknown
@@ -53,7 +52,7 @@ abbrev canonical : ℕ → ℕ → Bool
 canonical k e = eqb e (entryFor (roleIn e) (typeAt k) e)
 
 abbrev oneOutput : ℕ → Bool
-oneOutput e = eqb (outsIn e) 1 && (eqb (testIn e) (2 * restIn e) && ltb (restIn e) 2)
+oneOutput e = eqb (outsIn e) 1
 
 abbrev right : ℕ → ℕ → Bool
 right k e =
@@ -98,17 +97,7 @@ same-row r t q f = subst (λ (y : ℕ). RowFor r t (rowIn y)) (sym q) f
 
 computing-row : (e : ℕ) → oneOutput e ≡ true → Computing (rowIn e)
 unfolding typesOf
-computing-row e h =
-    let o : outsIn e ≡ 1 = eqb-true (outsIn e) 1 (and-l (eqb (outsIn e) 1) _ h) in
-    let t = and-r (eqb (outsIn e) 1) (eqb (testIn e) (2 * restIn e) && ltb (restIn e) 2) h in
-    let test : testIn e ≡ 2 * restIn e = eqb-true (testIn e) (2 * restIn e) (and-l (eqb (testIn e) (2 * restIn e)) _ t) in
-    let few : restIn e < 2 = ltb-true (restIn e) 2 (and-r (eqb (testIn e) (2 * restIn e)) (ltb (restIn e) 2) t) in
-    record { type = typesIn e % 4; one-out = ap (λ (n : ℕ). typesOf n (typesIn e)) o; rest-is = go (tell (eqb (restIn e) 0)) test few }
-  where
-    go : (eqb (restIn e) 0 ≡ true) ⊎ (eqb (restIn e) 0 ≡ false) → testIn e ≡ 2 * restIn e → restIn e < 2
-        → ((restIn e ≡ 0) × (testIn e ≡ 0)) ⊎ ((restIn e ≡ 1) × (testIn e ≡ 2))
-    go (inl z) t l = let q = eqb-true (restIn e) 0 z in inl (q, omega arith)
-    go (inr z) t l = let q : restIn e ≡ 1 = omega (arith, eqb-false (restIn e) 0 z) in inr (q, omega arith)
+computing-row e h = record { type = typesIn e % 4; one-out = ap (λ (n : ℕ). typesOf n (typesIn e)) (eqb-true (outsIn e) 1 h) }
 
 by-role : (n t e : ℕ) → t < 2 → e ≡ entryFor n t e → (not (eqb n 9) || oneOutput e) ≡ true → RowFor (roleNo n) t (rowIn e)
 unfolding roleNo typesOf

@@ -1,12 +1,14 @@
 -- What the pure ops compute, by kind, once over the width: none where no result is stated. Assumes nothing.
-use Prim.Native.Nat.{ℕ, _/_, _%_, _^_}
+use Prim.Native.Nat.{ℕ, _*_, _/_, _%_, _^_}
 use mathlib.Core.Bool.{cond}
-use mathlib.Core.Option.{Option, some}
-use lib.Dec.{eqb}
+use mathlib.Core.Option.{Option, none, some}
+use lib.Dec.{eqb, leb}
 use lib.Bits.{bitAnd, bitOr, bitXor}
 use Rattle.word.specs.Word.{addW, subW, mulW, negW, notW, andcW, orcW, eqvW, nandW, norW, shlW, shrW, sarW, rotlW, rotrW, divsW, remsW, extendW}
 use Rattle.word.specs.Word.{byDivisor, bySigned, byCount}
 use Rattle.word.specs.Condition.{condW}
+use Rattle.word.specs.Fields.{byField, byPosition, depositW, extractW, sextractW, extract2W}
+use Rattle.word.specs.Swaps.{byInput, bswapW, clzW, ctzW, ctpopW}
 
 -- 05, 06, 07: "ext_i32_i64, extu_i32_i64, trunc_i64_i32: d, a"
 unfoldable pub convertOf : ℕ → ℕ → Option ℕ
@@ -55,3 +57,31 @@ setcondOf w c a b = some (cond (condW w c a b) 1 0)
 -- 29: "movcond: d, c1, c2, v1, v2, cond", v1 where the condition holds of c1 and c2, else v2
 unfoldable pub movcondOf : ℕ → ℕ → ℕ → ℕ → ℕ → ℕ → Option ℕ
 movcondOf w c c1 c2 v1 v2 = some (cond (condW w c c1 c2) v1 v2)
+
+-- 2D: "deposit_i32/i64 dest, t1, t2, pos, len"
+unfoldable pub depositOf : ℕ → ℕ → ℕ → ℕ → ℕ → Option ℕ
+depositOf w pos len a b = byField w pos len (depositW w pos len a b)
+
+-- 2E, 2F: "extract_i32/i64 dest, t1, pos, len", "sextract_i32/i64 dest, t1, pos, len"
+unfoldable pub extractOf : ℕ → ℕ → ℕ → ℕ → ℕ → Option ℕ
+extractOf w k pos len a = cond (eqb k 0x2E) (byField w pos len (extractW pos len a)) (byField w pos len (sextractW w pos len a))
+
+-- 30: "extract2_i32/i64 dest, t1, t2, pos"
+unfoldable pub extract2Of : ℕ → ℕ → ℕ → ℕ → Option ℕ
+extract2Of w pos a b = byPosition w pos (extract2W w pos a b)
+
+-- 31, 32, 33: "bswap16_i32/i64 t0, t1, flags", "bswap32_i64 t0, t1, flags", "bswap32_i32 t0, t1, flags", "bswap64_i64 t0, t1, flags", of so many
+-- bytes; none are more than the width has
+abbrev pub swappedBytes : ℕ → ℕ
+swappedBytes k = cond (eqb k 0x31) 2 (cond (eqb k 0x32) 4 8)
+
+unfoldable pub swapOf : ℕ → ℕ → ℕ → ℕ → Option ℕ
+swapOf w k flags a = let n = swappedBytes k in cond (leb (8 * n) w) (byInput n flags a (bswapW w n flags a)) none
+
+-- 34, 35: "clz_i32/i64 t0, t1, t2", "ctz_i32/i64 t0, t1, t2"
+unfoldable pub countOf : ℕ → ℕ → ℕ → ℕ → Option ℕ
+countOf w k a b = cond (eqb k 0x34) (some (clzW w a b)) (some (ctzW w a b))
+
+-- 36: "ctpop_i32/i64 t0, t1"
+unfoldable pub ctpopOf : ℕ → ℕ → Option ℕ
+ctpopOf w a = some (ctpopW w a)

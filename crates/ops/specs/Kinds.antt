@@ -3,13 +3,13 @@ use Prim.Native.Nat.{ℕ, _-_}
 use mathlib.Core.Bool.{Bool, true, false, cond, _&&_, _||_}
 use mathlib.Core.Option.{Option, none, some}
 use mathlib.Core.List.{List, [], _∷_}
-use lib.Dec.{eqb, leb}
+use lib.Dec.{eqb, ltb, leb}
 use Rattle.theory.specs.Machine.{Touch, faults, gives}
 use Rattle.word.specs.Condition.{condW}
 use Rattle.memory.specs.Bytes.{lowFirst}
 use Rattle.memory.specs.Access.{loadAt, storeAt}
 use Rattle.memory.specs.Answer.{accessWidth}
-use Rattle.ops.specs.Eval.{convertOf, unaryOf, logicOf, divideOf, shiftOf, setcondOf, movcondOf}
+use Rattle.ops.specs.Eval.{convertOf, unaryOf, logicOf, divideOf, shiftOf, setcondOf, movcondOf, depositOf, extractOf, extract2Of, swapOf, countOf, ctpopOf}
 use Rattle.ops.specs.Rows.{at}
 use Rattle.ops.specs.Table.{rowOf}
 use Rattle.ops.specs.Ops.{Fault, faultOf, Dialect}
@@ -22,7 +22,7 @@ abbrev pub one : Option ℕ → Option (List ℕ)
 one none = none
 one (some x) = some (x ∷ [])
 
--- the kinds 11 to 29 at a width, from the bytes after the operands and the inputs' values; none for every other kind
+-- the kinds 11 to 29 and 2D to 36 at a width, from the bytes after the operands and the inputs' values; none for every other kind
 unfoldable pub wideOf : ℕ → ℕ → List ℕ → List ℕ → Option ℕ
 wideOf w k bytes vs =
     cond (between 0x11 0x13 k) (unaryOf w k (at vs 0))
@@ -31,15 +31,18 @@ wideOf w k bytes vs =
     (cond (between 0x23 0x27 k) (shiftOf w k (at vs 0) (at vs 1))
     (cond (eqb k 0x28) (setcondOf w (at bytes 0) (at vs 0) (at vs 1))
     (cond (eqb k 0x29) (movcondOf w (at bytes 0) (at vs 0) (at vs 1) (at vs 2) (at vs 3))
-    none)))))
+    (cond (eqb k 0x2D) (depositOf w (at bytes 0) (at bytes 1) (at vs 0) (at vs 1))
+    (cond (between 0x2E 0x2F k) (extractOf w k (at bytes 0) (at bytes 1) (at vs 0))
+    (cond (eqb k 0x30) (extract2Of w (at bytes 0) (at vs 0) (at vs 1))
+    (cond (between 0x31 0x33 k) (swapOf w k (at bytes 0) (at vs 0))
+    (cond (between 0x34 0x35 k) (countOf w k (at vs 0) (at vs 1))
+    (cond (eqb k 0x36) (ctpopOf w (at vs 0))
+    none)))))))))))
 
--- the kinds 05 to 07 and 11 to 29 in either width
+-- the kinds 05 to 07, and those in either width
 unfoldable pub computedOf : ℕ → List ℕ → List ℕ → Option ℕ
 computedOf k bytes vs =
-    cond (between 0x05 0x07 k) (convertOf k (at vs 0))
-    (cond (between 0x11 0x29 k) (wideOf 32 k bytes vs)
-    (cond (between 0x91 0xA9 k) (wideOf 64 (k - 0x80) bytes vs)
-    none))
+    cond (between 0x05 0x07 k) (convertOf k (at vs 0)) (cond (ltb k 0x80) (wideOf 32 k bytes vs) (wideOf 64 (k - 0x80) bytes vs))
 
 -- what a pure op of kind k states; none for every other kind
 unfoldable pub statesOf : ℕ → List ℕ → List ℕ → Option (List ℕ)

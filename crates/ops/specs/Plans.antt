@@ -45,18 +45,18 @@ byteTestBy e = let t = testIn e in cond (noOp e) 1 (cond (eqb t 3) 2 (cond (ltb 
 abbrev pub askOf : ℕ → ℕ
 askOf t = cond (eqb t 0) 0 (2 ^ t)
 
-abbrev pub byteAtBy : ℕ → ℕ
-byteAtBy e = cond (eqb (byteTestBy e) 0) 0 (1 + (outsIn e + insIn e))
-
--- what else is asked: 1, that the constant is below 2^32; 2, of the label; 3, of two more inputs
+-- what else is asked: 1, that the constant is below 2^32; 2, of the label; 3, of two more inputs; 4, the test by its number, of the bytes after the operands
 abbrev pub moreBy : ℕ → ℕ
-moreBy e = cond (eqb (insIn e) 4) 3 (cond (eqb (testIn e) 8) 1 (cond (eqb (testIn e) 1 || eqb (testIn e) 3) 2 0))
+moreBy e = cond (eqb (insIn e) 4) 3 (cond (eqb (testIn e) 8) 1 (cond (eqb (testIn e) 1 || eqb (testIn e) 3) 2 (cond (ltb 8 (testIn e)) 4 0)))
+
+abbrev pub byteAtBy : ℕ → ℕ
+byteAtBy e = cond (eqb (byteTestBy e) 0 && not (eqb (moreBy e) 4)) 0 (1 + (outsIn e + insIn e))
 
 -- the plan, in digits from the lowest
 unfoldable pub planOf : ℕ → ℕ
 planOf e =
     lengthBy e + 2 ^ 4 * outAskBy e + 2 ^ 8 * inAskBy e (outsIn e) + 2 ^ 13 * inAskBy e (secondBy e) + 2 ^ 18 * inAtBy e (outsIn e) + 2 ^ 20 * inAtBy e (secondBy e)
-    + 2 ^ 22 * byteAtBy e + 2 ^ 25 * askOf (byteTestBy e) + 2 ^ 33 * moreBy e
+    + 2 ^ 22 * byteAtBy e + 2 ^ 25 * askOf (byteTestBy e) + 2 ^ 33 * moreBy e + 2 ^ 36 * testIn e
 
 -- its digits
 abbrev pub lengthIn : ℕ → ℕ
@@ -84,22 +84,26 @@ abbrev pub byteAskIn : ℕ → ℕ
 byteAskIn h = h / 33554432 % 256
 
 abbrev pub moreIn : ℕ → ℕ
-moreIn h = h / 8589934592 % 4
+moreIn h = h / 8589934592 % 8
+
+abbrev pub testAs : ℕ → ℕ
+testAs h = h / 68719476736 % 16
 
 -- kinds that stand for all that have the same entry: first those of which nothing else is asked, last those that direct the run, and of these
 -- first brcond, then those that end an extended basic block: exit_tb, br and set_label
 abbrev pub standsFor : List ℕ
 standsFor =
     0x2b ∷ 0xab ∷ 0x2c ∷ 0xac ∷ 0x90 ∷ 0x05 ∷ 0x07 ∷ 0x11 ∷ 0x91 ∷ 0x14 ∷ 0x94 ∷ 0x28 ∷ 0xa8
-    ∷ 0x29 ∷ 0xa9 ∷ 0x10 ∷ 0x2a ∷ 0xaa ∷ 0x04 ∷ 0x03 ∷ 0x02 ∷ []
+    ∷ 0x29 ∷ 0xa9 ∷ 0x10 ∷ 0x2d ∷ 0xad ∷ 0x2e ∷ 0xae ∷ 0x30 ∷ 0xb0 ∷ 0x31 ∷ 0xb1 ∷ 0x32 ∷ 0xb3
+    ∷ 0x2a ∷ 0xaa ∷ 0x04 ∷ 0x03 ∷ 0x02 ∷ []
 
--- the rank of an entry is its place among theirs, 21 if it is none of an op
+-- the rank of an entry is its place among theirs, 255 if it is none of an op
 abbrev pub rankAmong : ℕ → List ℕ → ℕ
 rankAmong e [] = 0
 rankAmong e (k ∷ ks) = cond (eqb e (getD kindTable k 0)) 0 (suc (rankAmong e ks))
 
 unfoldable pub rankOf : ℕ → ℕ
-rankOf e = rankAmong e standsFor
+rankOf e = cond (noOp e) 255 (rankAmong e standsFor)
 
 unfoldable pub planAt : ℕ → ℕ
 planAt n = planOf (getD kindTable (getD standsFor n 0) 0)
@@ -110,13 +114,13 @@ abbrev pub straightEnd : ℕ
 straightEnd = 13
 
 abbrev pub flowRank : ℕ
-flowRank = 16
+flowRank = 26
 
 abbrev pub exitRank : ℕ
-exitRank = 18
+exitRank = 28
 
 abbrev pub settingRank : ℕ
-settingRank = 20
+settingRank = 30
 
 -- an op that directs the run has a label, unless it is exit_tb
 abbrev pub hasLabel : ℕ → Bool

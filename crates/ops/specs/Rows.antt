@@ -5,6 +5,8 @@ use mathlib.Core.List.{List, [], _∷_, _++_}
 use lib.Dec.{eqb, leb, ltb}
 use lib.ListN.{length, getD}
 use Rattle.memory.specs.Bytes.{lowFirst}
+use Rattle.word.specs.Fields.{fieldOk, positionOk}
+use Rattle.word.specs.Swaps.{swapFlagsOk, noFlagsOk}
 use Rattle.memory.specs.Access.{flagsOk}
 use Rattle.ops.specs.Limits.{labelCount}
 
@@ -19,7 +21,7 @@ unfoldable pub roleNo : ℕ → Role
 roleNo n = getD roles n unknown
 
 -- a row: the types of the outputs and of the inputs ("outputs first, in the order shown"), how many bytes follow them (a constant, a
--- condition, flags or a label), the number of their test, and the role. Types: 0 is 32 bits, 1 is 64 bits
+-- condition, flags, a position, a length or a label), the number of their test, and the role. Types: 0 is 32 bits, 1 is 64 bits
 pub record Row : Type 0 where
   pub outs : List ℕ
   pub ins : List ℕ
@@ -79,7 +81,7 @@ abbrev pub bodyOf : Row → ℕ
 bodyOf row = length (row .outs) + length (row .ins) + row .rest
 
 -- columns of a role, by its number: it is known; it is a pure op's, or one's that reads something ("An op of kinds 05 to 07 or 11 to 29
--- (either width)"); it ends the extended basic block ("Set_label, br and exit_tb end everything as before"); it sets a label; it may jump to one
+-- (either width)", and 2D to 36); it ends the extended basic block ("Set_label, br and exit_tb end everything as before"); it sets a label; it may jump to one
 abbrev pub numberOf : Role → ℕ
 numberOf unknown = 0
 numberOf declares = 1
@@ -156,8 +158,14 @@ testOk t bytes =
     (cond (eqb t 6) (flagsOk 32 true (at bytes 0))
     (cond (eqb t 7) (flagsOk 64 true (at bytes 0))
     (cond (eqb t 8) (ltb (lowFirst bytes 0 8) (2 ^ 32))
-    true)))))))
+    (cond (eqb t 9) (fieldOk 32 (at bytes 0) (at bytes 1))
+    (cond (eqb t 10) (fieldOk 64 (at bytes 0) (at bytes 1))
+    (cond (eqb t 11) (positionOk 32 (at bytes 0))
+    (cond (eqb t 12) (positionOk 64 (at bytes 0))
+    (cond (eqb t 13) (swapFlagsOk (at bytes 0))
+    (cond (eqb t 14) (noFlagsOk (at bytes 0))
+    true)))))))))))))
 
 -- how many bytes a test asks for
 abbrev pub asksFor : ℕ → ℕ
-asksFor t = cond (eqb t 0 || ltb 8 t) 0 (cond (eqb t 3) 2 (cond (eqb t 8) 8 1))
+asksFor t = cond (eqb t 0 || ltb 14 t) 0 (cond (eqb t 3 || (eqb t 9 || eqb t 10)) 2 (cond (eqb t 8) 8 1))

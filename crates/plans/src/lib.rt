@@ -2,26 +2,26 @@
 ghost use mathlib.Core.Path.{_≡_};
 ghost use lib.Dec.{eqb, ltb, leb};
 ghost use lib.ListN.{getD};
-ghost use Rattle.ops.specs.Plans.{rankTable, lengthTable, planAt, lengthIn, outAskIn, firstAskIn, secondAskIn, firstAtIn, secondAtIn, byteAtIn, byteAskIn, moreIn, straightEnd, flowRank, exitRank, settingRank, hasLabel};
+ghost use Rattle.ops.specs.Plans.{rankTable, lengthTable, planAt, lengthIn, outAskIn, firstAskIn, secondAskIn, firstAtIn, secondAtIn, byteAtIn, byteAskIn, moreIn, testAs, straightEnd, flowRank, exitRank, settingRank, hasLabel};
 
-// The rank of each kind; kinds with the same entry have the same, and 21 is no op's. The table is made where the loop over the ops starts, and a byte for a kind is soon made.
+// The rank of each kind; kinds with the same entry have the same, and 255 is no op's. The table is made where the loop over the ops starts, and a byte for a kind is soon made.
 const RANKS: [u8; 256] = [
-    21, // 00
-    21, // 01 declaration
-    20, // 02 set_label
-    19, // 03 br
-    18, // 04 exit_tb
+    255, // 00
+    255, // 01 declaration
+    30, // 02 set_label
+    29, // 03 br
+    28, // 04 exit_tb
     5, // 05 ext_i32_i64
     5, // 06 extu_i32_i64
     6, // 07 trunc_i64_i32
-    21, // 08
-    21, // 09
-    21, // 0a
-    21, // 0b
-    21, // 0c
-    21, // 0d
-    21, // 0e
-    21, // 0f
+    255, // 08
+    255, // 09
+    255, // 0a
+    255, // 0b
+    255, // 0c
+    255, // 0d
+    255, // 0e
+    255, // 0f
     15, // 10 movi_i32
     7, // 11 mov_i32
     7, // 12 neg_i32
@@ -48,108 +48,108 @@ const RANKS: [u8; 256] = [
     9, // 27 rotr_i32
     11, // 28 setcond_i32
     13, // 29 movcond_i32
-    16, // 2a brcond_i32
+    26, // 2a brcond_i32
     0, // 2b qemu_ld_i32
     2, // 2c qemu_st_i32
-    21, // 2d
-    21, // 2e
-    21, // 2f
-    21, // 30
-    21, // 31
-    21, // 32
-    21, // 33
-    21, // 34
-    21, // 35
-    21, // 36
-    21, // 37
-    21, // 38
-    21, // 39
-    21, // 3a
-    21, // 3b
-    21, // 3c
-    21, // 3d
-    21, // 3e
-    21, // 3f
-    21, // 40
-    21, // 41
-    21, // 42
-    21, // 43
-    21, // 44
-    21, // 45
-    21, // 46
-    21, // 47
-    21, // 48
-    21, // 49
-    21, // 4a
-    21, // 4b
-    21, // 4c
-    21, // 4d
-    21, // 4e
-    21, // 4f
-    21, // 50
-    21, // 51
-    21, // 52
-    21, // 53
-    21, // 54
-    21, // 55
-    21, // 56
-    21, // 57
-    21, // 58
-    21, // 59
-    21, // 5a
-    21, // 5b
-    21, // 5c
-    21, // 5d
-    21, // 5e
-    21, // 5f
-    21, // 60
-    21, // 61
-    21, // 62
-    21, // 63
-    21, // 64
-    21, // 65
-    21, // 66
-    21, // 67
-    21, // 68
-    21, // 69
-    21, // 6a
-    21, // 6b
-    21, // 6c
-    21, // 6d
-    21, // 6e
-    21, // 6f
-    21, // 70
-    21, // 71
-    21, // 72
-    21, // 73
-    21, // 74
-    21, // 75
-    21, // 76
-    21, // 77
-    21, // 78
-    21, // 79
-    21, // 7a
-    21, // 7b
-    21, // 7c
-    21, // 7d
-    21, // 7e
-    21, // 7f
-    21, // 80
-    21, // 81
-    21, // 82
-    21, // 83
-    21, // 84
-    21, // 85
-    21, // 86
-    21, // 87
-    21, // 88
-    21, // 89
-    21, // 8a
-    21, // 8b
-    21, // 8c
-    21, // 8d
-    21, // 8e
-    21, // 8f
+    16, // 2d deposit_i32
+    18, // 2e extract_i32
+    18, // 2f sextract_i32
+    20, // 30 extract2_i32
+    22, // 31 bswap16_i32
+    24, // 32 bswap32_i32
+    255, // 33
+    9, // 34 clz_i32
+    9, // 35 ctz_i32
+    7, // 36 ctpop_i32
+    255, // 37
+    255, // 38
+    255, // 39
+    255, // 3a
+    255, // 3b
+    255, // 3c
+    255, // 3d
+    255, // 3e
+    255, // 3f
+    255, // 40
+    255, // 41
+    255, // 42
+    255, // 43
+    255, // 44
+    255, // 45
+    255, // 46
+    255, // 47
+    255, // 48
+    255, // 49
+    255, // 4a
+    255, // 4b
+    255, // 4c
+    255, // 4d
+    255, // 4e
+    255, // 4f
+    255, // 50
+    255, // 51
+    255, // 52
+    255, // 53
+    255, // 54
+    255, // 55
+    255, // 56
+    255, // 57
+    255, // 58
+    255, // 59
+    255, // 5a
+    255, // 5b
+    255, // 5c
+    255, // 5d
+    255, // 5e
+    255, // 5f
+    255, // 60
+    255, // 61
+    255, // 62
+    255, // 63
+    255, // 64
+    255, // 65
+    255, // 66
+    255, // 67
+    255, // 68
+    255, // 69
+    255, // 6a
+    255, // 6b
+    255, // 6c
+    255, // 6d
+    255, // 6e
+    255, // 6f
+    255, // 70
+    255, // 71
+    255, // 72
+    255, // 73
+    255, // 74
+    255, // 75
+    255, // 76
+    255, // 77
+    255, // 78
+    255, // 79
+    255, // 7a
+    255, // 7b
+    255, // 7c
+    255, // 7d
+    255, // 7e
+    255, // 7f
+    255, // 80
+    255, // 81
+    255, // 82
+    255, // 83
+    255, // 84
+    255, // 85
+    255, // 86
+    255, // 87
+    255, // 88
+    255, // 89
+    255, // 8a
+    255, // 8b
+    255, // 8c
+    255, // 8d
+    255, // 8e
+    255, // 8f
     4, // 90 movi_i64
     8, // 91 mov_i64
     8, // 92 neg_i64
@@ -176,92 +176,92 @@ const RANKS: [u8; 256] = [
     10, // a7 rotr_i64
     12, // a8 setcond_i64
     14, // a9 movcond_i64
-    17, // aa brcond_i64
+    27, // aa brcond_i64
     1, // ab qemu_ld_i64
     3, // ac qemu_st_i64
-    21, // ad
-    21, // ae
-    21, // af
-    21, // b0
-    21, // b1
-    21, // b2
-    21, // b3
-    21, // b4
-    21, // b5
-    21, // b6
-    21, // b7
-    21, // b8
-    21, // b9
-    21, // ba
-    21, // bb
-    21, // bc
-    21, // bd
-    21, // be
-    21, // bf
-    21, // c0
-    21, // c1
-    21, // c2
-    21, // c3
-    21, // c4
-    21, // c5
-    21, // c6
-    21, // c7
-    21, // c8
-    21, // c9
-    21, // ca
-    21, // cb
-    21, // cc
-    21, // cd
-    21, // ce
-    21, // cf
-    21, // d0
-    21, // d1
-    21, // d2
-    21, // d3
-    21, // d4
-    21, // d5
-    21, // d6
-    21, // d7
-    21, // d8
-    21, // d9
-    21, // da
-    21, // db
-    21, // dc
-    21, // dd
-    21, // de
-    21, // df
-    21, // e0
-    21, // e1
-    21, // e2
-    21, // e3
-    21, // e4
-    21, // e5
-    21, // e6
-    21, // e7
-    21, // e8
-    21, // e9
-    21, // ea
-    21, // eb
-    21, // ec
-    21, // ed
-    21, // ee
-    21, // ef
-    21, // f0
-    21, // f1
-    21, // f2
-    21, // f3
-    21, // f4
-    21, // f5
-    21, // f6
-    21, // f7
-    21, // f8
-    21, // f9
-    21, // fa
-    21, // fb
-    21, // fc
-    21, // fd
-    21, // fe
-    21, // ff
+    17, // ad deposit_i64
+    19, // ae extract_i64
+    19, // af sextract_i64
+    21, // b0 extract2_i64
+    23, // b1 bswap16_i64
+    23, // b2 bswap32_i64
+    25, // b3 bswap64_i64
+    10, // b4 clz_i64
+    10, // b5 ctz_i64
+    8, // b6 ctpop_i64
+    255, // b7
+    255, // b8
+    255, // b9
+    255, // ba
+    255, // bb
+    255, // bc
+    255, // bd
+    255, // be
+    255, // bf
+    255, // c0
+    255, // c1
+    255, // c2
+    255, // c3
+    255, // c4
+    255, // c5
+    255, // c6
+    255, // c7
+    255, // c8
+    255, // c9
+    255, // ca
+    255, // cb
+    255, // cc
+    255, // cd
+    255, // ce
+    255, // cf
+    255, // d0
+    255, // d1
+    255, // d2
+    255, // d3
+    255, // d4
+    255, // d5
+    255, // d6
+    255, // d7
+    255, // d8
+    255, // d9
+    255, // da
+    255, // db
+    255, // dc
+    255, // dd
+    255, // de
+    255, // df
+    255, // e0
+    255, // e1
+    255, // e2
+    255, // e3
+    255, // e4
+    255, // e5
+    255, // e6
+    255, // e7
+    255, // e8
+    255, // e9
+    255, // ea
+    255, // eb
+    255, // ec
+    255, // ed
+    255, // ee
+    255, // ef
+    255, // f0
+    255, // f1
+    255, // f2
+    255, // f3
+    255, // f4
+    255, // f5
+    255, // f6
+    255, // f7
+    255, // f8
+    255, // f9
+    255, // fa
+    255, // fb
+    255, // fc
+    255, // fd
+    255, // fe
+    255, // ff
 ];
 
 // The length of the record of each kind, 15 if it is no op: by itself, since the next op's place waits for nothing else.
@@ -311,16 +311,16 @@ const LENGTHS: [u8; 256] = [
     5, // 2a brcond_i32
     4, // 2b qemu_ld_i32
     4, // 2c qemu_st_i32
-    15, // 2d
-    15, // 2e
-    15, // 2f
-    15, // 30
-    15, // 31
-    15, // 32
+    6, // 2d deposit_i32
+    5, // 2e extract_i32
+    5, // 2f sextract_i32
+    5, // 30 extract2_i32
+    4, // 31 bswap16_i32
+    4, // 32 bswap32_i32
     15, // 33
-    15, // 34
-    15, // 35
-    15, // 36
+    4, // 34 clz_i32
+    4, // 35 ctz_i32
+    3, // 36 ctpop_i32
     15, // 37
     15, // 38
     15, // 39
@@ -439,16 +439,16 @@ const LENGTHS: [u8; 256] = [
     5, // aa brcond_i64
     4, // ab qemu_ld_i64
     4, // ac qemu_st_i64
-    15, // ad
-    15, // ae
-    15, // af
-    15, // b0
-    15, // b1
-    15, // b2
-    15, // b3
-    15, // b4
-    15, // b5
-    15, // b6
+    6, // ad deposit_i64
+    5, // ae extract_i64
+    5, // af sextract_i64
+    5, // b0 extract2_i64
+    4, // b1 bswap16_i64
+    4, // b2 bswap32_i64
+    4, // b3 bswap64_i64
+    4, // b4 clz_i64
+    4, // b5 ctz_i64
+    3, // b6 ctpop_i64
     15, // b7
     15, // b8
     15, // b9
@@ -525,10 +525,10 @@ const LENGTHS: [u8; 256] = [
 ];
 
 // The first rank of an op that directs the run.
-const FLOW: u8 = 16;
+const FLOW: u8 = 26;
 
 // The rank of exit_tb.
-pub const EXIT: u8 = 18;
+pub const EXIT: u8 = 28;
 
 pub fn ranks() -> [u8; 256]
     ensures { λ r. ⌜ r ≡ rankTable ⌝ }
@@ -556,33 +556,43 @@ pub fn record_length(lengths: &[u8; 256], kind: u8) -> usize
 }
 
 // The plan of a rank, in bits from the lowest: 4 for the record's length, 15 if it is no op; 4, 5 and 5 for what the output, the first and the second input ask; 2 and 2 for where
-// these inputs stand; 3 for where the byte stands that is tested, and 8 for its test, a bit for the number; 2 for what else is asked. As a `match` it is one load from constant memory.
+// these inputs stand; 3 for where the byte stands that is tested, and 8 for its test, a bit for the number; 3 for what else is asked; 4 for the number of the test. As a `match` it is one load from constant memory.
 pub fn plan(rank: u8) -> u64
     ensures { λ r. ⌜ r ≡ planAt rank ⌝ }
 {
     match rank {
-        0 => 0x0_20ea5214, // qemu_ld_i32
-        1 => 0x0_40ea5224, // qemu_ld_i64
-        2 => 0x0_80e65104, // qemu_st_i32
-        3 => 0x1_00e65204, // qemu_st_i64
-        4 => 0x0_0014002a, // movi_i64
-        5 => 0x0_002a3123, // ext_i32_i64, extu_i32_i64
-        6 => 0x0_002a5213, // trunc_i64_i32
-        7 => 0x0_002a3113, // mov_i32, neg_i32, not_i32
-        8 => 0x0_002a5223, // mov_i64, neg_i64, not_i64
-        9 => 0x0_003a3114, // add_i32 to rotr_i32
-        10 => 0x0_003a5224, // add_i64 to rotr_i64
-        11 => 0x0_093a3115, // setcond_i32
-        12 => 0x0_093a5225, // setcond_i64
-        13 => 0x6_09ba3117, // movcond_i32
-        14 => 0x6_09ba5227, // movcond_i64
-        15 => 0x2_0014001a, // movi_i32
-        16 => 0x4_08e63105, // brcond_i32
-        17 => 0x4_08e65205, // brcond_i64
-        18 => 0x0_00165202, // exit_tb
-        19 => 0x4_00140002, // br
-        20 => 0x4_00140002, // set_label
-        _ => 0x0_0454000f,
+        0 => 0x40_20ea5214, // qemu_ld_i32
+        1 => 0x50_40ea5224, // qemu_ld_i64
+        2 => 0x60_80e65104, // qemu_st_i32
+        3 => 0x71_00e65204, // qemu_st_i64
+        4 => 0x00_0014002a, // movi_i64
+        5 => 0x00_002a3123, // ext_i32_i64, extu_i32_i64
+        6 => 0x00_002a5213, // trunc_i64_i32
+        7 => 0x00_002a3113, // mov_i32, neg_i32, not_i32, ctpop_i32
+        8 => 0x00_002a5223, // mov_i64, neg_i64, not_i64, ctpop_i64
+        9 => 0x00_003a3114, // add_i32 to rotr_i32, clz_i32, ctz_i32
+        10 => 0x00_003a5224, // add_i64 to rotr_i64, clz_i64, ctz_i64
+        11 => 0x20_093a3115, // setcond_i32
+        12 => 0x20_093a5225, // setcond_i64
+        13 => 0x26_09ba3117, // movcond_i32
+        14 => 0x26_09ba5227, // movcond_i64
+        15 => 0x82_0014001a, // movi_i32
+        16 => 0x98_013a3116, // deposit_i32
+        17 => 0xa8_013a5226, // deposit_i64
+        18 => 0x98_00ea3115, // extract_i32, sextract_i32
+        19 => 0xa8_00ea5225, // extract_i64, sextract_i64
+        20 => 0xb8_013a3115, // extract2_i32
+        21 => 0xc8_013a5225, // extract2_i64
+        22 => 0xd8_00ea3114, // bswap16_i32
+        23 => 0xd8_00ea5224, // bswap16_i64, bswap32_i64
+        24 => 0xe8_00ea3114, // bswap32_i32
+        25 => 0xe8_00ea5224, // bswap64_i64
+        26 => 0x34_08e63105, // brcond_i32
+        27 => 0x34_08e65205, // brcond_i64
+        28 => 0x00_00165202, // exit_tb
+        29 => 0x14_00140002, // br
+        30 => 0x14_00140002, // set_label
+        _ => 0x00_0454000f,
     }
 }
 
@@ -637,7 +647,14 @@ pub fn byte_ask(h: u64) -> u32
 pub fn more(h: u64) -> u32
     ensures { λ r. ⌜ r ≡ moreIn h ⌝ }
 {
-    (h / 8589934592 % 4) as u32
+    (h / 8589934592 % 8) as u32
+}
+
+// The number of the test of the bytes after the operands.
+pub fn test(h: u64) -> u32
+    ensures { λ r. ⌜ r ≡ testAs h ⌝ }
+{
+    (h / 68719476736 % 16) as u32
 }
 
 // Nothing else is asked of the op, and it goes on with the next.
@@ -672,5 +689,5 @@ pub fn labelled(rank: u8) -> bool
 pub fn sets(rank: u8) -> bool
     ensures { λ r. ⌜ r ≡ eqb rank settingRank ⌝ }
 {
-    rank == 20
+    rank == 30
 }

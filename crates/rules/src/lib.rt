@@ -12,6 +12,10 @@ ghost use Rattle.ops.specs.Plans.{ask};
 ghost use Rattle.block.specs.Checks.{firstBroken};
 ghost use Rattle.block.specs.Rules.{labelFree, allSet};
 ghost use Rattle.block.specs.Scan.{codesIn, declaredAll, meets, operandsFit, marked, numbered, opTests, entryRule};
+use immediates::field_ok;
+use immediates::no_flags_ok;
+use immediates::position_ok;
+use immediates::swap_flags_ok;
 use kinds::body_length;
 use kinds::is_jumping;
 use kinds::is_known;
@@ -89,7 +93,7 @@ fn branch_ok(c: u8, l: u8) -> bool
 }
 
 // Rule 6: the bytes that follow the operands, by the number of their test.
-fn rest_ok(t: u32, bytes: &[u8]) -> bool
+pub fn rest_ok(t: u32, bytes: &[u8]) -> bool
     ensures { λ r. ⌜ r ≡ testOk t (now (bytes .entry)) ⌝ }
 {
     match t {
@@ -101,6 +105,12 @@ fn rest_ok(t: u32, bytes: &[u8]) -> bool
         6 => flags_ok(byte_at(bytes, 0), false, true),
         7 => flags_ok(byte_at(bytes, 0), true, true),
         8 => from_little_endian(bytes) < 0x1_0000_0000,
+        9 => field_ok(32, byte_at(bytes, 0), byte_at(bytes, 1)),
+        10 => field_ok(64, byte_at(bytes, 0), byte_at(bytes, 1)),
+        11 => position_ok(32, byte_at(bytes, 0)),
+        12 => position_ok(64, byte_at(bytes, 0)),
+        13 => swap_flags_ok(byte_at(bytes, 0)),
+        14 => no_flags_ok(byte_at(bytes, 0)),
         _ => true,
     }
 }

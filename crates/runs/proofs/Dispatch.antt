@@ -1,5 +1,5 @@
 -- What the kinds that a step tells apart are, by computed tests over the table. Assumes nothing.
-use mathlib.Core.Path.{_≡_, refl, sym, ap, ap₂, _∙_, subst}
+use mathlib.Core.Path.{_≡_, refl, sym, ap, _∙_, subst}
 use mathlib.Core.Bool.{Bool, true, false, _&&_, _||_}
 use mathlib.Core.List.{List}
 use mathlib.Core.Logic.{⊎-elim, _⊎_, inl, inr}
@@ -8,21 +8,24 @@ use native.Mathlib.Omega.{arith}
 use lib.Dec.{eqb, ltb}
 use lib.ListN.{length, getD}
 use borrow.Author.Tests.{ltb-true, ne-eqb}
-use Rattle.theory.proofs.Sets.{and-l, and-r, clash}
+use Rattle.theory.proofs.Sets.{and-l, and-r}
 use Rattle.ops.specs.Rows.{Role, setsLabel, jumpsTo, exits, branches, loads, stores, constant, computing, roleNo, tableOf, isComputing, numberOf, roleOf, bodyLength}
 use Rattle.ops.specs.Kinds.{between}
 use Rattle.ops.specs.Table.{kindTable, rowOf}
-use Rattle.ops.specs.Folds.{foldableRow}
-use Rattle.ops.proofs.Inputs.{outside, foldable-kinds}
-use Rattle.ops.proofs.Ranges.{everyFrom, ranged}
-use Rattle.ops.proofs.Table.{number-of, row-of, same-number}
+use Rattle.ops.proofs.Inputs.{outside}
+use Rattle.ops.proofs.Ranges.{everyFrom, ranged, agreed}
+use Rattle.ops.proofs.Table.{number-of, same-number}
 use Rattle.block.specs.Scan.{Stands}
 use Rattle.runs.specs.Evaluates.{Computed}
 use Rattle.runs.specs.Steps.{nextAt, plainKind}
 
 -- the kinds that compute
 abbrev pub computes : ℕ → Bool
-computes k = between 0x05 0x07 k || (between 0x11 0x29 k || between 0x91 0xA9 k)
+computes k = between 0x05 0x07 k || (between 0x11 0x29 k || (between 0x91 0xA9 k || (between 0x2D 0x32 k || (between 0x34 0x36 k || between 0xAD 0xB6 k))))
+
+computes-so : (k : ℕ) → k < 256 → isComputing (roleOf rowOf k) ≡ computes k
+unfolding tableOf kindTable roleNo
+computes-so = agreed (λ k. isComputing (roleOf rowOf k)) computes 256 refl
 
 computing-only : (r : Role) → isComputing r ≡ true → r ≡ computing
 computing-only r h = same-number r computing (omega (arith, ltb-true 8 (numberOf r) h, (number-of r) .1))
@@ -34,7 +37,7 @@ module _ {b : List ℕ} {p kind k : ℕ} (s : Stands rowOf b p kind) (e : kind �
       let small : k < 256 = ltb-true k 256 (and-l (ltb k 256) (computes k) t) in
       record {
         stands = subst (Stands rowOf b p) e s;
-        role-is = computing-only (roleOf rowOf k) (and-l (isComputing (roleOf rowOf k)) _ (foldable-kinds k small ∙ and-r (ltb k 256) (computes k) t));
+        role-is = computing-only (roleOf rowOf k) (computes-so k small ∙ and-r (ltb k 256) (computes k) t);
       }
 
 -- what a match on n numbers from lo leaves over, of what was left before
@@ -53,22 +56,26 @@ before B lo (suc n) k (r, e) = before B lo n k r
 pub not-between : (B : Type 0) (lo n k : ℕ) → Past B lo (suc n) k → between lo (lo + n) k ≡ false
 not-between B lo n k r = outside lo (lo + n) k (λ l h. past B lo (suc n) k r l (omega arith))
 
--- of the narrow kinds
+-- of the narrow kinds, and of the wide
 pub not-narrow : (k : ℕ) → Past (Past (Unit {0}) 0x05 3 k) 0x11 25 k → (between 0x05 0x07 k ≡ false) × (between 0x11 0x29 k ≡ false)
 not-narrow k r = (not-between (Unit {0}) 0x05 2 k (before (Past (Unit {0}) 0x05 3 k) 0x11 25 k r), not-between (Past (Unit {0}) 0x05 3 k) 0x11 24 k r)
 
--- and of the wide: a plain kind that is none of them is no op's
-pub no-op : (k : ℕ) → k < 256 → plainKind k ≡ true → between 0x05 0x07 k ≡ false → between 0x11 0x29 k ≡ false → Past (Unit {0}) 0x91 25 k → numberOf (roleOf rowOf k) < 2
-no-op k small t l m r = go (isComputing (roleOf rowOf k)) refl t
-  where
-    never : foldableRow (rowOf k) ≡ false
-    never = foldable-kinds k small ∙ rw (l, m, not-between (Unit {0}) 0x91 24 k r)
+pub not-wide : (k : ℕ) → Past (Unit {0}) 0x91 25 k → between 0x91 0xA9 k ≡ false
+not-wide k r = not-between (Unit {0}) 0x91 24 k r
 
-    go : (x : Bool) → isComputing (roleOf rowOf k) ≡ x → (x || ltb (numberOf (roleOf rowOf k)) 2) ≡ true → numberOf (roleOf rowOf k) < 2
-    go true e q =
-        let role : roleOf rowOf k ≡ computing = computing-only (roleOf rowOf k) e in
-        clash (foldableRow (rowOf k)) (ap₂ (λ (r : Role) (outs : ℕ). isComputing r && eqb outs 1) role (ap length ((row-of computing k role) .one-out))) never
-    go false e q = ltb-true (numberOf (roleOf rowOf k)) 2 q
+-- what is left does not compute
+pub computes-not : (k : ℕ) → k < 256 → between 0x05 0x07 k ≡ false → between 0x11 0x29 k ≡ false → between 0x91 0xA9 k ≡ false
+    → Past (Past (Past (Unit {0}) 0x2D 6 k) 0x34 3 k) 0xAD 10 k → isComputing (roleOf rowOf k) ≡ false
+computes-not k small l m n r =
+    let fields = Past (Unit {0}) 0x2D 6 k in
+    let low = Past fields 0x34 3 k in
+    let r₁ : low = before low 0xAD 10 k r in
+    computes-so k small
+    ∙ rw (l, m, n, not-between (Unit {0}) 0x2D 5 k (before fields 0x34 3 k r₁), not-between fields 0x34 2 k r₁, not-between low 0xAD 9 k r)
+
+-- a plain kind that does not compute is no op's
+pub no-op : (k : ℕ) → plainKind k ≡ true → isComputing (roleOf rowOf k) ≡ false → numberOf (roleOf rowOf k) < 2
+no-op k t f = ltb-true (numberOf (roleOf rowOf k)) 2 (rw f at t)
 
 -- the kinds that do not compute, by role
 module _ {k : ℕ} where

@@ -1,9 +1,9 @@
 -- A pure op states what eval answers. Assumes nothing.
 use mathlib.Core.Path.{_≡_, refl, sym, ap, ap₂, _∙_}
-use mathlib.Core.Bool.{true, _&&_}
+use mathlib.Core.Bool.{true, false, _&&_}
 use mathlib.Core.Option.{Option, none, some}
 use mathlib.Core.List.{List}
-use Prim.Native.Nat.{ℕ, suc, _+_, _-_, _≤_}
+use Prim.Native.Nat.{ℕ, suc, _+_, _-_, _%_, _≤_}
 use native.Mathlib.Omega.{arith}
 use lib.Dec.{eqb}
 use lib.ListN.{length, getD, take, drop}
@@ -17,7 +17,7 @@ use Rattle.ops.specs.Table.{kindTable, rowOf}
 use Rattle.ops.specs.Rows.{operandCount}
 use Rattle.ops.specs.Ops.{evalOf}
 use Rattle.ops.proofs.Entry.{Digits, digits}
-use Rattle.ops.proofs.Inputs.{folded-inputs}
+use Rattle.ops.proofs.Inputs.{folded-inputs, two-inputs}
 use Rattle.ops.proofs.Table.{row-of}
 use Rattle.ops.specs.Folds.{foldableRow}
 use Rattle.runs.specs.Evaluates.{Computed, inputsAt, statesAt, valuesOf}
@@ -53,3 +53,9 @@ module _ {b : List ℕ} {p k : ℕ} (c : Computed b p k) {e n m : ℕ} (q : e �
       ap (λ (s : List ℕ). evalOf document01 k s (reads env (inputsAt b p k))) (sym (take-take rest rest (drop (p + (1 + operandCount rowOf k)) b) (omega arith)))
       ∙ folded-inputs k folds env b bytes (p + 2)
       ∙ rw (e₃, e₂, e₁, ← eu, ← ev, ← ex, ← ey, ← same) (one-stated (foldedOf k (take (p + 1 + n + m - (p + 1 + n)) (drop (p + 1 + n) b)) u v x y) ∙ ap valuesOf (sym e))
+
+  -- and but for movcond, of the first two values alone
+  pub evaluates-two : (env : ℕ → ℕ) {u v : ℕ} {r : Stated} → eqb (k % 0x80) 0x29 ≡ false → u ≡ env (at b (p + 2)) → v ≡ env (at b (p + 3))
+      → r ≡ statedOf (foldedOf k (take (p + 1 + n + m - (p + 1 + n)) (drop (p + 1 + n) b)) u v 0 0) → statesAt b p k (reads env (inputsAt b p k)) ≡ valuesOf r
+  evaluates-two env {u} {v} four eu ev e =
+      evaluates env eu ev refl refl (e ∙ ap statedOf (two-inputs k four (take (p + 1 + n + m - (p + 1 + n)) (drop (p + 1 + n) b)) u v 0 0 (env (at b (p + 4))) (env (at b (p + 5)))))

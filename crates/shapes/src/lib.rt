@@ -57,16 +57,16 @@ const SHAPES: [u16; 256] = [
     0x5220, // 2a brcond_i32
     0x6111, // 2b qemu_ld_i32
     0x7120, // 2c qemu_st_i32
-    0x0000, // 2d
-    0x0000, // 2e
-    0x0000, // 2f
-    0x0000, // 30
-    0x0000, // 31
-    0x0000, // 32
+    0x9221, // 2d deposit_i32
+    0x9211, // 2e extract_i32
+    0x9211, // 2f sextract_i32
+    0x9121, // 30 extract2_i32
+    0x9111, // 31 bswap16_i32
+    0x9111, // 32 bswap32_i32
     0x0000, // 33
-    0x0000, // 34
-    0x0000, // 35
-    0x0000, // 36
+    0x9021, // 34 clz_i32
+    0x9021, // 35 ctz_i32
+    0x9011, // 36 ctpop_i32
     0x0000, // 37
     0x0000, // 38
     0x0000, // 39
@@ -185,16 +185,16 @@ const SHAPES: [u16; 256] = [
     0x5224, // aa brcond_i64
     0x6115, // ab qemu_ld_i64
     0x7124, // ac qemu_st_i64
-    0x0000, // ad
-    0x0000, // ae
-    0x0000, // af
-    0x0000, // b0
-    0x0000, // b1
-    0x0000, // b2
-    0x0000, // b3
-    0x0000, // b4
-    0x0000, // b5
-    0x0000, // b6
+    0x9225, // ad deposit_i64
+    0x9215, // ae extract_i64
+    0x9215, // af sextract_i64
+    0x9125, // b0 extract2_i64
+    0x9115, // b1 bswap16_i64
+    0x9115, // b2 bswap32_i64
+    0x9115, // b3 bswap64_i64
+    0x9025, // b4 clz_i64
+    0x9025, // b5 ctz_i64
+    0x9015, // b6 ctpop_i64
     0x0000, // b7
     0x0000, // b8
     0x0000, // b9

@@ -1,4 +1,4 @@
-// One op run: what it does to the globals, the temporaries and the memory, and how the run goes on.
+// One op that does not compute: what it does to the globals, the temporaries and the memory, and how the run goes on.
 ghost use mathlib.Core.Path.{_≡_};
 ghost use Prim.Native.Nat.{_+_, _≤_, _<_, _%_, _^_};
 ghost use lib.ListN.{length};
@@ -6,11 +6,12 @@ ghost use Rattle.word.specs.Condition.{condW};
 ghost use Rattle.memory.specs.Answer.{accessWidth};
 ghost use Rattle.ops.specs.Ops.{viewOf};
 ghost use Rattle.ops.specs.Kinds.{document01};
-ghost use Rattle.ops.specs.Table.{kindTable, rowOf};
+ghost use mathlib.Core.Bool.{false};
+ghost use Rattle.ops.specs.Rows.{isComputing, roleOf};
+ghost use Rattle.ops.specs.Table.{rowOf};
 ghost use Rattle.block.specs.Scan.{recordAt, Stands};
 ghost use Rattle.runs.specs.Evaluates.{envOf};
 ghost use Rattle.runs.specs.Steps.{stateOf, Performs, PerformsAlone, nextAt, branchOp, loadOp, storeOp, constantOp};
-use compute::narrow_op;
 use kinds::is_wide;
 use memory::Loaded;
 use memory::from_little_endian;
@@ -119,9 +120,8 @@ fn constant_step(block: &[u8], at: usize, globals: &mut [u64], temps: &mut [u64;
     Outcome::Falls(next)
 }
 
-// Runs the op of this kind that starts at a place. A record that is no op exits with 0.
-pub fn step(
-    kinds: &[u32; 256],
+// Runs an op that does not compute. A record that is no op exits with 0.
+pub fn other_step(
     block: &[u8],
     at: usize,
     kind: u8,
@@ -129,7 +129,7 @@ pub fn step(
     temps: &mut [u64; 256],
     memory: &mut [u8],
 ) -> Outcome
-    requires { ⌜ Stands rowOf (now block) at kind × (now kinds ≡ kindTable) ⌝ }
+    requires { ⌜ Stands rowOf (now block) at kind × (isComputing (roleOf rowOf kind) ≡ false) ⌝ }
     ensures { λ r. ⌜ Performs (viewOf document01 (recordAt rowOf (now (block .entry)) at)) (nextAt (now (block .entry)) at) (stateOf (now (globals .entry)) (now (temps .entry)) (now (memory .entry))) (stateOf (now (globals .exit)) (now (temps .exit)) (now (memory .exit))) r ⌝ }
 {
     match kind {
@@ -140,6 +140,6 @@ pub fn step(
         0x02 => Outcome::Falls(at + 2),
         0x03 => Outcome::JumpsTo(block[at + 1]),
         0x04 => Outcome::Stops(Stop::Leaves(get(globals, temps, block[at + 1]))),
-        _ => narrow_op(kinds, block, at, kind, globals, temps),
+        _ => Outcome::Stops(Stop::Leaves(0)),
     }
 }

@@ -1,6 +1,7 @@
 // The values of the variables, in the lent globals and in an array of temporaries, and what a pure op states of them.
 ghost use mathlib.Core.Path.{_≡_};
-ghost use Prim.Native.Nat.{_+_, _<_};
+ghost use Prim.Native.Nat.{_+_, _%_, _<_};
+ghost use lib.Dec.{eqb};
 ghost use lib.ListN.{length, getD, set};
 ghost use Rattle.block.specs.Scan.{SetAt};
 ghost use Rattle.runs.specs.Evaluates.{envOf, PutAt, Computed, inputsAt, statesAt, valuesOf};
@@ -56,6 +57,13 @@ fn input(block: &[u8], i: usize, globals: &[u64], temps: &[u64; 256]) -> u64
     get(globals, temps, byte_at(block, i))
 }
 
+// movcond has four inputs, every other kind that computes two at most.
+fn reads_four(kind: u8) -> bool
+    ensures { λ r. ⌜ r ≡ eqb (kind % 0x80) 0x29 ⌝ }
+{
+    kind % 0x80 == 0x29
+}
+
 // What the op of this kind, with so many operands and so many bytes after them, states of its inputs and these bytes.
 pub fn evaluate(
     operands: usize,
@@ -71,9 +79,12 @@ pub fn evaluate(
 {
     let a = input(block, at + 2, globals, temps);
     let b = input(block, at + 3, globals, temps);
-    let x = input(block, at + 4, globals, temps);
-    let y = input(block, at + 5, globals, temps);
     let p = at + 1 + operands;
     let end = p + rest;
-    eval(kind, &block[p..end], a, b, x, y)
+    if reads_four(kind) {
+        let x = input(block, at + 4, globals, temps);
+        let y = input(block, at + 5, globals, temps);
+        return eval(kind, &block[p..end], a, b, x, y);
+    }
+    eval(kind, &block[p..end], a, b, 0, 0)
 }

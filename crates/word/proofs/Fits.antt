@@ -125,10 +125,10 @@ extend-fits f w a l h =
     cond-told (λ (n : ℕ). n < 2 ^ w) (ltb a (2 ^ (f - 1))) (λ e. omega arith) (λ e. omega arith)
 
 -- a stated result is the one computed
-stated : (x y : ℕ) → some x ≡ some y → y ≡ x
+pub stated : (x y : ℕ) → some x ≡ some y → y ≡ x
 stated x y e = cc
 
-unstated : {A : Type 0} (y : ℕ) → none ≡ some y → A
+pub unstated : {A : Type 0} (y : ℕ) → none ≡ some y → A
 unstated y e = let z : _≡_ {A = ℕ} 0 1 = cc in absurd (omega arith)
 
 pub divisor-states : (b x y : ℕ) → byDivisor b x ≡ some y → y ≡ x

@@ -4,9 +4,11 @@ use mathlib.Core.Bool.{false, true, _&&_}
 use Prim.Native.Nat.{ℕ, _^_}
 use lib.Dec.{ltb}
 use borrow.Author.Needs.{needs}
+use Rattle.word.specs.Fields.{fieldOk, positionOk}
+use Rattle.word.specs.Swaps.{swapFlagsOk, noFlagsOk}
 use Rattle.memory.specs.Access.{flagsOk}
 use Rattle.ops.specs.Rows.{condOk, labelOk}
-use Rattle.block.proofs.Rests.{test-1, test-2, test-3, test-4, test-5, test-6, test-7, test-8, no-test}
+use Rattle.block.proofs.Rests.{test-1, test-2, test-3, test-4, test-5, test-6, test-7, test-8, test-9, test-10, test-11, test-12, test-13, test-14, no-test}
 use Rattle.rules.proofs.rest_ok.Statement.{statement}
 use Rattle.rules.proofs.rest_ok.Tie as tie
 
@@ -37,10 +39,29 @@ returns-8 : tie.Need-returns-8
 returns-8 c = ap (λ (x : ℕ). ltb x (2 ^ 32)) (c .from-little-endian .ensures) ∙ sym (test-8 _ (c .before .match .keys8))
 
 returns-9 : tie.Need-returns-9
-returns-9 c = no-test _ (c .match .rest)
+returns-9 c =
+    c .field-ok .ensures ∙ ap₂ (fieldOk 32) (c .before .before .byte-at9 .ensures) (c .before .byte-at10 .ensures) ∙ sym (test-9 _ (c .before .before .before .match .keys9))
+
+returns-10 : tie.Need-returns-10
+returns-10 c =
+    c .field-ok2 .ensures ∙ ap₂ (fieldOk 64) (c .before .before .byte-at11 .ensures) (c .before .byte-at12 .ensures) ∙ sym (test-10 _ (c .before .before .before .match .keys10))
+
+returns-11 : tie.Need-returns-11
+returns-11 c = c .position-ok .ensures ∙ ap (positionOk 32) (c .before .byte-at13 .ensures) ∙ sym (test-11 _ (c .before .before .match .keys11))
+
+returns-12 : tie.Need-returns-12
+returns-12 c = c .position-ok2 .ensures ∙ ap (positionOk 64) (c .before .byte-at14 .ensures) ∙ sym (test-12 _ (c .before .before .match .keys12))
+
+returns-13 : tie.Need-returns-13
+returns-13 c = c .swap-flags-ok .ensures ∙ ap swapFlagsOk (c .before .byte-at15 .ensures) ∙ sym (test-13 _ (c .before .before .match .keys13))
+
+returns-14 : tie.Need-returns-14
+returns-14 c = c .no-flags-ok .ensures ∙ ap noFlagsOk (c .before .byte-at16 .ensures) ∙ sym (test-14 _ (c .before .before .match .keys14))
+
+returns-15 : tie.Need-returns-15
+returns-15 c = no-test _ (c .match .rest)
 
 pub rest-ok-spec : {M : Type 1} → statement M
 rest-ok-spec =
     tie.close
-    (tie.spec (λ c κs. search needs) (λ c κs. search needs) (λ c κs. search needs) (λ c κs. search needs) (λ c κs. search needs) (λ c κs. search needs) (λ c κs. search needs) (λ c κs. search needs)
-    (λ c κs. search needs) (λ c κs. search needs) (λ c κs. search needs) (λ c κs. search needs) (λ c κs. search needs) (λ c κs. search needs) returns returns-2 returns-3 returns-4 returns-5 returns-6 returns-7 returns-8 returns-9)
+    (tie.spec (λ c κs. search needs) (λ c κs. search needs) (λ c κs. search needs) (λ c κs. search needs) (λ c κs. search needs) (λ c κs. search needs) (λ c κs. search needs) (λ c κs. search needs) (λ c κs. search needs) (λ c κs. search needs) (λ c κs. search needs) (λ c κs. search needs) (λ c κs. search needs) (λ c κs. search needs) (λ c κs. search needs) (λ c κs. search needs) (λ c κs. search needs) (λ c κs. search needs) (λ c κs. search needs) (λ c κs. search needs) (λ c κs. search needs) (λ c κs. search needs) (λ c κs. search needs) (λ c κs. search needs) (λ c κs. search needs) (λ c κs. search needs) (λ c κs. search needs) (λ c κs. search needs) returns returns-2 returns-3 returns-4 returns-5 returns-6 returns-7 returns-8 returns-9 returns-10 returns-11 returns-12 returns-13 returns-14 returns-15)
