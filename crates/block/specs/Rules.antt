@@ -59,7 +59,7 @@ haveTypes types (v ∷ vs) (t ∷ ts) = eqb (getD types v 0) t && haveTypes type
 unfoldable pub rule5 : Table → Seen → List ℕ → Bool
 rule5 T s r = haveTypes (s .types) (operandsOf T r) ((rowAt T r) .outs ++ (rowAt T r) .ins)
 
--- 6: "cond above 9, bad flags, label above 31, 32-bit movi of 2^32 or more"
+-- 6: "cond above 9, bad flags, label above 31, 32-bit movi of 2^32 or more"; and of fields and swaps: "Breaches get refusal 6."
 unfoldable pub rule6 : Table → Seen → List ℕ → Bool
 rule6 T s r = testOk ((rowAt T r) .test) (restBy (rowAt T r) r)
 

@@ -231,7 +231,7 @@ threeFit h block place vars =
 unfoldable pub byteOk : ℕ → ℕ → Bool
 byteOk t x = not (eqb t 1) && testOk t (x ∷ [])
 
--- the tests that refuse a byte, a bit for the number of each; and those of all bytes from x on
+-- the tests up to 7 that refuse a byte, a bit for the number of each; and those of all bytes from x on
 abbrev pub refusedBy : ℕ → ℕ → ℕ
 refusedBy t x = cond (byteOk t x) 0 (2 ^ t)
 

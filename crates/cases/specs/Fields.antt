@@ -83,11 +83,12 @@ FieldCases =
     )
     ≡ true
 
--- OZ, OS with the sign bit clear and set; IZ with an input that is zero-extended and one that is not
+-- OZ and OS, each with the sign bit of the swapped bytes clear and set; IZ with an input that is zero-extended and one that is not
 unfoldable pub SwapCases : Type 0
 SwapCases =
     (
     gives 0x31 (0x2 ∷ []) (0x12348001 ∷ []) 0x180
+    && gives 0x31 (0x2 ∷ []) (0x12340180 ∷ []) 0x8001
     && gives 0x31 (0x4 ∷ []) (0x12340180 ∷ []) 0xFFFF8001
     && gives 0x31 (0x4 ∷ []) (0x12348001 ∷ []) 0x180
     && gives 0x31 (0x3 ∷ []) (0x8001 ∷ []) 0x180
@@ -95,6 +96,7 @@ SwapCases =
     && unstated 0x31 (0x3 ∷ []) (0x18001 ∷ [])
     && unstated 0x31 (0x5 ∷ []) (0x18001 ∷ [])
     && gives 0xB1 (0x2 ∷ []) (0x12348001 ∷ []) 0x180
+    && gives 0xB1 (0x2 ∷ []) (0x12340180 ∷ []) 0x8001
     && gives 0xB1 (0x4 ∷ []) (0x12340180 ∷ []) 0xFFFFFFFFFFFF8001
     && gives 0xB1 (0x4 ∷ []) (0x12348001 ∷ []) 0x180
     && gives 0xB1 (0x3 ∷ []) (0x8001 ∷ []) 0x180
@@ -103,6 +105,7 @@ SwapCases =
     && unstated 0xB1 (0x5 ∷ []) (0x18001 ∷ [])
     && gives 0x32 (0x0 ∷ []) (0x80F00F01 ∷ []) 0x10FF080
     && gives 0xB2 (0x2 ∷ []) (0x1234567880000001 ∷ []) 0x1000080
+    && gives 0xB2 (0x2 ∷ []) (0x1234567801020380 ∷ []) 0x80030201
     && gives 0xB2 (0x4 ∷ []) (0x1234567801020380 ∷ []) 0xFFFFFFFF80030201
     && gives 0xB2 (0x4 ∷ []) (0x1234567880000001 ∷ []) 0x1000080
     && gives 0xB2 (0x3 ∷ []) (0x80000001 ∷ []) 0x1000080
@@ -150,9 +153,12 @@ CountCases =
     )
     ≡ true
 
--- an op on v0 and v1, at 15, and what the check says of it
+-- an op on v0 and v1, at 15, and what the check says of it; the same with 32-bit globals, at 9, where v2 has 64 bits
 abbrev pub checked : List ℕ → List ℕ
 checked op = declared5 ++ op ++ exit 0x00
+
+abbrev pub checked32 : List ℕ → List ℕ
+checked32 op = (0x01 ∷ 0x00 ∷ 0x00 ∷ 0x01 ∷ 0x00 ∷ 0x00 ∷ 0x01 ∷ 0x00 ∷ 0x01 ∷ []) ++ op ++ exit 0x02
 
 -- both sides of each limit: length 0 and 1, the end at the width and one past it; extract2 at the width and one past it; "exactly one of OZ and OS", zero flags; no bswap64_i32
 unfoldable pub FieldLimits : Type 0
@@ -171,7 +177,22 @@ FieldLimits =
     × (checkOf (checked (0xB2 ∷ 0x00 ∷ 0x01 ∷ 6 ∷ [])) ≡ Refused 6 15)
     × (checkOf (checked (0xB3 ∷ 0x00 ∷ 0x01 ∷ 0 ∷ [])) ≡ Accepted)
     × (checkOf (checked (0xB3 ∷ 0x00 ∷ 0x01 ∷ 1 ∷ [])) ≡ Refused 6 15)
+    × (checkOf (checked (0xB1 ∷ 0x00 ∷ 0x01 ∷ 0x0A ∷ [])) ≡ Refused 6 15)
     × (checkOf (checked (0x33 ∷ 0x00 ∷ 0x01 ∷ 0 ∷ [])) ≡ Refused 2 15)
+
+unfoldable pub NarrowLimits : Type 0
+NarrowLimits =
+    (checkOf (checked32 (0x2D ∷ 0x00 ∷ 0x00 ∷ 0x01 ∷ 0 ∷ 32 ∷ [])) ≡ Accepted)
+    × (checkOf (checked32 (0x2D ∷ 0x00 ∷ 0x00 ∷ 0x01 ∷ 31 ∷ 2 ∷ [])) ≡ Refused 6 9)
+    × (checkOf (checked32 (0x2E ∷ 0x00 ∷ 0x01 ∷ 31 ∷ 1 ∷ [])) ≡ Accepted)
+    × (checkOf (checked32 (0x2F ∷ 0x00 ∷ 0x01 ∷ 0 ∷ 33 ∷ [])) ≡ Refused 6 9)
+    × (checkOf (checked32 (0x2F ∷ 0x00 ∷ 0x01 ∷ 5 ∷ 0 ∷ [])) ≡ Refused 6 9)
+    × (checkOf (checked32 (0x30 ∷ 0x00 ∷ 0x00 ∷ 0x01 ∷ 32 ∷ [])) ≡ Accepted)
+    × (checkOf (checked32 (0x30 ∷ 0x00 ∷ 0x00 ∷ 0x01 ∷ 33 ∷ [])) ≡ Refused 6 9)
+    × (checkOf (checked32 (0x31 ∷ 0x00 ∷ 0x01 ∷ 4 ∷ [])) ≡ Accepted)
+    × (checkOf (checked32 (0x31 ∷ 0x00 ∷ 0x01 ∷ 7 ∷ [])) ≡ Refused 6 9)
+    × (checkOf (checked32 (0x32 ∷ 0x00 ∷ 0x01 ∷ 0 ∷ [])) ≡ Accepted)
+    × (checkOf (checked32 (0x32 ∷ 0x00 ∷ 0x01 ∷ 2 ∷ [])) ≡ Refused 6 9)
 
 -- v3 := 5; v0 := the field of v1 at 8, 4 replaced by v3, which stays: v1 is not known; v4 := the swapped bytes of v3, folded; v1 := the leading zeros of v4
 unfoldable pub fieldBlock : List ℕ
@@ -187,10 +208,15 @@ FieldBlock =
     × (runOf fieldBlock (1 ∷ 0xFFFF ∷ []) [] ≡ ranAs (Exit 0xF5FF 5) (0xF5FF ∷ 0x35 ∷ []) [])
     × (runOf fieldResult (1 ∷ 0xFFFF ∷ []) [] ≡ ranAs (Exit 0xF5FF 4) (0xF5FF ∷ 0x35 ∷ []) [])
 
--- "With IZ set and an input that is not zero-extended, no result is stated": v0 := v1 swapped; the run stops before it, and nothing is folded where v3 is known
+-- "With IZ set and an input that is not zero-extended, no result is stated": v0 := v1 swapped; the run stops before it
 unfoldable pub notExtended : List ℕ
 notExtended = declared5 ++ (0xB1 ∷ 0x00 ∷ 0x01 ∷ 3 ∷ []) ++ exit 0x00
 
+-- v3 := 0x10000; v0 := v3 swapped, which is not folded though v3 is known
+unfoldable pub knownNotExtended : List ℕ
+knownNotExtended = declared5 ++ (0x90 ∷ 0x03 ∷ 0 ∷ 0 ∷ 1 ∷ 0 ∷ 0 ∷ 0 ∷ 0 ∷ 0 ∷ []) ++ (0xB1 ∷ 0x00 ∷ 0x03 ∷ 3 ∷ []) ++ exit 0x00
+
 unfoldable pub NotExtended : Type 0
 NotExtended =
-    (runOf notExtended (7 ∷ 0x10000 ∷ []) [] ≡ ranAs (NoResult 0 0) (7 ∷ 0x10000 ∷ []) []) × (runOf notExtended (7 ∷ 0xFFFE ∷ []) [] ≡ ranAs (Exit 0xFEFF 2) (0xFEFF ∷ 0xFFFE ∷ []) [])
+    Gives knownNotExtended knownNotExtended
+    × (runOf notExtended (7 ∷ 0x10000 ∷ []) [] ≡ ranAs (NoResult 0 0) (7 ∷ 0x10000 ∷ []) []) × (runOf notExtended (7 ∷ 0xFFFE ∷ []) [] ≡ ranAs (Exit 0xFEFF 2) (0xFEFF ∷ 0xFFFE ∷ []) [])

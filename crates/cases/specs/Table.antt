@@ -40,14 +40,6 @@ lengthRow k =
     && given (either 0x2E 0x30 k) (bodyLength rowOf k) 4
     && given (either 0x31 0x32 k || (eqb k 0xB3 || either 0x34 0x35 k)) (bodyLength rowOf k) 3
     && given (either 0x36 0x36 k) (bodyLength rowOf k) 2
-    && given (either 0x2D 0x2D k) (bodyLength rowOf k) 5
-    && given (either 0x2E 0x30 k) (bodyLength rowOf k) 4
-    && given (either 0x31 0x32 k || (eqb k 0xB3 || either 0x34 0x35 k)) (bodyLength rowOf k) 3
-    && given (either 0x36 0x36 k) (bodyLength rowOf k) 2
-    && given (either 0x2D 0x2D k) (bodyLength rowOf k) 5
-    && given (either 0x2E 0x30 k) (bodyLength rowOf k) 4
-    && given (either 0x31 0x32 k || (eqb k 0xB3 || either 0x34 0x35 k)) (bodyLength rowOf k) 3
-    && given (either 0x36 0x36 k) (bodyLength rowOf k) 2
 
 -- an output for each pure op and each load, none for any other
 abbrev pub outputRow : ℕ → Bool

@@ -10,7 +10,7 @@ use compute::compute_step;
 use runs::Outcome;
 use step::other_step;
 
-// The kinds 2d to 36 and ad to b6, or those that do not compute.
+// The kinds 2d to 36 and ad to b6, or those of `other_step`, which do not compute.
 fn bit_op(
     kinds: &[u32; 256],
     block: &[u8],
@@ -47,7 +47,7 @@ fn bit_op(
     }
 }
 
-// The kinds 91 to a9, or those above.
+// The kinds 91 to a9, or those of `bit_op`.
 fn wide_op(
     kinds: &[u32; 256],
     block: &[u8],
@@ -90,7 +90,7 @@ fn wide_op(
     }
 }
 
-// Runs the op of this kind that starts at a place: the kinds 05 to 07 and 11 to 29, or those above. The kinds that compute come first, so that the compiler makes one jump of all.
+// Runs the op of this kind that starts at a place: the kinds 05 to 07 and 11 to 29, or those of `wide_op`. The kinds that compute come first, so that the compiler makes one jump of all.
 pub fn step(
     kinds: &[u32; 256],
     block: &[u8],

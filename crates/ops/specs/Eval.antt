@@ -71,7 +71,7 @@ unfoldable pub extract2Of : ℕ → ℕ → ℕ → ℕ → Option ℕ
 extract2Of w pos a b = byPosition w pos (extract2W w pos a b)
 
 -- 31, 32, 33: "bswap16_i32/i64 t0, t1, flags", "bswap32_i64 t0, t1, flags", "bswap32_i32 t0, t1, flags", "bswap64_i64 t0, t1, flags", of so many
--- bytes; none are more than the width has
+-- bytes; no result is stated where these are more than the width has
 abbrev pub swappedBytes : ℕ → ℕ
 swappedBytes k = cond (eqb k 0x31) 2 (cond (eqb k 0x32) 4 8)
 

@@ -1,4 +1,4 @@
--- Document 01's dialect: what the ops of a kind do. Assumes nothing.
+-- Document 01's dialect, as the requests left it: what the ops of a kind do. Assumes nothing.
 use Prim.Native.Nat.{ℕ, _-_}
 use mathlib.Core.Bool.{Bool, true, false, cond, _&&_, _||_}
 use mathlib.Core.Option.{Option, none, some}

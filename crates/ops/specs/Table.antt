@@ -1,4 +1,4 @@
--- Document 01's table of kinds. Assumes nothing.
+-- Document 01's table of kinds, as the requests left it. Assumes nothing.
 use Prim.Native.Nat.{ℕ, zero, suc, _+_, _*_}
 use mathlib.Core.Bool.{cond}
 use mathlib.Core.List.{List, [], _∷_, _++_}

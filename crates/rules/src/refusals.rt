@@ -1,4 +1,4 @@
-// Of each byte the tests that refuse it, a bit for the number of each; test 0 refuses none, test 1 all, and no other takes a byte above 15.
+// Of each byte those of the tests up to 7 that refuse it, a bit for the number of each; test 0 refuses none, test 1 all, and no other takes a byte above 15.
 ghost use mathlib.Core.Path.{_≡_};
 ghost use Rattle.block.specs.Scan.{refusalTable};
 

@@ -41,7 +41,7 @@ inputOk n flags a = not (hasIZ flags) || ltb a (2 ^ (8 * n))
 unfoldable pub byInput : ℕ → ℕ → ℕ → ℕ → Option ℕ
 byInput n flags a x = cond (inputOk n flags a) (some x) none
 
--- The byte law: byte i of a swap of n bytes, and what stands above them. `byte-law` (proofs/Swaps) is its proof
+-- The byte law: byte i of a swap of n bytes, at least one and no more than the width has, and what stands above them. `byte-law` (proofs/Swaps) is its proof
 abbrev pub byteAt : ℕ → ℕ → ℕ
 byteAt a i = a / 2 ^ (8 * i) % 256
 
