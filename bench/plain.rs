@@ -54,7 +54,7 @@ static CONSTANTS: [u8; 256] = {
     let mut byte = 0;
     while byte < 256 {
         table[byte] = (byte > 9) as u8 * CONDITION
-            | (byte > 15) as u8 * ACCESS
+            | (byte > 31) as u8 * ACCESS
             | (byte & 3 == 3) as u8 * EIGHT
             | (byte & 4 != 0) as u8 * SIGNED
             | (byte > 32) as u8 * POSITION[0]
@@ -574,6 +574,20 @@ fn field_swap_or_count(record: &[u8], values: &Values) -> Option<u64> {
     })
 }
 
+/// Bit 4 asks for a multiple of the size, and the address is none.
+#[inline(always)]
+fn unaligned(address: u64, flags: u8) -> bool {
+    flags & 16 != 0 && address & ((1 << (flags & 3)) - 1) != 0
+}
+
+/// The report of a fault; alignment comes before bounds.
+#[cold]
+fn faulted(address: u64, flags: u8, store: bool, count: u64) -> [u64; 4] {
+    let reason = unaligned(address, flags) as u64;
+    let access = flags as u64 + 256 * store as u64 + 65_536 * reason;
+    [2, address, access, count]
+}
+
 /// The bits above the bytes of an access.
 fn unused(flags: u8) -> u32 {
     64 - (8 << (flags & 3))
@@ -582,6 +596,9 @@ fn unused(flags: u8) -> u32 {
 /// What a load gives, if it does not fault.
 #[inline(always)]
 fn load(memory: &[u8], address: u64, flags: u8, wide: bool) -> Option<u64> {
+    if unaligned(address, flags) {
+        return None;
+    }
     let rest = memory.get(address as usize..)?;
     let mut value = match flags & 3 {
         0 => *rest.first()? as u64,
@@ -602,6 +619,9 @@ fn load(memory: &[u8], address: u64, flags: u8, wide: bool) -> Option<u64> {
 /// Stores the low bytes, if that does not fault.
 #[inline(always)]
 fn store(memory: &mut [u8], address: u64, flags: u8, mut value: u64) -> Option<()> {
+    if unaligned(address, flags) {
+        return None;
+    }
     let rest = memory.get_mut(address as usize..)?;
     if flags & 8 != 0 {
         value = (value << unused(flags)).swap_bytes();
@@ -664,7 +684,7 @@ fn execute(scan: &Scan, values: &mut Values, memory: &mut [u8]) -> [u64; 4] {
             0x2B | 0xAB => {
                 let address = value(values, record[2]);
                 let Some(loaded) = load(memory, address, record[3], wide) else {
-                    return [2, address, record[3] as u64, count];
+                    return faulted(address, record[3], false, count);
                 };
                 values[record[1] as usize & 63] = loaded;
                 place += 4;
@@ -672,7 +692,7 @@ fn execute(scan: &Scan, values: &mut Values, memory: &mut [u8]) -> [u64; 4] {
             0x2C | 0xAC => {
                 let (new, address) = (value(values, record[1]), value(values, record[2]));
                 if store(memory, address, record[3], new).is_none() {
-                    return [2, address, 256 + record[3] as u64, count];
+                    return faulted(address, record[3], true, count);
                 }
                 place += 4;
             }

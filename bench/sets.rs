@@ -3,7 +3,7 @@
 use crate::blocks::{self, Random};
 use crate::calls::Side;
 use crate::cases::Case;
-use crate::second;
+use crate::second::{self, ALIGNED};
 
 pub struct Set {
     pub name: &'static str,
@@ -16,12 +16,16 @@ pub fn all() -> Vec<Set> {
         globals: vec![7],
         memory: vec![],
     };
+    let aligned: Vec<Case> = (0..ALIGNED_BLOCKS).map(aligned).collect();
+    let without_bit_4 = aligned.iter().map(without_bit_4).collect();
     let set = |name, cases| Set { name, cases };
     vec![
         set("seeded", seeded()),
         set("short", (0..SHORT).map(short).collect()),
         set("globals", (0..CROWDED).map(crowded).collect()),
         set("fields", fields()),
+        set("aligned", aligned),
+        set("aligned, bit 4 clear", without_bit_4),
         set("two records", vec![two_records]),
     ]
 }
@@ -30,11 +34,12 @@ const SEED: u64 = 1;
 /// Of the seeded set: so many blocks of at least so many ops.
 const SEEDED: usize = 200;
 const LEAST_OPS: usize = 64;
-/// How many blocks the sets "short", "globals" and "fields" have.
+/// How many blocks the sets "short", "globals", "fields" and "aligned" have.
 const SHORT: u64 = 400;
 const CROWDED: u64 = 100;
 const FIELDS: usize = 200;
-/// The bytes of memory in these three.
+const ALIGNED_BLOCKS: u64 = 200;
+/// The bytes of memory in these, and in "aligned, bit 4 clear".
 const MEMORY: usize = 1024;
 
 pub fn ops(block: &[u8]) -> usize {
@@ -68,6 +73,8 @@ struct FrontEnd {
     ops: usize,
     /// How many of them are bit fields, swaps and counts.
     fields: usize,
+    /// Are addresses multiples of 8, and do most accesses have bit 4?
+    aligned: bool,
     /// The values lent for the globals.
     globals: Vec<u64>,
     variables: u8,
@@ -119,6 +126,7 @@ impl FrontEnd {
             block: vec![],
             ops: 0,
             fields: 0,
+            aligned: false,
             globals: vec![],
             variables: 0,
             registers: vec![],
@@ -146,7 +154,7 @@ impl FrontEnd {
     fn registers(&mut self, count: usize) {
         for number in 0..count {
             let value = self.random.next();
-            let address = value % (MEMORY as u64 / 2);
+            let address = self.multiple(value % (MEMORY as u64 / 2));
             let register = self.global(WIDE, if number < 3 { address } else { value });
             self.registers.push(register);
         }
@@ -329,6 +337,23 @@ impl FrontEnd {
         self.op(MOVCOND, &[d, flag, zero, a, b, cond]);
     }
 
+    /// The value of a register or constant in an address: rounded down to a
+    /// multiple of 8 if it has to be.
+    fn multiple(&self, value: u64) -> u64 {
+        if self.aligned {
+            value - value % 8
+        } else {
+            value
+        }
+    }
+
+    /// An access of a temporary or register, at an address, with these flags.
+    fn access(&mut self, kind: u8, variable: u8, address: u8, flags: u8) {
+        let asks = self.aligned && self.random.chance(90);
+        let flags = if asks { flags | ALIGNED } else { flags };
+        self.op(kind, &[variable, address, flags]);
+    }
+
     /// An address: a register and a constant.
     fn address(&mut self) -> u8 {
         let base = self.random.pick(&self.registers[..3]);
@@ -336,7 +361,7 @@ impl FrontEnd {
             return base;
         }
         let offset = self.small();
-        let offset = self.constant(offset);
+        let offset = self.constant(self.multiple(offset));
         self.binary(ADD, base, offset)
     }
 
@@ -344,12 +369,12 @@ impl FrontEnd {
         let address = self.address();
         let d = self.target();
         if self.random.chance(70) {
-            self.op(LOAD, &[d, address, 3]);
+            self.access(LOAD, d, address, 3);
             return;
         }
         let flags = self.random.pick(&[0, 1, 2, 4, 5, 6]);
         let t = self.temporary(NARROW);
-        self.op(LOAD & TO_32, &[t, address, flags]);
+        self.access(LOAD & TO_32, t, address, flags);
         self.op(EXTU, &[d, t]);
     }
 
@@ -357,12 +382,12 @@ impl FrontEnd {
         let address = self.address();
         let value = self.source();
         if self.random.chance(70) {
-            self.op(STORE, &[value, address, 3]);
+            self.access(STORE, value, address, 3);
             return;
         }
         let flags = self.random.pick(&[0, 1, 2]);
         let t = self.truncated(value);
-        self.op(STORE & TO_32, &[t, address, flags]);
+        self.access(STORE & TO_32, t, address, flags);
     }
 
     /// An instruction that a condition jumps over.
@@ -541,4 +566,34 @@ fn field_case(number: u64) -> Case {
     }
     front_end.end();
     front_end.case()
+}
+
+/// A block whose instructions mostly load or store.
+fn aligned(number: u64) -> Case {
+    let mut front_end = FrontEnd {
+        aligned: true,
+        ..FrontEnd::new(Random::new(SEED, number))
+    };
+    front_end.state();
+    let most = 12 + front_end.random.below(26);
+    while front_end.ops <= most {
+        match front_end.random.below(10) {
+            0..=3 => front_end.load(),
+            4..=6 => front_end.store(),
+            _ => front_end.instruction(),
+        }
+    }
+    front_end.end();
+    front_end.case()
+}
+
+/// The same block without bit 4, which shows what the bit costs.
+fn without_bit_4(case: &Case) -> Case {
+    let mut same = case.clone();
+    for place in blocks::records(&case.block) {
+        if [LOAD, STORE].contains(&(case.block[place] | !TO_32)) {
+            same.block[place + 3] &= !ALIGNED;
+        }
+    }
+    same
 }

@@ -1,7 +1,9 @@
 //! Blocks to compare on. Each case follows from the seed and its number alone.
 
 use crate::cases::Case;
-use crate::second::{Form, IZ, LABELS, MEMORY, OPS, OS, OZ, SHAPES, VARIABLES};
+use crate::second::{
+    size, Form, ALIGNED, IZ, LABELS, MEMORY, OPS, OS, OZ, SHAPES, SIGNED, VARIABLES,
+};
 
 /// A small generator of pseudo-random numbers (splitmix64).
 pub struct Random(u64);
@@ -205,13 +207,26 @@ fn bad(random: &mut Random, kind: u8) -> Vec<u8> {
     }
 }
 
+/// The flags of an access just beyond a limit, with and without bit 4: the size
+/// against the width, bit 2 on a store, a high bit.
+fn bad_flags(random: &mut Random, wide: bool, store: bool) -> u8 {
+    let low = random.below(32) as u8;
+    match random.below(5) {
+        0 if !wide => low | 3,
+        1 | 2 if store => low | SIGNED,
+        _ => low | 0x20 << random.below(3),
+    }
+}
+
 /// What a block is made for.
 #[derive(Clone, Copy)]
 struct Setting {
     /// The length of the memory lent.
     memory: usize,
-    /// Newer front ends read temporaries past a brcond and write the kinds
-    /// that request 03 added, older ones do not.
+    /// Newer front ends read temporaries past a brcond, write the kinds that
+    /// request 03 added and ask for aligned addresses; older ones do not. The
+    /// benchmark times blocks of older ones, so those that are accepted stay as
+    /// they are.
     newer: bool,
 }
 
@@ -230,6 +245,8 @@ enum Slip {
     Lifetimes,
     /// Fields, positions and flags of swaps lie on both sides of their limits.
     Constants,
+    /// Flags of loads and stores lie on both sides of their limits.
+    Flags,
 }
 
 /// How often ops of each sort come, in cases of a hundred, and how many ops.
@@ -544,20 +561,48 @@ impl Maker<'_> {
         ])
     }
 
-    fn access(&mut self, risk: usize) -> Option<()> {
-        let wide = self.random.chance(50);
-        let store = self.random.chance(50);
+    /// An address for an access with these flags: mostly a multiple of the size
+    /// where they ask for one.
+    fn address_for(&mut self, flags: u8, risk: usize) -> u64 {
+        let size = size(flags);
+        let address = self.address(size, risk);
+        if flags & ALIGNED == 0 {
+            return address;
+        }
+        let above = if self.random.chance(risk) {
+            self.random
+                .pick(&[1 % size, size / 2, size - 1, address % size])
+        } else {
+            0
+        };
+        address - address % size + above
+    }
+
+    fn flags(&mut self, wide: bool, store: bool) -> u8 {
+        if self.slip == Slip::Flags && self.random.chance(40) {
+            return bad_flags(self.random, wide, store);
+        }
         let mut flags = self.random.below(16) as u8;
+        if self.setting.newer && self.random.chance(50) {
+            flags |= ALIGNED;
+        }
         if !wide && flags & 3 == 3 {
             flags ^= 1;
         }
         if store {
-            flags &= !4;
+            flags &= !SIGNED;
         }
+        flags
+    }
+
+    fn access(&mut self, risk: usize) -> Option<()> {
+        let wide = self.random.chance(50);
+        let store = self.random.chance(50);
+        let flags = self.flags(wide, store);
         let known = risk == 0 || self.random.chance(70);
-        let place = self.address(1 << (flags & 3), risk);
+        let at = self.address_for(flags, risk);
         let address = if known {
-            self.known(true, place)?
+            self.known(true, at)?
         } else {
             self.input(true)?
         };
@@ -771,6 +816,22 @@ fn memory_length(random: &mut Random) -> usize {
 
 fn made(random: &mut Random, setting: Setting, slip: Slip) -> Vec<u8> {
     let style = style(random);
+    styled(random, style, setting, slip)
+}
+
+/// Mostly loads and stores, at addresses of which many fault.
+fn accesses(random: &mut Random, setting: Setting, slip: Slip) -> Vec<u8> {
+    let style = Style {
+        accesses: 60,
+        risk: 50,
+        ops: 10 + random.below(30),
+        exact: false,
+        ..style(random)
+    };
+    styled(random, style, setting, slip)
+}
+
+fn styled(random: &mut Random, style: Style, setting: Setting, slip: Slip) -> Vec<u8> {
     let variables = variables(random);
     let mut maker = Maker {
         slip,
@@ -878,7 +939,10 @@ fn broken(random: &mut Random, setting: Setting) -> Vec<u8> {
         }
         Form::SetLabel | Form::Br => LABELS as u8,
         Form::BrCond if field == 3 => LABELS as u8,
-        Form::Load | Form::Store => random.pick(&[16, 3, 4, 7, 0x20, 0x80]),
+        Form::Load | Form::Store if setting.newer => {
+            bad_flags(random, width(block[start]) == 64, shape.form == Form::Store)
+        }
+        Form::Load | Form::Store => random.pick(&[0x40, 3, 4, 7, 0x20, 0x80]),
         _ if is_added(block[start]) => {
             let constants = bad(random, block[start]);
             block.splice(
@@ -1105,6 +1169,8 @@ fn made_case(mut random: Random, number: u64, newer: bool) -> Case {
         14..=16 => made(&mut random, setting, Slip::Lifetimes),
         17..=19 if newer => made(&mut random, setting, Slip::Lifetimes),
         20..=25 if newer => made(&mut random, setting, Slip::Constants),
+        37..=42 if newer => accesses(&mut random, setting, Slip::Flags),
+        43..=46 if newer => accesses(&mut random, setting, Slip::Nothing),
         17..=28 => damaged(&mut random, setting),
         29..=36 => soup(&mut random, setting),
         _ => accepted(&mut random, setting),

@@ -87,8 +87,12 @@ fn reported(ending: Ending) -> [u64; 4] {
             store,
             address,
             flags,
+            reason,
             count,
-        } => [2, address, flags as u64 + 256 * store as u64, count],
+        } => {
+            let access = flags as u64 + 256 * store as u64 + 65_536 * reason as u64;
+            [2, address, access, count]
+        }
         Ending::NoResult { position, count } => [3, position, 0, count],
     }
 }

@@ -166,11 +166,7 @@ fn show_run(ran: &Ran) -> String {
     let [ending, value, more, count] = ran.report;
     let report = match (ran.answer, ending) {
         (0, 1) => format!("exit with {value:x}, {count} ops"),
-        (0, 2) if more >= 256 => format!(
-            "store faults at {value:x}, flags {:x}, {count} ops",
-            more % 256
-        ),
-        (0, 2) => format!("load faults at {value:x}, flags {more:x}, {count} ops"),
+        (0, 2) => format!("{} at {value:x}, {count} ops", show_fault(more)),
         (0, 3) => format!("no stated result at op {value}, {count} ops"),
         (refused, _) => format!("{}, report {:x?}", answer(refused), ran.report),
     };
@@ -179,6 +175,21 @@ fn show_run(ran: &Ran) -> String {
         ran.globals,
         hex(&ran.memory)
     )
+}
+
+/// What faults, its flags and the reason, from the report's third number.
+fn show_fault(more: u64) -> String {
+    let access = match more / 256 % 256 {
+        0 => "load",
+        1 => "store",
+        _ => "unknown access",
+    };
+    let reason = match more / 65_536 {
+        0 => "bounds",
+        1 => "alignment",
+        _ => "an unknown reason",
+    };
+    format!("{access} with flags {:x} faults by {reason}", more % 256)
 }
 
 fn show_pass(passed: &Passed) -> String {

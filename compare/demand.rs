@@ -50,7 +50,8 @@ fn longer(block: &[u8], result: &[u8]) -> Option<Difference> {
     )
 }
 
-/// The same exit or fault, the same globals and memory, in no more ops.
+/// The same exit or fault, with its reason, the same globals and memory, in no
+/// more ops.
 fn runs_differ(case: &Case, result: &[u8]) -> Option<Difference> {
     let before = ran(Side::Library, &case.block, &case.globals, &case.memory);
     let after = ran(Side::Library, result, &case.globals, &case.memory);

@@ -7,8 +7,8 @@ use crate::second::{set, Block, Form, Op, Plan, LABELS};
 /// The name of the group.
 pub const GROUP: &str = "extended basic blocks";
 
-/// How often each has to occur: in 120,000 blocks without those of newer front
-/// ends half of them do not, since only damage brings them.
+/// How often each has to occur: without the blocks of newer front ends half of
+/// them do not, since only damage brings them.
 pub const OFTEN: u64 = 80;
 
 /// Things that have to occur.

@@ -6,8 +6,8 @@ use std::collections::BTreeMap;
 /// The name of the group.
 pub const GROUP: &str = "bit fields, swaps and counts";
 
-/// How often each has to occur: in 120,000 blocks without those whose constants
-/// are made on both sides of their limits some of the refusals do not.
+/// How often each has to occur: without the blocks whose constants are made on
+/// both sides of their limits some of the refusals do not.
 pub const OFTEN: u64 = 10;
 
 const FIELDS: &[u8] = &[0x2D, 0x2E, 0x2F, 0xAD, 0xAE, 0xAF];

@@ -1,6 +1,7 @@
 //! Compares the proved library with the second interpreter, call by call,
 //! through the C interface, and checks demand 3 on the library's answers.
 
+mod aligned;
 mod blocks;
 mod calls;
 mod cases;
@@ -12,19 +13,20 @@ mod second;
 mod shrink;
 mod stats;
 mod worked;
+mod worked_aligned;
 
 use cases::{difference, hex, run_differs, Case};
 use stats::Stats;
 use std::process::ExitCode;
 
 /// Enough blocks that everything the statistics ask for occurs.
-const BLOCKS: u64 = 120_000;
+const BLOCKS: u64 = 140_000;
 
 const HELP: &str = "\
 Compares the proved library with the second interpreter on generated blocks.
 
 usage: compare [options]
-  --blocks N          compare on N blocks (default 120000)
+  --blocks N          compare on N blocks (default 140000)
   --seed S            start the generator from S (default 1)
   --write-corpus DIR  write the first 2000 cases as fuzz inputs into DIR
   --help              print this text

@@ -1,9 +1,10 @@
 //! The paper's own cases and some of request 02, worked out by hand, asked of
-//! the library and of the second interpreter; `worked` has those of request 03.
+//! the library and of the second interpreter; `worked` has those of request 03,
+//! `worked_aligned` those of request 04.
 
 use crate::calls::Side;
 use crate::cases::{hex, passed, ran, Ran, RESULT};
-use crate::worked;
+use crate::{worked, worked_aligned};
 
 /// Kind, both inputs, cond if any, and the result if stated.
 type Stated = (u8, u64, u64, &'static [u8], Option<u64>);
@@ -130,6 +131,7 @@ pub fn failed() -> Option<String> {
             example(side),
             branches(side),
             worked::failed(side),
+            worked_aligned::failed(side),
         ];
         if let Some(what) = sets.into_iter().flatten().next() {
             return Some(format!("{what}, by {name}"));

@@ -4,6 +4,8 @@
 //!
 //! A set of variables is one `u64`, a bit for each of the 64 variables.
 
+use std::ops::Range;
+
 /// At most 64 variables.
 pub const VARIABLES: usize = 64;
 /// At most 256 ops.
@@ -24,6 +26,13 @@ pub struct Refusal {
     pub place: usize,
 }
 
+/// Why an access faults; the values are those that a report gives.
+#[derive(Clone, Copy, Debug, PartialEq, Eq)]
+pub enum Reason {
+    Bounds = 0,
+    Alignment = 1,
+}
+
 /// A run ends in one of three ways; each gives the number of ops run.
 #[derive(Clone, Copy, Debug, PartialEq, Eq)]
 pub enum Ending {
@@ -35,6 +44,7 @@ pub enum Ending {
         store: bool,
         address: u64,
         flags: u8,
+        reason: Reason,
         count: u64,
     },
     NoResult {
@@ -84,6 +94,17 @@ const fn row(form: Form, body: u8, outputs: u8, inputs: u8, wide: u8) -> Shape {
 pub const IZ: u8 = 1;
 pub const OZ: u8 = 2;
 pub const OS: u8 = 4;
+
+/// The bits of an access's flags beside its size: sign-extended, big-endian,
+/// and that the address be a multiple of the size.
+pub const SIGNED: u8 = 4;
+pub const BIG_ENDIAN: u8 = 8;
+pub const ALIGNED: u8 = 16;
+
+/// The size of an access in bytes.
+pub fn size(flags: u8) -> u64 {
+    1 << (flags & 3)
+}
 
 /// Kinds 10 to 36, and with 80 added their 64-bit forms.
 const fn sized(kind: u8) -> Shape {
@@ -221,6 +242,11 @@ impl<'a> Op<'a> {
     pub fn field(&self) -> (u32, u32) {
         let constants = self.constants();
         (constants[0] as u32, constants[1] as u32)
+    }
+
+    /// The address of a load or store, its last input.
+    pub fn address(&self, inputs: [u64; 4]) -> u64 {
+        inputs[self.shape.inputs as usize - 1]
     }
 
     /// How many low bits a bswap16, bswap32 or bswap64 swaps.
@@ -430,7 +456,7 @@ fn constants(op: &Op) -> Result<(), u8> {
             _ => true,
         },
         Form::Load => flags_fit(op, constants[0]),
-        Form::Store => flags_fit(op, constants[0]) && constants[0] & 4 == 0,
+        Form::Store => flags_fit(op, constants[0]) && constants[0] & SIGNED == 0,
         _ => true,
     };
     if good {
@@ -440,9 +466,9 @@ fn constants(op: &Op) -> Result<(), u8> {
     }
 }
 
-/// Other bits are zero, and the size never exceeds the width.
+/// Bits 5 to 7 are zero, and the size never exceeds the width.
 fn flags_fit(op: &Op, flags: u8) -> bool {
-    flags <= 15 && (op.has_64_bits() || flags & 3 != 3)
+    flags <= 31 && (op.has_64_bits() || flags & 3 != 3)
 }
 
 /// A field has a length of at least 1 and ends within the width.
@@ -639,25 +665,31 @@ fn inputs(op: &Op, values: &[u64; VARIABLES]) -> [u64; 4] {
     four
 }
 
-/// Where an access reaches; it faults when address plus size exceeds the length.
-fn reach(memory: &[u8], address: u64, flags: u8) -> Option<std::ops::Range<usize>> {
-    let end = address.checked_add(1 << (flags & 3))?;
-    if end > memory.len() as u64 {
-        return None;
+/// Where an access reaches in a memory of this length. It faults when bit 4
+/// asks for a multiple of the size and the address is none, else when address
+/// plus size exceeds the length.
+pub fn reach(length: usize, address: u64, flags: u8) -> Result<Range<usize>, Reason> {
+    let size = size(flags);
+    if flags & ALIGNED != 0 && !address.is_multiple_of(size) {
+        return Err(Reason::Alignment);
     }
-    Some(address as usize..end as usize)
+    let end = address.checked_add(size).ok_or(Reason::Bounds)?;
+    if end > length as u64 {
+        return Err(Reason::Bounds);
+    }
+    Ok(address as usize..end as usize)
 }
 
-/// A load's value: bit 3 means big-endian, bit 2 sign-extends.
+/// A load's value.
 fn load(bytes: &[u8], flags: u8, wide: bool) -> u64 {
     let put = |value: u64, &byte: &u8| value << 8 | byte as u64;
-    let value = if flags & 8 != 0 {
+    let value = if flags & BIG_ENDIAN != 0 {
         bytes.iter().fold(0, put)
     } else {
         bytes.iter().rev().fold(0, put)
     };
     let above = 64 - 8 * bytes.len() as u32;
-    let value = if flags & 4 != 0 {
+    let value = if flags & SIGNED != 0 {
         ((value << above) as i64 >> above) as u64
     } else {
         value
@@ -673,7 +705,7 @@ fn load(bytes: &[u8], flags: u8, wide: bool) -> u64 {
 fn store(bytes: &mut [u8], flags: u8, value: u64) {
     let last = bytes.len() - 1;
     for (i, byte) in bytes.iter_mut().enumerate() {
-        let low = if flags & 8 != 0 { last - i } else { i };
+        let low = if flags & BIG_ENDIAN != 0 { last - i } else { i };
         *byte = (value >> (8 * low)) as u8;
     }
 }
@@ -743,8 +775,8 @@ fn execute(
                 None => return no_result(position - 1, count - 1),
             },
             Form::Load | Form::Store => {
-                if let Err(address) = access(&op, now, values, memory) {
-                    return fault(&op, address, count);
+                if let Err(reason) = access(&op, now, values, memory) {
+                    return fault(&op, op.address(now), reason, count);
                 }
             }
             // set_label, or a brcond whose condition does not hold.
@@ -764,28 +796,28 @@ fn no_result(position: usize, count: u64) -> Ending {
     }
 }
 
-fn fault(op: &Op, address: u64, count: u64) -> Ending {
+fn fault(op: &Op, address: u64, reason: Reason, count: u64) -> Ending {
     Ending::Fault {
         store: op.shape.form == Form::Store,
         address,
         flags: op.constants()[0],
+        reason,
         count,
     }
 }
 
-/// A load or store; the address of a fault, which changes nothing.
+/// A load or store; the reason of a fault, which changes nothing.
 fn access(
     op: &Op,
     now: [u64; 4],
     values: &mut [u64; VARIABLES],
     memory: &mut [u8],
-) -> Result<(), u64> {
+) -> Result<(), Reason> {
     let flags = op.constants()[0];
+    let range = reach(memory.len(), op.address(now), flags)?;
     if op.shape.form == Form::Load {
-        let range = reach(memory, now[0], flags).ok_or(now[0])?;
         values[op.output()] = load(&memory[range], flags, op.has_64_bits());
     } else {
-        let range = reach(memory, now[1], flags).ok_or(now[1])?;
         store(&mut memory[range], flags, now[0]);
     }
     Ok(())

@@ -1,10 +1,13 @@
 //! What occurred in the comparison. A default run has to have met all of it.
 
+use crate::aligned::{self, may_have, FLAGS};
 use crate::calls::Side;
 use crate::cases::{passed, Case, RESULT};
 use crate::extended::{self, Counts, THINGS};
 use crate::fields;
-use crate::second::{self, Block, Ending, Form, Op, Plan, Refusal, MEMORY, OPS, SHAPES, VARIABLES};
+use crate::second::{
+    self, Block, Ending, Form, Op, Plan, Reason, Refusal, ALIGNED, MEMORY, OPS, SHAPES, VARIABLES,
+};
 
 /// Things that have to occur, each with how often it did.
 type Things = Vec<(String, u64)>;
@@ -27,20 +30,20 @@ const SINGLE: [&str; 12] = [
 
 pub struct Stats {
     refusals: [u64; 13],
-    /// Exit, load fault, store fault, no stated result.
-    endings: [u64; 4],
+    /// Exit, load fault by bounds and by alignment, store fault by these, no
+    /// stated result.
+    endings: [u64; 6],
     /// By kind: accepted, run, folded, dropped, ended for want of a result.
     accepted: [u64; 256],
     run: [u64; 256],
     folded: [u64; 256],
     dropped: [u64; 256],
     unstated: [u64; 256],
-    /// By cond or flags, then kind; flags of accesses, and of swaps.
+    /// By cond, or flags of a swap, then kind.
     conds: [[u64; 256]; 10],
-    flags: [[u64; 256]; 16],
     swaps: [[u64; 256]; 8],
-    /// By flags, with 16 added for a store.
-    faults: [u64; 32],
+    /// By reason, then by store, then by flags.
+    faults: [[[u64; FLAGS as usize]; 2]; 2],
     /// By class and type: 2 * class + type.
     variables: [u64; 6],
     /// By the number of ops from a jump to its label.
@@ -48,6 +51,7 @@ pub struct Stats {
     single: [u64; SINGLE.len()],
     extended: Counts,
     fields: fields::Counts,
+    aligned: aligned::Counts,
     pub accepted_blocks: u64,
 }
 
@@ -55,21 +59,21 @@ impl Stats {
     pub fn new() -> Stats {
         Stats {
             refusals: [0; 13],
-            endings: [0; 4],
+            endings: [0; 6],
             accepted: [0; 256],
             run: [0; 256],
             folded: [0; 256],
             dropped: [0; 256],
             unstated: [0; 256],
             conds: [[0; 256]; 10],
-            flags: [[0; 256]; 16],
             swaps: [[0; 256]; 8],
-            faults: [0; 32],
+            faults: [[[0; FLAGS as usize]; 2]; 2],
             variables: [0; 6],
             jumps: [0; OPS],
             single: [0; SINGLE.len()],
             extended: [0; THINGS.len()],
             fields: fields::Counts::default(),
+            aligned: aligned::Counts::new(),
             accepted_blocks: 0,
         }
     }
@@ -94,6 +98,7 @@ impl Stats {
         self.refusals[refusal.number as usize] += 1;
         self.single[11] += (refusal.number == 7 && refusal.place == bytes.len()) as u64;
         self.fields.refused(refusal, bytes);
+        self.aligned.refused(refusal, bytes);
         if refusal.number == 8 {
             extended::refused(&mut self.extended, bytes, refusal.place);
         }
@@ -111,7 +116,6 @@ impl Stats {
             let constants = op.constants();
             match op.narrow_kind() {
                 0x28..=0x2A => self.conds[constants[0] as usize][op.kind as usize] += 1,
-                0x2B | 0x2C => self.flags[constants[0] as usize][op.kind as usize] += 1,
                 0x31..=0x33 => self.swaps[constants[0] as usize][op.kind as usize] += 1,
                 _ => {}
             }
@@ -147,7 +151,11 @@ impl Stats {
     /// The run's ending; the ops on its path as far as the first branch.
     pub fn note_run(&mut self, case: &Case) {
         let (mut globals, mut memory) = (case.globals.clone(), case.memory.clone());
-        let see = |op: &Op, now| self.fields.due(op, now);
+        let length = memory.len();
+        let see = |op: &Op, now| {
+            self.fields.due(op, now);
+            self.aligned.due(op, now, length);
+        };
         let ending = second::watched(&case.block, &mut globals, &mut memory, see);
         let Ok(block) = second::read(&case.block) else {
             return;
@@ -175,12 +183,18 @@ impl Stats {
     fn note_ending(&mut self, ending: Ending, kind: impl Fn(u64) -> usize) {
         match ending {
             Ending::Exit { .. } => self.endings[0] += 1,
-            Ending::Fault { store, flags, .. } => {
-                self.endings[1 + store as usize] += 1;
-                self.faults[flags as usize + 16 * store as usize] += 1;
+            Ending::Fault {
+                store,
+                flags,
+                reason,
+                ..
+            } => {
+                let (store, reason) = (store as usize, reason as usize);
+                self.endings[1 + 2 * store + reason] += 1;
+                self.faults[reason][store][flags as usize] += 1;
             }
             Ending::NoResult { position, .. } => {
-                self.endings[3] += 1;
+                self.endings[5] += 1;
                 self.unstated[kind(position)] += 1;
             }
         }
@@ -217,13 +231,13 @@ impl Stats {
             ("kinds dropped", by_kind(&self.dropped, pure)),
             ("kinds without a result", unstated),
             ("conds by kind", self.cond_counts()),
-            ("flags by kind", self.flag_counts()),
             ("swap flags by kind", self.swap_counts()),
-            ("faults by flags", fault_counts(&self.faults)),
+            ("faults by reason and flags", self.fault_counts()),
             ("classes and types", numbered(&self.variables, 0)),
             ("jump lengths", numbered(&self.jumps[..OPS - 1], 1)),
             (extended::GROUP, crossing),
             (fields::GROUP, self.fields.named()),
+            (aligned::GROUP, self.aligned.named()),
             ("single things", single),
         ]
     }
@@ -239,14 +253,16 @@ impl Stats {
         all
     }
 
-    /// The flags that each load and store may have.
-    fn flag_counts(&self) -> Things {
+    /// The flags with which a load and a store may fault for each reason.
+    fn fault_counts(&self) -> Things {
         let mut all = vec![];
-        for (flags, counts) in self.flags.iter().enumerate() {
-            for kind in [0x2B, 0x2C, 0xAB, 0xAC] {
-                let fits = kind > 0x80 || flags & 3 != 3;
-                if fits && (kind & 1 == 1 || flags & 4 == 0) {
-                    all.push((format!("{kind:02X} flags {flags:X}"), counts[kind]));
+        for (name, kind, store) in [("load", 0xAB, 0), ("store", 0xAC, 1)] {
+            for flags in (0..FLAGS).filter(|&flags| may_have(kind, flags)) {
+                let count = |reason: Reason| self.faults[reason as usize][store][flags as usize];
+                let fault = format!("{name} flags {flags:02X}");
+                all.push((format!("{fault}, bounds"), count(Reason::Bounds)));
+                if flags & ALIGNED != 0 && second::size(flags) > 1 {
+                    all.push((format!("{fault}, alignment"), count(Reason::Alignment)));
                 }
             }
         }
@@ -274,6 +290,7 @@ impl Stats {
             let needed = match name {
                 extended::GROUP => extended::OFTEN,
                 fields::GROUP => fields::OFTEN,
+                aligned::GROUP => aligned::OFTEN,
                 _ => 1,
             };
             let seen = things.iter().filter(|(_, n)| *n >= needed).count();
@@ -307,16 +324,4 @@ fn by_kind(counts: &[u64; 256], needed: impl Fn(usize) -> bool) -> Things {
 fn numbered(counts: &[u64], from: usize) -> Things {
     let named = |(i, &count): (usize, &u64)| (i.to_string(), count);
     counts.iter().enumerate().skip(from).map(named).collect()
-}
-
-fn fault_counts(faults: &[u64; 32]) -> Things {
-    let may = |i: &usize| *i < 16 || i & 4 == 0;
-    let name = |i: usize| {
-        format!(
-            "{} flags {:X}",
-            if i < 16 { "load" } else { "store" },
-            i % 16
-        )
-    };
-    (0..32).filter(may).map(|i| (name(i), faults[i])).collect()
 }

@@ -3,8 +3,10 @@
  * between the two faulted, so the later op never ran, and one student's job setting became everybody's default.
  *
  * Reads the jobs from a folder (samples) and runs them: the job as it was written, as the home-made pass left it and as
- * ngulo_pass left it; after each a later user's job. Then the other mistakes of that sort, a sample each.
- * Answers 0 if ngulo_pass's block is the shortest and does what the original does, and the home-made one does not.
+ * ngulo_pass left it; after each a later user's job. Then the job as a controller that traps on odd addresses has it,
+ * and the other mistakes of that sort, a sample each.
+ * Answers 0 if ngulo_pass's blocks do what the originals do, the home-made ones do not, and ngulo_pass's block of the
+ * incident is the shortest.
  */
 #include "../tool/explain.h"
 #include "../tool/input.h"
@@ -59,7 +61,7 @@ static void bench_clean_up(struct printer *printer)
 
 /* The cells of a row, one for each form of the job. */
 struct row {
-    char cell[BLOCKS][24];
+    char cell[BLOCKS][32];
 };
 
 /* Prints a row and marks the cells that differ from the original's. Answers which do, a bit each. */
@@ -101,6 +103,25 @@ static unsigned print_endings(const struct printer printers[BLOCKS])
     return print_row("the job's ending", &row);
 }
 
+/* The reasons of faults, where the original has one. */
+static unsigned print_reasons(const struct printer printers[BLOCKS])
+{
+    struct row row;
+    int i;
+
+    if (ngulo_report_ending(printers[ORIGINAL].report) != NGULO_ENDING_FAULT) {
+        return 0;
+    }
+    for (i = 0; i < BLOCKS; i += 1) {
+        const uint64_t *report = printers[i].report;
+        int faults = ngulo_report_ending(report) == NGULO_ENDING_FAULT;
+
+        snprintf(row.cell[i], sizeof row.cell[i], "%s",
+                 faults ? ngulo_fault_reason_text(ngulo_report_fault_reason(report)) : "none");
+    }
+    return print_row("the fault's reason", &row);
+}
+
 static unsigned print_global(const char *title, const struct printer printers[BLOCKS], int global)
 {
     struct row row;
@@ -127,7 +148,7 @@ static unsigned print_later(const struct printer printers[BLOCKS])
     return print_row("the later user's time-out", &row);
 }
 
-/* Ops run are fewer after a pass, and no difference to mark. */
+/* Ops run may be fewer after a pass, and are no difference to mark. */
 static void print_counts(const struct printer printers[BLOCKS])
 {
     printf("  %-27s%-18u%-18u%u\n", "ops run", (unsigned)ngulo_report_count(printers[ORIGINAL].report),
@@ -168,7 +189,8 @@ static unsigned print_day(const struct story *story, uint64_t address, unsigned 
         refused += !run_job(&printers[i], &story->jobs[i], address);
     }
     printf("  %-27s%-18s%-18s%s\n", "", block_names[ORIGINAL], block_names[HOMEMADE], block_names[OURS]);
-    differ = print_endings(printers) | differ_elsewhere(printers);
+    differ = print_endings(printers);
+    differ |= print_reasons(printers) | differ_elsewhere(printers);
     print_counts(printers);
     differ |= print_global("setting", printers, SETTING);
     differ |= print_global("saved", printers, SAVED);
@@ -223,12 +245,12 @@ static int unexpected(void)
     return STATUS_REFUSED;
 }
 
-static int tell(const struct story *story, const char *folder)
+/* Answers 1 if the incident went as it should. */
+static int tell_incident(const struct story *story)
 {
     unsigned served;
     unsigned faulting;
     unsigned later;
-    int status;
 
     fputs(opening, stdout);
     puts("\nWhat the home-made pass did with the student's block:");
@@ -242,22 +264,45 @@ static int tell(const struct story *story, const char *folder)
     puts("\nDropped by the home-made pass and kept by ngulo_pass:");
     if (print_lost(story) != 1 || served != 0 || faulting != 1u << HOMEMADE || later != faulting ||
         story->jobs[OURS].length >= story->jobs[HOMEMADE].length) {
-        return unexpected();
+        return 0;
     }
     fputs(closing, stdout);
+    return 1;
+}
+
+/* The same where the store has to be aligned: it faults within the memory. */
+static int tell_aligned(const struct story *story)
+{
+    unsigned faulting;
+    unsigned later;
+
+    puts("\nA newer controller traps on odd addresses: its store has to be aligned (samples/unaligned.hex).\n"
+         "SET TIMEOUT=42 at 0x9, within the memory, but no multiple of 4: the store faults too.");
+    faulting = print_day(story, 0x9, &later);
+    return faulting == 1u << HOMEMADE && later == faulting;
+}
+
+static int tell(const struct story *incident, const struct story *aligned, const char *folder)
+{
+    int status;
+
+    if (!tell_incident(incident) || !tell_aligned(aligned)) {
+        return unexpected();
+    }
     puts("\nOther mistakes of this sort, each on a block of samples/mistakes, with 16 bytes of memory:");
     status = tell_mistakes(folder);
     return status == STATUS_REFUSED ? unexpected() : status;
 }
 
-static int prepare(struct story *story, const char *folder)
+/* The story of a job of the folder. */
+static int prepare(struct story *story, const char *folder, const char *name)
 {
     struct records result;
     struct printer trial;
     int i;
 
     memset(&trial, 0, sizeof trial);
-    if (load_block(folder, "incident.hex", &story->jobs[ORIGINAL]) != STATUS_DONE ||
+    if (load_block(folder, name, &story->jobs[ORIGINAL]) != STATUS_DONE ||
         load_block(folder, "later-job.hex", &story->later) != STATUS_DONE ||
         optimise(&story->jobs[ORIGINAL], &story->jobs[OURS]) != STATUS_DONE) {
         return STATUS_USAGE;
@@ -283,15 +328,19 @@ static int prepare(struct story *story, const char *folder)
 
 int main(int argc, char **argv)
 {
-    static struct story story;
+    static struct story incident;
+    static struct story aligned;
     int status;
 
     if (argc != 2) {
         return complain("usage: incident FOLDER, the samples");
     }
-    status = prepare(&story, argv[1]);
+    status = prepare(&incident, argv[1], "incident.hex");
     if (status == STATUS_DONE) {
-        status = tell(&story, argv[1]);
+        status = prepare(&aligned, argv[1], "unaligned.hex");
+    }
+    if (status == STATUS_DONE) {
+        status = tell(&incident, &aligned, argv[1]);
     }
     return finish(status);
 }

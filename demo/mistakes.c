@@ -37,8 +37,8 @@ static void print_endings(const struct side sides[2], uint64_t reports[2][NGULO_
     char first[ENDING_SIZE];
     char second[ENDING_SIZE];
 
-    ending_words(reports[0], first);
-    ending_words(reports[1], second);
+    ending_words(reports[0], MEMORY, first);
+    ending_words(reports[1], MEMORY, second);
     printf(": %s: %s; %s: %s", sides[0].name, first, sides[1].name, second);
 }
 

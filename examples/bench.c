@@ -50,8 +50,8 @@ static int run(const char *name, const uint8_t *bytes, size_t length)
         printf("%s: exit %" PRIu64 " after %" PRIu64 " ops, global 1 is %" PRIu64 "\n", name,
                ngulo_report_exit_value(report), ngulo_report_count(report), globals[1]);
     } else if (ngulo_report_ending(report) == NGULO_ENDING_FAULT) {
-        printf("%s: fault of a %s at %" PRIu64 "\n", name, ngulo_report_fault_is_store(report) ? "store" : "load",
-               ngulo_report_fault_address(report));
+        printf("%s: fault of a %s at %" PRIu64 ": %s\n", name, ngulo_report_fault_is_store(report) ? "store" : "load",
+               ngulo_report_fault_address(report), ngulo_fault_reason_text(ngulo_report_fault_reason(report)));
     } else if (ngulo_report_ending(report) == NGULO_ENDING_NO_RESULT) {
         printf("%s: op %" PRIu64 " has no stated result\n", name, ngulo_report_position(report));
     } else {

@@ -6,9 +6,11 @@ ngulo.h says what the calls promise and what they ask of a caller.
 import ctypes
 import sys
 
-VERSION = "0.5"  # what this program is written for: major and minor number
+VERSION = "0.6"  # what this program is written for: major and minor number
 MAX_RESULT = 2752  # bytes: has room for every result
 ENDING_EXIT, ENDING_FAULT, ENDING_NO_RESULT = 1, 2, 3
+ACCESS_STORE, ACCESS_REASON = 256, 65536  # report[2] after a fault: flags + 256 for a store + 65536 * reason
+FAULT_REASONS = {0: "bounds", 1: "alignment"}
 
 DECL, EXIT_TB, MOVI_I32, MOV_I32, ADD_I32 = 0x01, 0x04, 0x10, 0x11, 0x14
 GLOBAL, TEMPORARY = 0, 2
@@ -86,7 +88,8 @@ def show(name, report, values):
     if ending == ENDING_EXIT:
         print(f"{name}: exit {detail} after {count} ops, global 1 is {values[1]}")
     elif ending == ENDING_FAULT:
-        print(f"{name}: fault of a {'store' if access & 256 else 'load'} at {detail}")
+        reason = FAULT_REASONS.get(access // ACCESS_REASON, "a reason of a later version")
+        print(f"{name}: fault of a {'store' if access & ACCESS_STORE else 'load'} at {detail}: {reason}")
     elif ending == ENDING_NO_RESULT:
         print(f"{name}: op {detail} has no stated result")
     else:

@@ -16,7 +16,7 @@
  * keeps a pointer, or has state of its own, so calls on different buffers may run at the same time. Each takes less
  * than 9 KB of stack (ngulo_pass_in_place: less than 12 KB).
  *
- * A later version may have more kinds, refusals and endings: have a default where you tell them apart.
+ * A later version may have more kinds, refusals, endings and reasons: have a default where you tell them apart.
  */
 #ifndef NGULO_H
 #define NGULO_H
@@ -27,9 +27,9 @@
 
 /* The version of this header; ngulo_version() is that of the library. */
 #define NGULO_VERSION_MAJOR 0
-#define NGULO_VERSION_MINOR 5
+#define NGULO_VERSION_MINOR 6
 #define NGULO_VERSION_PATCH 0
-#define NGULO_VERSION "0.5.0"
+#define NGULO_VERSION "0.6.0"
 #define NGULO_VERSION_NUMBER (65536 * NGULO_VERSION_MAJOR + 256 * NGULO_VERSION_MINOR + NGULO_VERSION_PATCH)
 
 /* What stands before the library's functions. Define it yourself to have something else there. */
@@ -219,7 +219,7 @@ enum ngulo_ending {
 enum ngulo_report_place {
     NGULO_REPORT_ENDING = 0,
     NGULO_REPORT_DETAIL = 1,  /* exit: value; fault: address; no stated result: the op's position, from 0 */
-    NGULO_REPORT_ACCESS = 2,  /* fault: flags, and NGULO_ACCESS_STORE more for a store; else 0 */
+    NGULO_REPORT_ACCESS = 2,  /* fault: flags + NGULO_ACCESS_STORE for a store + NGULO_ACCESS_REASON * reason; else 0 */
     NGULO_REPORT_COUNT = 3,   /* ops run */
     NGULO_REPORT_LENGTH = 4
 };
@@ -232,7 +232,14 @@ enum ngulo_flag {
     NGULO_SIZE_8 = 3,
     NGULO_FLAG_SIZE = 3,       /* the bits that hold the size */
     NGULO_FLAG_SIGNED = 4,     /* a load that sign-extends */
-    NGULO_FLAG_BIG_ENDIAN = 8
+    NGULO_FLAG_BIG_ENDIAN = 8,
+    NGULO_FLAG_ALIGNED = 16    /* the access faults where its address is no multiple of its size */
+};
+
+/* Why an access faulted: alignment where both apply. */
+enum ngulo_fault_reason {
+    NGULO_FAULT_BOUNDS = 0,    /* address plus size exceeds the memory's length */
+    NGULO_FAULT_ALIGNMENT = 1  /* the flags have NGULO_FLAG_ALIGNED, and the address is no multiple of the size */
 };
 
 /*
@@ -245,8 +252,9 @@ enum ngulo_bswap_flag {
     NGULO_BSWAP_OS = 4   /* the output is sign-extended */
 };
 
-/* report[NGULO_REPORT_ACCESS] after the fault of a store has this more than its flags. */
-#define NGULO_ACCESS_STORE 256
+/* What report[NGULO_REPORT_ACCESS] has after a fault, beside the flags. */
+#define NGULO_ACCESS_STORE 256     /* this more for a store */
+#define NGULO_ACCESS_REASON 65536  /* this, times the reason */
 
 /* The version of the library: 65536 * major + 256 * minor + patch. */
 NGULO_API uint64_t ngulo_version(void);
@@ -261,8 +269,8 @@ NGULO_USE_ANSWER NGULO_API uint64_t ngulo_check(const uint8_t *block, size_t blo
  * Optimises the block: fold, then prune.
  * Answers 256 * length of the result, which is then at the start of out; the bytes after it stay as they were.
  * Else number + 256 * place, and out stays as it was. NGULO_MAX_RESULT bytes always have room.
- * The result is accepted, and does what the block did: same exit or same fault, same globals, same memory, in no
- * more ops; unless the block's run meets an op without a stated result.
+ * The result is accepted, and does what the block did: same exit or same fault (its reason too), same globals, same
+ * memory, in no more ops; unless the block's run meets an op without a stated result.
  */
 NGULO_USE_ANSWER NGULO_API uint64_t ngulo_pass(const uint8_t *block, size_t block_length, uint8_t *out,
                                                size_t out_length);
@@ -435,6 +443,28 @@ static inline int ngulo_report_fault_is_signed(const uint64_t report[4])
 static inline int ngulo_report_fault_is_big_endian(const uint64_t report[4])
 {
     return (report[NGULO_REPORT_ACCESS] & NGULO_FLAG_BIG_ENDIAN) != 0;
+}
+
+/* After a fault: 1 if the address has to be a multiple of the size, else 0. */
+static inline int ngulo_report_fault_requires_alignment(const uint64_t report[4])
+{
+    return (report[NGULO_REPORT_ACCESS] & NGULO_FLAG_ALIGNED) != 0;
+}
+
+/* After a fault: why, NGULO_FAULT_BOUNDS or NGULO_FAULT_ALIGNMENT. */
+static inline unsigned ngulo_report_fault_reason(const uint64_t report[4])
+{
+    return NGULO_CAST(unsigned, report[NGULO_REPORT_ACCESS] / NGULO_ACCESS_REASON);
+}
+
+/* A fault's reason in a word. */
+static inline const char *ngulo_fault_reason_text(unsigned reason)
+{
+    switch (reason) {
+    case NGULO_FAULT_BOUNDS: return "bounds";
+    case NGULO_FAULT_ALIGNMENT: return "alignment";
+    default: return "no reason has this number";
+    }
 }
 
 /* After no stated result: the op's position, counted from 0 among the ops. */

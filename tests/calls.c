@@ -1,7 +1,8 @@
 /*
  * The calls for C on case 12, on a fault, on an op without a stated result, across a conditional branch, on every
- * refusal, with no bytes lent, and in place; the conditions at the corners of both widths; bit fields at every position
- * and length, swaps with all flags, and counts, each run and folded. Answers 0 if all are as they should be.
+ * refusal, with no bytes lent, and in place; the conditions at the corners of both widths; loads and stores with all
+ * flags, about the ends of memories and of addresses, each run and optimised; bit fields at every position and length,
+ * swaps with all flags, and counts, each run and folded. Answers 0 if all are as they should be.
  */
 #include "ngulo.h"
 
@@ -190,7 +191,10 @@ static const struct refused_block refused_blocks[] = {
     {"a variable not declared", {0x01, 0x00, 0x01, 0x04, 0x01}, 5, NGULO_REFUSAL_UNDECLARED, 3},
     {"an exit with 32 bits", {0x01, 0x00, 0x00, 0x04, 0x00}, 5, NGULO_REFUSAL_WRONG_WIDTH, 3},
     {"condition 10", {0x01, 0x00, 0x00, 0x28, 0x00, 0x00, 0x00, 0x0A}, 8, NGULO_REFUSAL_BAD_FIELD, 3},
-    {"flag bit 4", {0x01, 0x00, 0x01, 0xAB, 0x00, 0x00, 0x10}, 7, NGULO_REFUSAL_BAD_FIELD, 3},
+    {"flag bit 5", {0x01, 0x00, 0x01, 0xAB, 0x00, 0x00, 0x20}, 7, NGULO_REFUSAL_BAD_FIELD, 3},
+    {"flag bit 7, beside bit 4", {0x01, 0x00, 0x01, 0xAB, 0x00, 0x00, 0x90}, 7, NGULO_REFUSAL_BAD_FIELD, 3},
+    {"an aligned store that sign-extends", {0x01, 0x00, 0x01, 0xAC, 0x00, 0x00, 0x14}, 7, NGULO_REFUSAL_BAD_FIELD, 3},
+    {"an aligned access above the width", {0x01, 0x00, 0x00, 0x01, 0x00, 0x01, 0x2B, 0x00, 0x01, 0x13}, 10, NGULO_REFUSAL_BAD_FIELD, 6},
     {"label 32", {0x02, NGULO_MAX_LABELS}, 2, NGULO_REFUSAL_BAD_FIELD, 0},
     {"a 32-bit movi of 2^32", {0x01, 0x00, 0x00, 0x10, 0x00, 0x00, 0x00, 0x00, 0x00, 0x01}, 13, NGULO_REFUSAL_BAD_FIELD, 3},
     {"bswap64 in 32 bits", {0x01, 0x00, 0x00, 0x33, 0x00, 0x00, 0x00}, 7, NGULO_REFUSAL_UNKNOWN_KIND, 3},
@@ -413,6 +417,181 @@ static void conditions(void)
             for (cond = NGULO_COND_EQ; cond <= NGULO_COND_GTU; cond += 1) {
                 decides(cond, corners[wide][i / 6], corners[wide][i % 6], wide);
             }
+        }
+    }
+}
+
+/* A load into v1, or a store of it, at the address in v0. */
+struct access {
+    int wide;
+    int store;
+    unsigned flags;
+};
+
+enum { ACCESS_MEMORY = 19, ACCESS_BLOCK = 32 };
+
+/* Op 0 writes a temporary that nothing reads; op 1 is the access. */
+static size_t fill_access(uint8_t *block, const struct access *access)
+{
+    static const uint8_t bytes[] = {0x01, 0x00, 0x01, 0x01, 0x00, 0x00, 0x01, 0x02, 0x01, 0x91, 0x02, 0x00, 0x2B, 0x01, 0x00, 0x00, 0x04, 0x00};
+
+    memcpy(block, bytes, sizeof bytes);
+    block[5] = access->wide ? NGULO_TYPE_I64 : NGULO_TYPE_I32;
+    block[12] = (uint8_t)(access->store ? NGULO_KIND_QEMU_ST_I32 : NGULO_KIND_QEMU_LD_I32);
+    block[12] = (uint8_t)(block[12] + (access->wide ? NGULO_KIND_WIDE : 0));
+    block[15] = (uint8_t)access->flags;
+    return sizeof bytes;
+}
+
+/* How the access ended, what the globals hold then, and the memory. */
+struct accessed {
+    uint64_t report[4];
+    uint64_t globals[2];
+    uint8_t memory[ACCESS_MEMORY];
+};
+
+/* The globals and the memory before. */
+static void start_access(uint64_t address, struct accessed *into)
+{
+    size_t i;
+
+    memset(into, 0, sizeof *into);
+    into->globals[0] = address;
+    into->globals[1] = 0x89ABCDEF;
+    for (i = 0; i < ACCESS_MEMORY; i += 1) {
+        into->memory[i] = (uint8_t)(0xF0 - 7 * i);
+    }
+}
+
+static void run_access(const uint8_t *block, size_t length, uint64_t address, size_t memory_length, struct accessed *into)
+{
+    start_access(address, into);
+    expect("an access: run", ngulo_run(block, length, into->globals, 2, into->memory, memory_length, into->report), 0);
+}
+
+static void expect_state(const char *what, const struct accessed *found, const struct accessed *expected)
+{
+    expect(what, (uint64_t)memcmp(found->globals, expected->globals, sizeof found->globals), 0);
+    expect(what, (uint64_t)memcmp(found->memory, expected->memory, sizeof found->memory), 0);
+}
+
+/* The pass drops op 0; what is left ends alike, a fault also by its reason. */
+static void expect_optimised(const uint8_t *block, size_t length, size_t memory_length, const struct accessed *found)
+{
+    uint8_t out[ACCESS_BLOCK];
+    struct accessed result;
+    uint64_t address = found->globals[0];
+
+    expect("an access: pass", ngulo_pass(block, length, out, sizeof out), 256 * (length - 3));
+    run_access(out, length - 3, address, memory_length, &result);
+    expect_report("an optimised access", result.report, found->report[0], found->report[1], found->report[2], found->report[3] - 1);
+    expect_state("an optimised access: state", &result, found);
+}
+
+/* Where the address is a multiple of the size, bit 4 changes nothing but the flags reported. */
+static void expect_without_bit(const struct access *access, size_t memory_length, const struct accessed *found)
+{
+    struct access other = *access;
+    uint8_t block[ACCESS_BLOCK];
+    struct accessed without;
+    int faults = found->report[0] == NGULO_ENDING_FAULT;
+
+    other.flags &= ~(unsigned)NGULO_FLAG_ALIGNED;
+    run_access(block, fill_access(block, &other), found->globals[0], memory_length, &without);
+    expect_report("without bit 4", without.report, found->report[0], found->report[1],
+                  found->report[2] - (faults ? access->flags - other.flags : 0), found->report[3]);
+    expect_state("without bit 4: state", &without, found);
+}
+
+/* What an access that is served does to the globals and the memory. */
+static void serve(const struct access *access, struct accessed *state)
+{
+    unsigned size = 1u << (access->flags & NGULO_FLAG_SIZE);
+    uint8_t *bytes = state->memory + state->globals[0];
+    uint64_t value = 0;
+    unsigned i;
+
+    for (i = 0; i < size; i += 1) {
+        unsigned shift = 8 * (access->flags & NGULO_FLAG_BIG_ENDIAN ? size - 1 - i : i);
+
+        if (access->store) {
+            bytes[i] = (uint8_t)(state->globals[1] >> shift);
+        }
+        value |= (uint64_t)bytes[i] << shift;
+    }
+    if (access->store) {
+        return;
+    }
+    if ((access->flags & NGULO_FLAG_SIGNED) && value >> (8 * size - 1)) {
+        value |= ~(UINT64_MAX >> (64 - 8 * size));
+    }
+    state->globals[1] = access->wide ? value : value & UINT32_MAX;
+}
+
+/* The access at an address of a memory of this length. */
+static void accesses_at(const struct access *access, uint64_t address, size_t memory_length)
+{
+    unsigned size = 1u << (access->flags & NGULO_FLAG_SIZE);
+    int asked = (access->flags & NGULO_FLAG_ALIGNED) != 0;
+    int misaligned = asked && address % size != 0;
+    int past = memory_length < size || address > memory_length - size;
+    uint8_t block[ACCESS_BLOCK];
+    size_t length = fill_access(block, access);
+    struct accessed expected;
+    struct accessed found;
+
+    start_access(address, &expected);
+    run_access(block, length, address, memory_length, &found);
+    if (misaligned || past) {
+        expect_report("an access that faults", found.report, NGULO_ENDING_FAULT, address,
+                      access->flags + (access->store ? 256u : 0u) + (misaligned ? 65536u : 0u), 2);
+    } else {
+        expect_report("an access that is served", found.report, NGULO_ENDING_EXIT, address, 0, 3);
+        serve(access, &expected);
+    }
+    expect_state("what an access leaves", &found, &expected);
+    expect_optimised(block, length, memory_length, &found);
+    if (asked && !misaligned) {
+        expect_without_bit(access, memory_length, &found);
+    }
+}
+
+/* Every address of memories of so few bytes, and some past them; the last addresses there are. */
+static void accesses_with(const struct access *access)
+{
+    size_t memory_length;
+    uint64_t i;
+
+    for (memory_length = 0; memory_length < ACCESS_MEMORY; memory_length += 1) {
+        for (i = 0; i < ACCESS_MEMORY + 9; i += 1) {
+            accesses_at(access, i, memory_length);
+        }
+        for (i = 0; i < 17; i += 1) {
+            accesses_at(access, UINT64_MAX - i, memory_length);
+        }
+        accesses_at(access, UINT64_C(0x8000000000000000), memory_length);
+        accesses_at(access, UINT64_C(0x8000000000000001), memory_length);
+    }
+}
+
+/* Which of all flags are accepted; and what each such access does. */
+static void accesses(void)
+{
+    unsigned i;
+
+    for (i = 0; i < 4 * 256; i += 1) {
+        struct access access;
+        uint8_t block[ACCESS_BLOCK];
+        int accepted;
+
+        access.wide = (i / 256) % 2 == 1;
+        access.store = i / 512 == 1;
+        access.flags = i % 256;
+        accepted = access.flags < 0x20 && (access.wide || access.flags % 4 != 3) && !(access.store && access.flags / 4 % 2 == 1);
+        expect("the flags of an access", ngulo_check(block, fill_access(block, &access)),
+               accepted ? 0 : NGULO_REFUSAL_BAD_FIELD + 256 * 12);
+        if (accepted) {
+            accesses_with(&access);
         }
     }
 }
@@ -732,6 +911,7 @@ int main(void)
     lends_nothing();
     lends_all();
     conditions();
+    accesses();
     bits();
     if (failures == 0) {
         puts("calls from C: as they should be");

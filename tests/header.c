@@ -46,6 +46,9 @@ static void constants(void)
     expect("report", NGULO_REPORT_LENGTH, 4);
     expect("sizes", NGULO_SIZE_1 + NGULO_SIZE_2 + NGULO_SIZE_4 + NGULO_SIZE_8, 0 + 1 + 2 + 3);
     expect("a store's more", NGULO_ACCESS_STORE, 256);
+    expect("a reason's more", NGULO_ACCESS_REASON, 65536);
+    expect("bounds", NGULO_FAULT_BOUNDS, 0);
+    expect("alignment", NGULO_FAULT_ALIGNMENT, 1);
 }
 
 /* The numbers of kinds are compared one by one elsewhere, with docs/FORMAT.md. */
@@ -65,7 +68,8 @@ static void numbers(void)
     expect("first condition", NGULO_COND_EQ, 0);
     expect("first unsigned condition", NGULO_COND_LTU, 6);
     expect("last condition", NGULO_COND_GTU, 9);
-    expect("flags", NGULO_FLAG_SIZE + NGULO_FLAG_SIGNED + NGULO_FLAG_BIG_ENDIAN, 15);
+    expect("flags", NGULO_FLAG_SIZE + NGULO_FLAG_SIGNED + NGULO_FLAG_BIG_ENDIAN + NGULO_FLAG_ALIGNED, 31);
+    expect("aligned", NGULO_FLAG_ALIGNED, 16);
     expect("a swap's input flag", NGULO_BSWAP_IZ, 1);
     expect("a swap's output flags", 16 * NGULO_BSWAP_OZ + NGULO_BSWAP_OS, 0x24);
 }
@@ -109,6 +113,37 @@ static void answers(void)
     expect("refusal 3 at 3200: place", ngulo_refusal_place(3 + 256 * 3200), 3200);
     expect("length 2752: refused", (uint64_t)ngulo_is_refused((uint64_t)256 * 2752), 0);
     expect("length 2752", ngulo_result_length((uint64_t)256 * 2752), NGULO_MAX_RESULT);
+}
+
+/*
+ * Faults by alignment, of a load with all flags and of a store, and by bounds, with bit 4 and without: no helper takes
+ * one part of report[2] for another.
+ */
+static void reasons(void)
+{
+    static const uint64_t misaligned_load[NGULO_REPORT_LENGTH] = {2, 9, 0x1F + 65536, 3};
+    static const uint64_t misaligned_store[NGULO_REPORT_LENGTH] = {2, 9, 0x12 + 256 + 65536, 3};
+    static const uint64_t past_aligned[NGULO_REPORT_LENGTH] = {2, 16, 0x1B + 256, 3};
+    static const uint64_t past_plain[NGULO_REPORT_LENGTH] = {2, 16, 0x0F, 3};
+
+    expect("misaligned load: reason", ngulo_report_fault_reason(misaligned_load), NGULO_FAULT_ALIGNMENT);
+    expect("misaligned load: store", (uint64_t)ngulo_report_fault_is_store(misaligned_load), 0);
+    expect("misaligned load: flags", ngulo_report_fault_flags(misaligned_load), 0x1F);
+    expect("misaligned load: size", ngulo_report_fault_size(misaligned_load), 8);
+    expect("misaligned load: signed", (uint64_t)ngulo_report_fault_is_signed(misaligned_load), 1);
+    expect("misaligned load: big-endian", (uint64_t)ngulo_report_fault_is_big_endian(misaligned_load), 1);
+    expect("misaligned load: alignment", (uint64_t)ngulo_report_fault_requires_alignment(misaligned_load), 1);
+    expect("misaligned store: reason", ngulo_report_fault_reason(misaligned_store), NGULO_FAULT_ALIGNMENT);
+    expect("misaligned store: store", (uint64_t)ngulo_report_fault_is_store(misaligned_store), 1);
+    expect("misaligned store: flags", ngulo_report_fault_flags(misaligned_store), 0x12);
+    expect("misaligned store: size", ngulo_report_fault_size(misaligned_store), 4);
+    expect("misaligned store: signed", (uint64_t)ngulo_report_fault_is_signed(misaligned_store), 0);
+    expect("misaligned store: big-endian", (uint64_t)ngulo_report_fault_is_big_endian(misaligned_store), 0);
+    expect("aligned store past the memory: reason", ngulo_report_fault_reason(past_aligned), NGULO_FAULT_BOUNDS);
+    expect("aligned store past the memory: store", (uint64_t)ngulo_report_fault_is_store(past_aligned), 1);
+    expect("aligned store past the memory: alignment", (uint64_t)ngulo_report_fault_requires_alignment(past_aligned), 1);
+    expect("load past the memory: reason", ngulo_report_fault_reason(past_plain), NGULO_FAULT_BOUNDS);
+    expect("load past the memory: alignment", (uint64_t)ngulo_report_fault_requires_alignment(past_plain), 0);
 }
 
 static void reports(void)
@@ -276,6 +311,9 @@ static void texts(void)
     expect("text: 6", (uint64_t)strcmp(ngulo_refusal_text(6), "bad condition, flags, label, position, length or 32-bit constant"), 0);
     expect("text: 8", (uint64_t)strcmp(ngulo_refusal_text(8), "temporary read before a write in its extended basic block"), 0);
     expect("text: 255", (uint64_t)strcmp(ngulo_refusal_text(255), "no refusal has this number"), 0);
+    expect("text: bounds", (uint64_t)strcmp(ngulo_fault_reason_text(NGULO_FAULT_BOUNDS), "bounds"), 0);
+    expect("text: alignment", (uint64_t)strcmp(ngulo_fault_reason_text(NGULO_FAULT_ALIGNMENT), "alignment"), 0);
+    expect("text: reason 2", (uint64_t)strcmp(ngulo_fault_reason_text(2), "no reason has this number"), 0);
 }
 
 int main(void)
@@ -286,6 +324,7 @@ int main(void)
     bounds();
     answers();
     reports();
+    reasons();
     nullable_with_nothing();
     nullable_with_all();
     in_place();

@@ -16,7 +16,7 @@ uint64_t use_names(void)
 {
     static const uint8_t block[] = {NGULO_KIND_DECL, NGULO_CLASS_GLOBAL, NGULO_TYPE_I64,
                                     NGULO_KIND_WIDE + NGULO_KIND_SETCOND_I32, 0, 0, 0, NGULO_COND_GTU,
-                                    NGULO_KIND_QEMU_LD_I64, 0, 0, NGULO_SIZE_2 | NGULO_FLAG_SIGNED | NGULO_FLAG_BIG_ENDIAN,
+                                    NGULO_KIND_QEMU_LD_I64, 0, 0, NGULO_SIZE_2 | NGULO_FLAG_SIGNED | NGULO_FLAG_BIG_ENDIAN | NGULO_FLAG_ALIGNED,
                                     NGULO_KIND_WIDE + NGULO_KIND_BSWAP16_I32, 0, 0, NGULO_BSWAP_IZ | NGULO_BSWAP_OZ,
                                     NGULO_KIND_EXIT_TB, 0};
 
@@ -55,6 +55,9 @@ uint64_t use_report(const struct ngulo_report *report)
         if (ngulo_report_fault_is_store(report->places) || ngulo_report_fault_is_signed(report->places) ||
             ngulo_report_fault_is_big_endian(report->places)) {
             return ngulo_report_fault_flags(report->places);
+        }
+        if (ngulo_report_fault_requires_alignment(report->places)) {
+            return ngulo_fault_reason_text(ngulo_report_fault_reason(report->places))[0] == 'a';
         }
         return ngulo_report_fault_address(report->places) + ngulo_report_fault_size(report->places);
     default:

@@ -13,20 +13,22 @@
 #define DEFAULT_SEED UINT64_C(1)
 #define DEFAULT_RUNS UINT64_C(1000)
 
-static void say_endings(const struct side sides[2], uint64_t reports[2][NGULO_REPORT_LENGTH])
+static void say_endings(const struct side sides[2], const struct state *state,
+                        uint64_t reports[2][NGULO_REPORT_LENGTH])
 {
     char ending[ENDING_SIZE];
     int i;
 
     for (i = 0; i < 2; i += 1) {
-        ending_words(reports[i], ending);
+        ending_words(reports[i], state->memory.length, ending);
         printf("\n%s: %s", sides[i].name, ending);
     }
     putchar('\n');
 }
 
 /* What was found on one state; a difference is printed already. Answers the exit status. */
-static int say_found(enum difference found, const struct side sides[2], uint64_t reports[2][NGULO_REPORT_LENGTH])
+static int say_found(enum difference found, const struct side sides[2], const struct state *state,
+                     uint64_t reports[2][NGULO_REPORT_LENGTH])
 {
     int status = STATUS_REFUSED;
 
@@ -47,7 +49,7 @@ static int say_found(enum difference found, const struct side sides[2], uint64_t
     case UNFIT:
         return complain("the state does not fit both blocks");
     }
-    say_endings(sides, reports);
+    say_endings(sides, state, reports);
     return status;
 }
 
@@ -79,7 +81,7 @@ static int diff_given(const struct request *request, const struct bytes *first, 
     }
     status = judge_state(request, first, &state);
     if (status == STATUS_DONE) {
-        status = say_found(compare_runs(sides, &state, reports), sides, reports);
+        status = say_found(compare_runs(sides, &state, reports), sides, &state, reports);
     }
     free_state(&state);
     return status;
@@ -123,7 +125,7 @@ static int count_runs(const struct request *request, const struct side sides[2],
         seed_state(tally->seed + i, request, block, state);
         found = compare_runs(sides, state, reports);
         if (found == DIFFERENT || found == UNFIT) {
-            int status = say_found(found, sides, reports);
+            int status = say_found(found, sides, state, reports);
 
             say_state_of(tally->seed + i, request, state);
             return status;

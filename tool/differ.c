@@ -45,7 +45,7 @@ static int run_side(const struct side *side, const struct state *state, struct o
                                        outcome->memory, state->memory.length, report));
 }
 
-/* Everything of a report but the count. */
+/* Everything of a report but the count: of a fault also its reason. */
 static int endings_differ(uint64_t reports[2][NGULO_REPORT_LENGTH])
 {
     if (memcmp(reports[0], reports[1], NGULO_REPORT_COUNT * sizeof(uint64_t)) == 0) {

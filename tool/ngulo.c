@@ -46,7 +46,8 @@ static const struct command commands[] = {
      "\n"
      "Says how the run ended, in one line of these:\n"
      "  exit 0x2a after 5 ops\n"
-     "  fault after 3 ops: load of 4 bytes at 0x10, unsigned, little-endian\n"
+     "  fault after 3 ops: store of 4 bytes at 0x10, ...: it reaches past the end of ...\n"
+     "  fault after 3 ops: load of 4 bytes at 0xd, ...: 0xd is no multiple of 4\n"
      "  no stated result at op 4 after 2 ops: divu_i64 v0, v0, v1: the divisor is zero\n"
      "  block.hex: refusal 11 at 0: globals or memory do not fit the block: ...\n"
      "Unless it was refused, the globals follow, one a line.\n"
@@ -56,7 +57,8 @@ static const struct command commands[] = {
      "                   it read and wrote\n" NAMES
      "  --dump-memory    show the memory after the run, 16 bytes a line\n" PLAIN "these\n"
      "                   exit 0x2a after 5 ops\n"
-     "                   fault load at 0x10 flags 0x02 after 3 ops\n"
+     "                   fault store at 0x10 flags 0x02 (bounds) after 3 ops\n"
+     "                   fault load at 0xd flags 0x12 (alignment) after 3 ops\n"
      "                   no stated result at op 4 after 2 ops\n"
      "                   refusal 11 at 0\n" NUMBERS},
     {"opt", command_opt, 1, TAKES_PLAIN | TAKES_NAMES | TAKES_OUT,

@@ -69,8 +69,8 @@ static void print_bad_flags(FILE *stream, const uint8_t *record)
     unsigned flags = record[3];
 
     fprintf(stream, ": flags 0x%02x: ", flags);
-    if (flags > NGULO_FLAG_SIZE + NGULO_FLAG_SIGNED + NGULO_FLAG_BIG_ENDIAN) {
-        fputs("the bits from 4 on are to be zero", stream);
+    if (flags > NGULO_FLAG_SIZE + NGULO_FLAG_SIGNED + NGULO_FLAG_BIG_ENDIAN + NGULO_FLAG_ALIGNED) {
+        fputs("bits 5 to 7 are to be zero", stream);
     } else if (operand_type(record[0], 1) == NGULO_TYPE_I32 && (flags & NGULO_FLAG_SIZE) == NGULO_SIZE_8) {
         fputs("8 bytes are more than the op's 32 bits", stream);
     } else {

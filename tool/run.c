@@ -22,9 +22,9 @@ static void say_plain_ending(const uint64_t report[4])
         printf("exit 0x%" PRIx64 " after %" PRIu64 " ops\n", ngulo_report_exit_value(report), count);
         break;
     case NGULO_ENDING_FAULT:
-        printf("fault %s at 0x%" PRIx64 " flags 0x%02x after %" PRIu64 " ops\n",
+        printf("fault %s at 0x%" PRIx64 " flags 0x%02x (%s) after %" PRIu64 " ops\n",
                ngulo_report_fault_is_store(report) ? "store" : "load", ngulo_report_fault_address(report),
-               ngulo_report_fault_flags(report), count);
+               ngulo_report_fault_flags(report), ngulo_fault_reason_text(ngulo_report_fault_reason(report)), count);
         break;
     default:
         printf("no stated result at op %" PRIu64 " after %" PRIu64 " ops\n", ngulo_report_position(report), count);
@@ -32,12 +32,12 @@ static void say_plain_ending(const uint64_t report[4])
     }
 }
 
-static void say_ending(const struct records *block, const uint64_t report[4])
+static void say_ending(const struct records *block, size_t memory_length, const uint64_t report[4])
 {
     char ending[ENDING_SIZE];
     char op[LISTING_SIZE];
 
-    ending_words(report, ending);
+    ending_words(report, memory_length, ending);
     fputs(ending, stdout);
     if (ngulo_report_ending(report) == NGULO_ENDING_NO_RESULT) {
         const uint8_t *unstated = op_at(block, (unsigned)ngulo_report_position(report));
@@ -111,7 +111,7 @@ static int say_run(const struct request *request, const struct bytes *block, str
     if (request->plain) {
         say_plain_ending(report);
     } else {
-        say_ending(&records, report);
+        say_ending(&records, state->memory.length, report);
     }
     say_state(request, state);
     return STATUS_DONE;

@@ -12,6 +12,14 @@ static uint64_t next_number(uint64_t *state)
     return x ^ (x >> 31);
 }
 
+/* Within the memory or just past it. Half of them are rounded down to a multiple of 8, and so aligned for any access. */
+static uint64_t make_address(uint64_t any, size_t memory_length)
+{
+    uint64_t address = any % (memory_length + 8);
+
+    return any >> 63 ? address : address - address % 8;
+}
+
 static uint64_t make_value(uint64_t *state, int wide, size_t memory_length)
 {
     uint64_t top = wide ? (uint64_t)1 << 63 : (uint64_t)1 << 31;
@@ -26,7 +34,7 @@ static uint64_t make_value(uint64_t *state, int wide, size_t memory_length)
     case 4: return top - 1;
     case 5: return any & all;
     case 6: return (memory_length - 8 + any % 16) & all;
-    default: return any % (memory_length + 8);
+    default: return make_address(any, memory_length);
     }
 }
 

@@ -10,9 +10,9 @@
 int make_room_for_seeded(struct state *into);
 
 /*
- * Globals that fit the block, many of them at the edges of what they can be, within the memory or about its end. The
- * memory is as long as the request says, else by the seed: half of the seeds have at most 64 bytes, a quarter at most
- * 4,096, a quarter 65,536.
+ * Globals that fit the block, many of them at the edges of what they can be, within the memory, aligned or not, or about
+ * its end. The memory is as long as the request says, else by the seed: half of the seeds have at most 64 bytes, a
+ * quarter at most 4,096, a quarter 65,536.
  */
 void seed_state(uint64_t seed, const struct request *request, const struct records *block, struct state *into);
 

@@ -108,11 +108,10 @@ static void print_writes(const struct records *block, const char *names, const s
 {
     const uint8_t *op = op_at(block, m->position);
 
-    if (!goes_on) {
-        fputs(op[0] == NGULO_KIND_EXIT_TB                                  ? "exit"
-              : ngulo_report_ending(m->report) == NGULO_ENDING_FAULT ? "fault"
-                                                                     : "no stated result",
-              stdout);
+    if (!goes_on && ngulo_report_ending(m->report) == NGULO_ENDING_FAULT) {
+        printf("fault (%s)", ngulo_fault_reason_text(ngulo_report_fault_reason(m->report)));
+    } else if (!goes_on) {
+        fputs(op[0] == NGULO_KIND_EXIT_TB ? "exit" : "no stated result", stdout);
     } else if (shape_of(op[0])->outputs == 1) {
         print_value(op[1], names, m);
     } else if (is_access(op[0])) {

@@ -2,20 +2,17 @@
 #ifndef NGULO_WORDS_H
 #define NGULO_WORDS_H
 
+#include <stddef.h>
 #include <stdint.h>
 
-/* Room for an access and for an ending in words. */
-#define ACCESS_SIZE 72
-#define ENDING_SIZE 112
-
-/* After a fault: "load of 4 bytes at 0xd, unsigned, little-endian". */
-void access_words(const uint64_t report[4], char text[ACCESS_SIZE]);
+/* Room for an ending in words. */
+#define ENDING_SIZE 192
 
 /*
- * "exit 0x2a after 5 ops", "fault after 1 op: load of 4 bytes at 0xd, unsigned, little-endian",
- * "no stated result at op 4 after 2 ops".
+ * The ending of a run on a memory of this length: "exit 0x2a after 5 ops", "no stated result at op 4 after 2 ops",
+ * "fault after 1 op: load of 4 bytes at 0xd, unsigned, little-endian: it reaches past the end of the 16-byte memory".
  */
-void ending_words(const uint64_t report[4], char text[ENDING_SIZE]);
+void ending_words(const uint64_t report[4], size_t memory_length, char text[ENDING_SIZE]);
 
 /* Where no result is stated for an op of this kind; "" if it always has one. */
 const char *unstated_words(uint8_t kind);

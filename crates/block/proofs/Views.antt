@@ -9,7 +9,6 @@ use lib.Seq.{take-nil, getD-take, drop-drop, getD-drop}
 use native.Mathlib.Nat.{zero-add, suc-add, add-zero, add-suc, add-assoc}
 use Rattle.theory.specs.Machine.{always, when, to, View, calc, access, label, flow}
 use Rattle.word.specs.Condition.{condW}
-use Rattle.memory.specs.Access.{loadAt, storeAt}
 use Rattle.memory.specs.Bytes.{lowFirst}
 use Rattle.memory.proofs.Numbers.{low-same}
 use Rattle.ops.specs.Rows.{Role, unknown, declares, setsLabel, jumpsTo, exits, branches, loads, stores, constant, computing, Row, bodyOf, at, testOk}
@@ -18,7 +17,7 @@ use Rattle.ops.specs.Table.{rowOf}
 use Rattle.ops.specs.Rows.{roleOf, bodyLength, outputCount, operandCount, Table}
 use Rattle.ops.specs.Ops.{atTypes, evalOf, Fault, leave, viewFor, viewOf}
 use Rattle.ops.specs.Fields.{kindOf, rowAt, bytesAt, outsBy, insBy, restBy, labelBy}
-use Rattle.ops.specs.Kinds.{opWidth, afterLoad, afterStore, loadOf, storeOf, holdsOf}
+use Rattle.ops.specs.Kinds.{opWidth, loadAt, storeAt, loadOf, storeOf, holdsOf}
 use Rattle.ops.proofs.Inputs.{constant-states}
 use Rattle.ops.proofs.Table.{typeAt, RowFor, row-of}
 use Rattle.block.specs.Rules.{Seen, allBelow, operandsOf, rule4, rule6}
@@ -32,10 +31,10 @@ abbrev pub branchView : ℕ → ℕ → ℕ → ℕ → ℕ → ℕ → View ℕ
 branchView k t a b c l = flow (a ∷ b ∷ []) (when (λ m vs. let xs = atTypes (t ∷ t ∷ []) vs in condW (opWidth k) c (at xs 0) (at xs 1))) (to l)
 
 abbrev pub loadView : ℕ → ℕ → ℕ → ℕ → View ℕ (List ℕ) ℕ Fault
-loadView k d a f = access (d ∷ []) (a ∷ []) (λ m vs. let p = at vs 0 in afterLoad m p f (loadAt (opWidth k) f m p))
+loadView k d a f = access (d ∷ []) (a ∷ []) (λ m vs. loadAt (opWidth k) f m (at vs 0))
 
 abbrev pub storeView : ℕ → ℕ → ℕ → View ℕ (List ℕ) ℕ Fault
-storeView x a f = access [] (x ∷ a ∷ []) (λ m vs. let p = at vs 1 in afterStore p f (storeAt f m p (at vs 0)))
+storeView x a f = access [] (x ∷ a ∷ []) (λ m vs. storeAt f m (at vs 1) (at vs 0))
 
 abbrev pub pureView : ℕ → ℕ → List ℕ → List ℕ → View ℕ (List ℕ) ℕ Fault
 pureView k d ins rest = calc (d ∷ []) ins (evalOf document01 k rest)

@@ -1,7 +1,7 @@
 -- Case 12, and the examples of the mistakes, by computation. Assumes nothing.
 use mathlib.Core.Path.{refl}
 use Rattle.word.specs.Word.{byDivisor}
-use Rattle.memory.specs.Access.{flagsOk, loaded, loadAt}
+use Rattle.memory.specs.Access.{flagsOk, aligned, accessAt, loaded}
 use Rattle.memory.specs.Bytes.{lowFirst, bytesOf}
 use Rattle.ops.specs.Eval.{unaryOf, logicOf, divideOf}
 use Rattle.ops.specs.Rows.{roleNo, typesOf, testOk, tableOf}
@@ -21,5 +21,5 @@ unfolding Case12 source12 result12 passBy passChecked passOps resultOf checkBy c
 case-12 = (refl, refl, refl)
 
 pub mistakes : Mistakes
-unfolding Mistakes writeBeforeLoad deadLoad loadIntoGlobal divisionByZero knownAtLabel passBy passChecked passOps resultOf checkBy checkFrom cutOf cutBy firstBroken rule3 rule4 rule5 rule6 rule7 rule8 rule9 rule10 rule7end next runBy runChecked runOps fits evalOf viewOf tableOf kindTable roleNo typesOf testOk wideOf computedOf statesOf loadOf storeOf holdsOf unaryOf logicOf divideOf byDivisor flagsOk loadAt loaded lowFirst bytesOf
+unfolding Mistakes writeBeforeLoad deadLoad loadIntoGlobal divisionByZero knownAtLabel passBy passChecked passOps resultOf checkBy checkFrom cutOf cutBy firstBroken rule3 rule4 rule5 rule6 rule7 rule8 rule9 rule10 rule7end next runBy runChecked runOps fits evalOf viewOf tableOf kindTable roleNo typesOf testOk wideOf computedOf statesOf loadOf storeOf holdsOf unaryOf logicOf divideOf byDivisor flagsOk aligned accessAt loaded lowFirst bytesOf
 mistakes = (refl, refl, refl, refl, refl, refl, refl, refl, refl, refl)

@@ -4,6 +4,7 @@ use mathlib.Core.Path.{_≡_}
 use mathlib.Core.Bool.{false}
 use mathlib.Core.List.{List, [], _∷_, _++_}
 use lib.ListN.{length}
+use Rattle.memory.specs.declared.Reason.the-variants.{Bounds}
 use Rattle.runs.specs.declared.Ending.the-variants.{Exit, Fault, NoResult}
 use Rattle.runs.specs.Runs.{runOf}
 use Rattle.passes.specs.declared.Written.the-variants.{Length}
@@ -75,11 +76,11 @@ knownAtLabel = declared5 ++ movi64 0x02 0x01 ++ (0x02 ∷ 0x00 ∷ []) ++ (0x94 
 unfoldable pub Mistakes : Type 0
 Mistakes =
     Gives writeBeforeLoad writeBeforeLoad
-    × (runOf writeBeforeLoad (1 ∷ 0x10 ∷ []) [] ≡ record { answer = Fault false 0x10 0x03 2; globals = 5 ∷ 0x10 ∷ []; memory = [] })
+    × (runOf writeBeforeLoad (1 ∷ 0x10 ∷ []) [] ≡ record { answer = Fault false 0x10 0x03 Bounds 2; globals = 5 ∷ 0x10 ∷ []; memory = [] })
     × Gives deadLoad deadLoad
-    × (runOf deadLoad (1 ∷ 0x10 ∷ []) [] ≡ record { answer = Fault false 0x10 0x03 1; globals = 1 ∷ 0x10 ∷ []; memory = [] })
+    × (runOf deadLoad (1 ∷ 0x10 ∷ []) [] ≡ record { answer = Fault false 0x10 0x03 Bounds 1; globals = 1 ∷ 0x10 ∷ []; memory = [] })
     × Gives loadIntoGlobal loadIntoGlobal
-    × (runOf loadIntoGlobal (1 ∷ 0x10 ∷ []) [] ≡ record { answer = Fault false 0x10 0x03 2; globals = 5 ∷ 0x10 ∷ []; memory = [] })
+    × (runOf loadIntoGlobal (1 ∷ 0x10 ∷ []) [] ≡ record { answer = Fault false 0x10 0x03 Bounds 2; globals = 5 ∷ 0x10 ∷ []; memory = [] })
     × Gives divisionByZero divisionByZero
     × (runOf divisionByZero (1 ∷ 0x10 ∷ []) [] ≡ record { answer = NoResult 2 2; globals = 1 ∷ 0x10 ∷ []; memory = [] })
     × Gives knownAtLabel knownAtLabel

@@ -4,3 +4,4 @@ pub mod Table
 pub mod Conditions
 pub mod Extended
 pub mod Fields
+pub mod Aligned

@@ -6,6 +6,7 @@ use mathlib.Core.List.{List, [], _∷_, _++_, map}
 use Rattle.block.specs.declared.Verdict.{Verdict}
 use Rattle.block.specs.declared.Verdict.the-variants.{Accepted, Refused}
 use Rattle.block.specs.Checks.{checkOf}
+use Rattle.memory.specs.declared.Reason.the-variants.{Bounds}
 use Rattle.runs.specs.declared.Ending.the-variants.{Exit, Fault, NoResult}
 use Rattle.runs.specs.Runs.{Ran, ranAs, runOf}
 
@@ -65,12 +66,12 @@ narrowed a x = run (ranAs (Exit a 2) (a ∷ x ∷ []) [])
 abbrev pub load32 : ℕ → ℕ → List ℕ → Answer
 load32 flags address memory = run (runOf (blockOf (1 ∷ 0 ∷ []) (0x2B ∷ 1 ∷ 0 ∷ flags ∷ [])) (address ∷ 0xEE ∷ []) memory)
 
--- it is served with x, or faults
+-- it is served with x, or faults: the flags ask for no alignment
 abbrev pub served : ℕ → List ℕ → ℕ → Answer
 served address memory x = run (ranAs (Exit address 2) (address ∷ x ∷ []) memory)
 
 abbrev pub faulted : ℕ → ℕ → List ℕ → Answer
-faulted flags address memory = run (ranAs (Fault false address flags 1) (address ∷ 0xEE ∷ []) memory)
+faulted flags address memory = run (ranAs (Fault false address flags Bounds 1) (address ∷ 0xEE ∷ []) memory)
 
 -- "Memory of 16 (decimal) bytes"
 abbrev pub sixteen : List ℕ

@@ -1,5 +1,6 @@
-// Runs cases 2 to 10 and 12 of document 01, and writes what each leaves. The file stdout holds what it writes.
+// Runs cases 2 to 10 and 12 of document 01 and aligned accesses, and writes what each leaves. The file stdout holds what it writes.
 use block::Verdict;
+use memory::Reason;
 use passes::Written;
 use runs::Ending;
 
@@ -42,7 +43,18 @@ fn show_refusal(rule: u8, place: usize) {
     io::print_decimal(1, wide_place(place));
 }
 
-fn show_fault(store: bool, address: u64, flags: u8) {
+fn show_reason(reason: Reason) {
+    match reason {
+        Reason::Bounds => {
+            io::write_all(1, b" (bounds)");
+        }
+        Reason::Alignment => {
+            io::write_all(1, b" (alignment)");
+        }
+    }
+}
+
+fn show_fault(store: bool, address: u64, flags: u8, reason: Reason) {
     if store {
         io::write_all(1, b"fault store at ");
     } else {
@@ -51,6 +63,7 @@ fn show_fault(store: bool, address: u64, flags: u8) {
     show_number(address);
     io::write_all(1, b" flags 0x");
     io::print_hex(1, wide(flags), 2);
+    show_reason(reason);
 }
 
 fn show_count(count: u64) {
@@ -77,9 +90,10 @@ fn show_ending(ending: Ending) {
             store,
             address,
             flags,
+            reason,
             count,
         } => {
-            show_fault(store, address, flags);
+            show_fault(store, address, flags, reason);
             show_count(count);
         }
         Ending::NoResult { position, count } => {
@@ -252,6 +266,26 @@ fn case_9() {
     access(b"case 9: a 4-byte store at 12: ", store, 12, &mut memory);
 }
 
+// Bit 4: aligned, at an odd address inside and outside the memory, and past its end.
+fn aligned_accesses() {
+    let mut memory = [0u8, 1, 2, 3, 4, 5, 6, 7, 8, 9, 10, 11, 12, 13, 14, 15];
+    let load = b"\x01\x00\x01\x01\x00\x00\x01\x00\x01\x2B\x01\x02\x12\x06\x00\x01\x04\x00";
+    let store = b"\x01\x00\x01\x01\x00\x00\x01\x00\x01\x2C\x01\x02\x12\x06\x00\x01\x04\x00";
+    access(b"a 4-byte load with bit 4 at 12: ", load, 12, &mut memory);
+    access(b"a 4-byte load with bit 4 at 5: ", load, 5, &mut memory);
+    access(b"a 4-byte load with bit 4 at 13: ", load, 13, &mut memory);
+    access(b"a 4-byte load with bit 4 at 16: ", load, 16, &mut memory);
+    access(b"a 4-byte store with bit 4 at 5: ", store, 5, &mut memory);
+    access(
+        b"a 4-byte store with bit 4 at FFFFFFFFFFFFFFFF: ",
+        store,
+        0xFFFFFFFFFFFFFFFF,
+        &mut memory,
+    );
+    access(b"a 4-byte store with bit 4 at 16: ", store, 16, &mut memory);
+    access(b"a 4-byte store with bit 4 at 8: ", store, 8, &mut memory);
+}
+
 fn case_10() {
     let signed = b"\x01\x00\x01\x01\x00\x00\x01\x00\x01\x2B\x01\x02\x04\x06\x00\x01\x04\x00";
     let little = b"\x01\x00\x01\x01\x00\x00\x01\x00\x01\x2B\x01\x02\x01\x06\x00\x01\x04\x00";
@@ -308,6 +342,7 @@ fn main() {
     case_7();
     case_8();
     case_9();
+    aligned_accesses();
     case_10();
     case_12();
 }

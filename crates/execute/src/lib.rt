@@ -48,10 +48,12 @@ fn ended(stop: Stop, op: usize, count: u64) -> Ending
             store,
             address,
             flags,
+            reason,
         } => Ending::Fault {
             store,
             address,
             flags,
+            reason,
             count: count + 1,
         },
         Stop::Unstated => Ending::NoResult {

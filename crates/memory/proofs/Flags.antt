@@ -7,14 +7,14 @@ use lib.Dec.{leb}
 use borrow.Author.Tests.{lt-ltb, le-ltb}
 use Rattle.memory.specs.Access.{sizeOf, signExtends, flagsOk}
 
-pub flags-high : (w : ℕ) (store : Bool) {flags : ℕ} → 16 ≤ flags → false ≡ flagsOk w store flags
+pub flags-high : (w : ℕ) (store : Bool) {flags : ℕ} → 32 ≤ flags → false ≡ flagsOk w store flags
 unfolding flagsOk
-flags-high w store {flags} h = rw (le-ltb flags 16 h)
+flags-high w store {flags} h = rw (le-ltb flags 32 h)
 
--- below 16 and not too wide: the sign decides
-low : (w : ℕ) (store : Bool) (flags : ℕ) {r : Bool} → flags < 16 → leb (8 * sizeOf flags) w ≡ true → r ≡ not (store && signExtends flags) → r ≡ flagsOk w store flags
+-- below 32 and not too wide: the sign decides
+low : (w : ℕ) (store : Bool) (flags : ℕ) {r : Bool} → flags < 32 → leb (8 * sizeOf flags) w ≡ true → r ≡ not (store && signExtends flags) → r ≡ flagsOk w store flags
 unfolding flagsOk
-low w store flags h e q = rw (lt-ltb flags 16 h, e) q
+low w store flags h e q = rw (lt-ltb flags 32 h, e) q
 
 -- the size's exponent
 size-64 : (n : ℕ) → n < 4 → leb (8 * 2 ^ n) 64 ≡ true
@@ -31,12 +31,12 @@ size-32 (suc (suc zero)) h ne = refl
 size-32 (suc (suc (suc zero))) h ne = absurd (ne refl)
 size-32 (suc (suc (suc (suc n)))) h ne = absurd (omega arith)
 
-pub flags-64 : (store : Bool) (flags : ℕ) {r : Bool} → flags < 16 → r ≡ not (store && signExtends flags) → r ≡ flagsOk 64 store flags
+pub flags-64 : (store : Bool) (flags : ℕ) {r : Bool} → flags < 32 → r ≡ not (store && signExtends flags) → r ≡ flagsOk 64 store flags
 flags-64 store flags h q = low 64 store flags h (size-64 (flags % 4) (omega arith)) q
 
-pub flags-32 : (store : Bool) (flags : ℕ) {r : Bool} → flags < 16 → (flags % 4 ≡ 3 → ⊥) → r ≡ not (store && signExtends flags) → r ≡ flagsOk 32 store flags
+pub flags-32 : (store : Bool) (flags : ℕ) {r : Bool} → flags < 32 → (flags % 4 ≡ 3 → ⊥) → r ≡ not (store && signExtends flags) → r ≡ flagsOk 32 store flags
 flags-32 store flags h ne q = low 32 store flags h (size-32 (flags % 4) (omega arith) ne) q
 
-pub flags-big : (store : Bool) (flags : ℕ) → flags < 16 → flags % 4 ≡ 3 → false ≡ flagsOk 32 store flags
+pub flags-big : (store : Bool) (flags : ℕ) → flags < 32 → flags % 4 ≡ 3 → false ≡ flagsOk 32 store flags
 unfolding flagsOk
-flags-big store flags h e = rw (lt-ltb flags 16 h, e)
+flags-big store flags h e = rw (lt-ltb flags 32 h, e)

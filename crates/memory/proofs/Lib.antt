@@ -3,3 +3,4 @@ pub mod Numbers
 pub mod Digits
 pub mod Faults
 pub mod Flags
+pub mod Meaning

@@ -1,11 +1,12 @@
 -- Loads and stores. Assumes nothing.
 use Prim.Native.Nat.{ℕ, _+_, _*_, _/_, _%_, _^_}
-use mathlib.Core.Bool.{Bool, cond, not, _&&_}
+use mathlib.Core.Bool.{Bool, cond, not, _&&_, _||_}
 use mathlib.Core.List.{List}
-use mathlib.Core.Option.{Option, none, some}
 use lib.Dec.{ltb, leb, eqb}
-use lib.ListN.{length}
 use Rattle.word.specs.Word.{extendW}
+use Rattle.memory.specs.declared.Access.{Access}
+use Rattle.memory.specs.declared.Access.the-variants.{Served, Fails}
+use Rattle.memory.specs.declared.Reason.the-variants.{Bounds, Alignment}
 use Rattle.memory.specs.Bytes.{lowFirst, highFirst, putLow, putHigh}
 
 -- "Flags: bits 0 and 1 give the access size as 1, 2, 4 or 8 bytes; bit 2 sign-extends a load; bit 3 means big-endian."
@@ -18,13 +19,25 @@ signExtends flags = eqb (flags / 4 % 2) 1
 abbrev pub bigEndian : ℕ → Bool
 bigEndian flags = eqb (flags / 8 % 2) 1
 
--- "Other bits are zero. The size never exceeds the width. Bit 2 is refused on a store."
-unfoldable pub flagsOk : ℕ → Bool → ℕ → Bool
-flagsOk w store flags = ltb flags 16 && leb (8 * sizeOf flags) w && not (store && signExtends flags)
+-- "Flag bit 4 asks that the address be a multiple of the size."
+abbrev pub asksAligned : ℕ → Bool
+asksAligned flags = eqb (flags / 16 % 2) 1
 
--- "An access faults when address plus size, as whole numbers, exceeds the memory's length; it then changes nothing."
-abbrev pub within : List ℕ → ℕ → ℕ → Bool
-within m address flags = leb (address + sizeOf flags) (length m)
+-- "Other bits are zero. The size never exceeds the width. Bit 2 is refused on a store." "Refusal 6 stops objecting to bit 4.": the others are 5 to 7
+unfoldable pub flagsOk : ℕ → Bool → ℕ → Bool
+flagsOk w store flags = ltb flags 32 && leb (8 * sizeOf flags) w && not (store && signExtends flags)
+
+-- the address is a multiple of the size, or need not be
+unfoldable pub aligned : ℕ → ℕ → Bool
+aligned address flags = not (asksAligned flags) || eqb (address % sizeOf flags) 0
+
+-- "An access faults when address plus size, as whole numbers, exceeds the memory's length; it then changes nothing." "The access leaf must
+-- answer why it failed, bounds or alignment, with alignment first where both apply"
+unfoldable pub accessAt : ℕ → ℕ → ℕ → Access
+accessAt length address flags =
+    cond (aligned address flags)
+    (cond (leb (address + sizeOf flags) length) Served (Fails Bounds))
+    (Fails Alignment)
 
 -- "A narrow load without bit 2 zero-extends"
 unfoldable pub loaded : ℕ → ℕ → List ℕ → ℕ → ℕ
@@ -35,10 +48,3 @@ loaded w flags m address =
 -- "; a narrow store writes the low bytes."
 unfoldable pub stored : ℕ → List ℕ → ℕ → ℕ → List ℕ
 stored flags m address x = cond (bigEndian flags) (putHigh m address (sizeOf flags) x) (putLow m address (sizeOf flags) x)
-
--- what a load gives and what memory a store leaves; none for a fault
-unfoldable pub loadAt : ℕ → ℕ → List ℕ → ℕ → Option ℕ
-loadAt w flags m address = cond (within m address flags) (some (loaded w flags m address)) none
-
-unfoldable pub storeAt : ℕ → List ℕ → ℕ → ℕ → Option (List ℕ)
-storeAt flags m address x = cond (within m address flags) (some (stored flags m address x)) none

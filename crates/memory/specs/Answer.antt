@@ -1,8 +1,11 @@
--- What the access leaf answers and leaves, from what an access gives. Assumes nothing.
+-- What the access leaf answers and leaves, and the numbers of its reasons. Assumes nothing.
 use Prim.Native.Nat.{ℕ}
 use mathlib.Core.Bool.{Bool, true, false}
 use mathlib.Core.List.{List}
-use mathlib.Core.Option.{Option, none, some}
+use Rattle.memory.specs.declared.Reason.{Reason}
+use Rattle.memory.specs.declared.Reason.the-variants.{Bounds, Alignment}
+use Rattle.memory.specs.declared.Access.{Access}
+use Rattle.memory.specs.declared.Access.the-variants.{Served, Fails}
 use Rattle.memory.specs.declared.Loaded.{Loaded}
 use Rattle.memory.specs.declared.Loaded.the-variants.{Value, Fault}
 
@@ -11,15 +14,17 @@ abbrev pub accessWidth : Bool → ℕ
 accessWidth true = 64
 accessWidth false = 32
 
-abbrev pub loadedOf : Option ℕ → Loaded
-loadedOf none = Fault
-loadedOf (some x) = Value x
+-- the number of a reason: "bounds or alignment"
+abbrev pub reasonNumber : Reason → ℕ
+reasonNumber Bounds = 0
+reasonNumber Alignment = 1
 
--- whether a store is served, and the memory that it leaves: after a fault the same
-abbrev pub servedOf : Option (List ℕ) → Bool
-servedOf none = false
-servedOf (some m) = true
+-- a load gives the number x, if it is served
+abbrev pub loadedBy : Access → ℕ → Loaded
+loadedBy Served x = Value x
+loadedBy (Fails reason) x = Fault reason
 
-abbrev pub leftOf : List ℕ → Option (List ℕ) → List ℕ
-leftOf m none = m
-leftOf m (some after) = after
+-- the memory that a store leaves: where it fails, the one before
+abbrev pub leftBy : Access → List ℕ → List ℕ → List ℕ
+leftBy Served before after = after
+leftBy (Fails reason) before after = before

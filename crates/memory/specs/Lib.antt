@@ -1,3 +1,4 @@
 pub mod Bytes
 pub mod Access
 pub mod Answer
+pub mod Meaning

@@ -1,5 +1,5 @@
 -- The answers of the calls are read back from their numbers: the number of a refusal is small and not 0, and the flags of a fault are small. Assumes nothing.
-use mathlib.Core.Path.{_≡_, refl, ap, _∙_}
+use mathlib.Core.Path.{_≡_, refl, _∙_}
 use mathlib.Core.Bool.{Bool, true, false, cond}
 use mathlib.Core.List.{List, [], _∷_}
 use mathlib.Core.Logic.{_⊎_, inl, inr}
@@ -31,8 +31,11 @@ use Rattle.runs.specs.declared.Ending.the-variants.{Refused as RunRefused, Exit
 use Rattle.passes.specs.Passes.{resultOf, passRefused, written, passChecked, passOf, passBy}
 use Rattle.passes.specs.declared.Written.{Written}
 use Rattle.passes.specs.declared.Written.the-variants.{Refused as PassRefused, Length}
-use Rattle.ngulo.specs.Numbers.{refusal, runNumber, reportOf}
-use Rattle.ngulo.specs.Apart.{lowByte, aboveByte, endingOf, OneTo, CheckApart, PassApart, RunApart, Apart}
+use Rattle.memory.specs.declared.Reason.{Reason}
+use Rattle.memory.specs.declared.Reason.the-variants.{Bounds, Alignment}
+use Rattle.memory.specs.Answer.{reasonNumber}
+use Rattle.ngulo.specs.Numbers.{refusal, runNumber, accessNumber, reportOf}
+use Rattle.ngulo.specs.Apart.{lowByte, aboveByte, reasonOf, endingOf, OneTo, CheckApart, PassApart, RunApart, Apart}
 use Rattle.ngulo.proofs.Flags.{FlagsFit, block-fits}
 
 -- the numbers of the rules
@@ -107,16 +110,30 @@ pass-apart (PassRefused n p) h =
 abbrev RunLike : Ending → Type 0
 RunLike (RunRefused number place) = OneTo 11 number
 RunLike (Exit value count) = Unit {0}
-RunLike (Faulted store address flags count) = flags < 256
+RunLike (Faulted store address flags reason count) = flags < 256
 RunLike (NoResult position count) = Unit {0}
 
-store-back : (store : Bool) (flags : ℕ) → flags < 256 → eqb (aboveByte (flags + 256 * cond store 1 0) % 2) 1 ≡ store
-store-back true flags h = ap (λ (k : ℕ). eqb (k % 2) 1) (above-is flags 1 h)
-store-back false flags h = ap (λ (k : ℕ). eqb (k % 2) 1) (above-is flags 0 h)
+-- the access of a fault, read back
+abbrev accessOf : ℕ → ℕ → ℕ → Ending
+accessOf y address count = Faulted (eqb (aboveByte y % 2) 1) address (lowByte y) (reasonOf (y / 65536)) count
 
-fault-back : (store : Bool) (address flags count : ℕ) → flags < 256
-    → (let y = flags + 256 * cond store 1 0 in Faulted (eqb (aboveByte y % 2) 1) address (lowByte y) count) ≡ Faulted store address flags count
-fault-back store address flags count h = rw (store-back store flags h, low-is flags (cond store 1 0) h)
+store-back : (store : Bool) → (cond {A = ℕ} store 1 0 < 2) × (eqb (cond store 1 0) 1 ≡ store)
+store-back true = (omega arith, refl)
+store-back false = (omega arith, refl)
+
+reason-back : (reason : Reason) → reasonOf (reasonNumber reason) ≡ reason
+reason-back Bounds = refl
+reason-back Alignment = refl
+
+fault-back : (store : Bool) (address flags : ℕ) (reason : Reason) (count : ℕ) → flags < 256
+    → accessOf (accessNumber store flags reason) address count ≡ Faulted store address flags reason count
+fault-back store address flags reason count h =
+    let s = store-back store in
+    let low : accessNumber store flags reason % 256 ≡ flags = omega (arith, s .0) in
+    let above : accessNumber store flags reason / 256 ≡ cond store 1 0 + 256 * reasonNumber reason = omega (arith, s .0) in
+    let bit : (cond store 1 0 + 256 * reasonNumber reason) % 2 ≡ cond store 1 0 = omega (arith, s .0) in
+    let top : accessNumber store flags reason / 65536 ≡ reasonNumber reason = omega (arith, s .0) in
+    rw (low, above, bit, top, s .1, reason-back reason)
 
 ended-apart : {w : Ending} → ((number place : ℕ) → w ≡ RunRefused number place → ⊥) → runNumber w ≡ 0 → ((report : List ℕ) → endingOf (runNumber w) (reportOf w report) ≡ w) → RunApart w
 ended-apart n z back = record { numbered = λ number place e. absurd (n number place e); read-back = back; zero-ended = λ q. n; ended-zero = λ q. z }
@@ -131,7 +148,7 @@ run-apart (RunRefused n p) h =
       ended-zero = λ q. absurd (q n p refl);
     }
 run-apart (Exit value count) h = ended-apart (λ number place e. let z : _≡_ {A = ℕ} 0 1 = cc in omega arith) refl (λ report. refl)
-run-apart (Faulted store address flags count) h = ended-apart (λ number place e. let z : _≡_ {A = ℕ} 0 1 = cc in omega arith) refl (λ report. fault-back store address flags count h)
+run-apart (Faulted store address flags reason count) h = ended-apart (λ number place e. let z : _≡_ {A = ℕ} 0 1 = cc in omega arith) refl (λ report. fault-back store address flags reason count h)
 run-apart (NoResult position count) h = ended-apart (λ number place e. let z : _≡_ {A = ℕ} 0 1 = cc in omega arith) refl (λ report. refl)
 
 ran-like : (ops globals : ℕ) (r : Result (tcg document01)) → proper (r .end) ≡ true → FlagsFit (r .end) → RunLike ((ranOf document01 ops globals r) .answer)

@@ -13,11 +13,13 @@ use Rattle.theory.specs.Sets.{All}
 use Rattle.word.proofs.Tests.{cond-all}
 use Rattle.theory.proofs.Checker.{checks}
 use Rattle.theory.proofs.Sets.{and-l, and-r}
-use Rattle.memory.specs.Access.{sizeOf, signExtends, flagsOk, loadAt, storeAt}
+use Rattle.memory.specs.declared.Access.{Access}
+use Rattle.memory.specs.declared.Access.the-variants.{Served, Fails}
+use Rattle.memory.specs.Access.{sizeOf, signExtends, flagsOk, accessAt, loaded, stored}
 use Rattle.ops.specs.Rows.{Role, unknown, declares, setsLabel, jumpsTo, exits, branches, loads, stores, constant, computing, Row, at, testOk, roleOf}
 use Rattle.ops.specs.Ops.{Fault, atTypes, evalOf, viewFor, viewOf, tcg}
 use Rattle.ops.specs.Fields.{kindOf, rowAt, outsBy, insBy, restBy, labelBy}
-use Rattle.ops.specs.Kinds.{document01, loadOf, storeOf, holdsOf, opWidth, afterLoad, afterStore}
+use Rattle.ops.specs.Kinds.{document01, touched, loadOf, storeOf, holdsOf, opWidth}
 use Rattle.ops.specs.Table.{rowOf}
 use Rattle.ops.proofs.Table.{typeAt, type-small, row-of}
 use Rattle.ops.proofs.Document01.{lawful}
@@ -49,7 +51,7 @@ OpFits o = (s : St (tcg document01)) → EffectFits (effect 0 (viewOf document01
 -- flags of a load and of a store, at either type
 flags-low : (w : ℕ) (store : Bool) (flags : ℕ) → flagsOk w store flags ≡ true → flags < 256
 unfolding flagsOk
-flags-low w store flags h = omega (arith, ltb-true flags 16 (and-l (ltb flags 16) (leb (8 * sizeOf flags) w) (and-l (ltb flags 16 && leb (8 * sizeOf flags) w) (not (store && signExtends flags)) h)))
+flags-low w store flags h = omega (arith, ltb-true flags 32 (and-l (ltb flags 32) (leb (8 * sizeOf flags) w) (and-l (ltb flags 32 && leb (8 * sizeOf flags) w) (not (store && signExtends flags)) h)))
 
 load-flags : (t : ℕ) (bytes : List ℕ) → t < 2 → testOk (4 + t) bytes ≡ true → at bytes 0 < 256
 unfolding testOk
@@ -85,21 +87,17 @@ access-fits outs ins f h s = go (f (s .mem) (reads (s .env) ins)) (h (s .mem) (r
 branch-fits : (ins : List ℕ) (f : List ℕ → List ℕ → Bool) (k : ℕ) (s : St (tcg document01)) → EffectFits (effect 0 (flow ins (when f) (to k)) s)
 branch-fits ins f k s = cond-all EffectFits (f (s .mem) (reads (s .env) ins)) tt tt
 
+touched-fits : (store : Bool) (address : ℕ) (given : Touch ℕ (List ℕ) Fault) {flags : ℕ} → flags < 256 → TouchFits given → (a : Access) → TouchFits (touched store address flags given a)
+touched-fits store address given l g Served = g
+touched-fits store address given l g (Fails reason) = l
+
 load-fits : (k : ℕ) (bytes : List ℕ) → at bytes 0 < 256 → (m vs : List ℕ) → TouchFits (loadOf k bytes m vs)
 unfolding loadOf
-load-fits k bytes l m vs = go (loadAt (opWidth k) (at bytes 0) m (at vs 0))
-  where
-    go : (x : Option ℕ) → TouchFits (afterLoad m (at vs 0) (at bytes 0) x)
-    go none = l
-    go (some x) = tt
+load-fits k bytes l m vs = touched-fits false (at vs 0) (gives (loaded (opWidth k) (at bytes 0) m (at vs 0) ∷ []) m) l tt (accessAt (length m) (at vs 0) (at bytes 0))
 
 store-fits : (k : ℕ) (bytes : List ℕ) → at bytes 0 < 256 → (m vs : List ℕ) → TouchFits (storeOf k bytes m vs)
 unfolding storeOf
-store-fits k bytes l m vs = go (storeAt (at bytes 0) m (at vs 1) (at vs 0))
-  where
-    go : (x : Option (List ℕ)) → TouchFits (afterStore (at vs 1) (at bytes 0) x)
-    go none = l
-    go (some x) = tt
+store-fits k bytes l m vs = touched-fits true (at vs 1) (gives [] (stored (at bytes 0) m (at vs 1) (at vs 0))) l tt (accessAt (length m) (at vs 1) (at bytes 0))
 
 module _ (o : List ℕ) (h : testOk ((rowAt rowOf o) .test) (restBy (rowAt rowOf o) o) ≡ true) where
   tested : {n : ℕ} → (rowAt rowOf o) .test ≡ n → testOk n (restBy (rowAt rowOf o) o) ≡ true

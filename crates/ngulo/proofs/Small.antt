@@ -7,6 +7,9 @@ use native.Mathlib.Omega.{arith}
 use lib.Dec.{leb}
 use lib.ListN.{length, length-append}
 use Rattle.theory.specs.Machine.{End, exit, fault, unstated, fell, spent, Result}
+use Rattle.memory.specs.declared.Reason.{Reason}
+use Rattle.memory.specs.declared.Reason.the-variants.{Bounds, Alignment}
+use Rattle.memory.specs.Answer.{reasonNumber}
 use Rattle.ops.specs.Ops.{tcg}
 use Rattle.ops.specs.Fields.{kindOf}
 use Rattle.ops.specs.Kinds.{document01}
@@ -22,7 +25,7 @@ use Rattle.block.proofs.Parts.{parts}
 use Rattle.runs.specs.Runs.{fits, entry, Ran, ranAs, answerOf, ranOf, opsRun, runOps, runRefused, runChecked, runOf, runBy}
 use Rattle.passes.specs.Passes.{passOps, resultOf, passRefused, written, passChecked, passOf, passBy}
 use Rattle.passes.proofs.Result.{parts-size, kept-parts, result-of}
-use Rattle.ngulo.specs.Numbers.{runNumber, reportOf, RunAnswer}
+use Rattle.ngulo.specs.Numbers.{runNumber, accessNumber, reportOf, RunAnswer}
 use Rattle.block.specs.Rules.{Seen, start, rule3, declared, passed, next}
 use Rattle.block.specs.declared.Verdict.{Verdict}
 use Rattle.block.specs.declared.Verdict.the-variants.{Accepted, Refused}
@@ -105,7 +108,7 @@ written-small block out w e = subst SmallWritten (sym e) (written-by block out (
 abbrev pub SmallEnding : Ending → Type 0
 SmallEnding (RunRefused number place) = place ≤ 4096
 SmallEnding (Exit value count) = Unit {0}
-SmallEnding (Fault store address flags count) = Unit {0}
+SmallEnding (Fault store address flags reason count) = Unit {0}
 SmallEnding (NoResult position count) = Unit {0}
 
 ran-small : (ops : ℕ) (globals : ℕ) (r : Result (tcg document01)) → SmallEnding ((ranOf document01 ops globals r) .answer)
@@ -157,11 +160,17 @@ run-answers {ran} {w} {v} {r} {report} {report′} e q n p =
       memory-is = ap (λ (x : Ran). x .memory) e;
     }
 
-pub flags-store : {store : Bool} {x flags : ℕ} → store ≡ true → x ≡ flags → x + 256 ≡ flags + 256 * cond store 1 0
-flags-store e q = rw (e, q)
+-- the access of a fault, from the flags and the number of the reason
+module _ (reason : Reason) {store : Bool} {x y flags : ℕ} (q : x ≡ flags) (h : y ≡ reasonNumber reason) where
+  pub access-store : store ≡ true → x + 65536 * y + 256 ≡ accessNumber store flags reason
+  access-store e = rw e (omega (arith, q, h))
 
-pub flags-load : {store : Bool} {x flags : ℕ} → store ≡ false → x ≡ flags → x ≡ flags + 256 * cond store 1 0
-flags-load {store} {x} {flags} e q = rw e (omega (arith, q))
+  pub access-load : store ≡ false → x + 65536 * y ≡ accessNumber store flags reason
+  access-load e = rw e (omega (arith, q, h))
+
+pub reason-small : (reason : Reason) {y : ℕ} → y ≡ reasonNumber reason → y ≤ 1
+reason-small Bounds e = omega arith
+reason-small Alignment e = omega arith
 
 pub fault-report : {report : List ℕ} {address x y count : ℕ} → report ≡ 2 ∷ address ∷ x ∷ count ∷ [] → x ≡ y → report ≡ 2 ∷ address ∷ y ∷ count ∷ []
 fault-report {report} {address} {x} {y} {count} e q = e ∙ ap (λ (n : ℕ). 2 ∷ address ∷ n ∷ count ∷ []) q

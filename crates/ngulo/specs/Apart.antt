@@ -6,6 +6,8 @@ use mathlib.Core.Logic.{_⊎_}
 use Prim.Native.Nat.{ℕ, _/_, _%_, _≤_}
 use lib.Dec.{eqb}
 use lib.ListN.{getD}
+use Rattle.memory.specs.declared.Reason.{Reason}
+use Rattle.memory.specs.declared.Reason.the-variants.{Bounds, Alignment}
 use Rattle.block.specs.Checks.{checkOf}
 use Rattle.block.specs.declared.Verdict.{Verdict}
 use Rattle.block.specs.declared.Verdict.the-variants.{Accepted, Refused}
@@ -30,11 +32,15 @@ verdictOf x = cond (eqb (lowByte x) 0) Accepted (Refused (lowByte x) (aboveByte 
 abbrev pub writtenOf : ℕ → Written
 writtenOf x = cond (eqb (lowByte x) 0) (Length (aboveByte x)) (PassRefused (lowByte x) (aboveByte x))
 
+-- the reason with this number
+abbrev pub reasonOf : ℕ → Reason
+reasonOf n = cond (eqb n 1) Alignment Bounds
+
 -- a report of four numbers: 1 an exit, 2 a fault, 3 no stated result
 abbrev pub reported : ℕ → ℕ → ℕ → ℕ → Ending
 reported ending x y count =
     cond (eqb ending 1) (Exit x count)
-    (cond (eqb ending 2) (Fault (eqb (aboveByte y % 2) 1) x (lowByte y) count)
+    (cond (eqb ending 2) (Fault (eqb (aboveByte y % 2) 1) x (lowByte y) (reasonOf (y / 65536)) count)
     (NoResult x count))
 
 abbrev pub endingOf : ℕ → List ℕ → Ending

@@ -1,14 +1,15 @@
 // The calls for C, on numbers and slices only.
 ghost use mathlib.Core.Path.{_≡_};
-ghost use mathlib.Core.Bool.{cond};
 ghost use mathlib.Core.List.{[], _∷_};
-ghost use Prim.Native.Nat.{_+_, _*_, _≤_};
+ghost use Prim.Native.Nat.{_≤_};
 ghost use Rattle.block.specs.Checks.{checkOf};
 ghost use Rattle.runs.specs.Runs.{runOf};
 ghost use Rattle.passes.specs.Passes.{passOf};
-ghost use Rattle.ngulo.specs.Numbers.{refusal, checkNumber, passNumber, RunAnswer, version};
+ghost use Rattle.ngulo.specs.Numbers.{refusal, checkNumber, passNumber, accessNumber, RunAnswer, version};
 use block::Verdict;
 use checker::check;
+use memory::Reason;
+use memory::reason_number;
 use pass::pass;
 use passes::Written;
 use run::run;
@@ -33,7 +34,7 @@ fn refused(number: u8, place: usize) -> u64
 pub extern "C" fn ngulo_version() -> u64
     ensures { λ r. ⌜ r ≡ version ⌝ }
 {
-    65536 * 0 + 256 * 5 + 0
+    65536 * 0 + 256 * 6 + 0
 }
 
 // 0 if the block is accepted, else number + 256 * place.
@@ -67,14 +68,15 @@ fn report_as(report: &mut [u64; 4], ending: u64, x: u64, y: u64, count: u64)
     *report = [ending, x, y, count];
 }
 
-// The flags of a fault, and 256 for a store.
-fn fault_flags(store: bool, flags: u8) -> u64
-    ensures { λ r. ⌜ r ≡ flags + 256 * cond store 1 0 ⌝ }
+// The access of a fault as a number: its flags, 256 for a store, and 65536 times the number of the reason.
+fn fault_access(store: bool, flags: u8, reason: Reason) -> u64
+    ensures { λ r. ⌜ r ≡ accessNumber store flags reason ⌝ }
 {
+    let told = wide(flags) + 65536 * reason_number(reason);
     if store {
-        return wide(flags) + 256;
+        return told + 256;
     }
-    wide(flags)
+    told
 }
 
 // 0 with a report of how the run ended, else number + 256 * place.
@@ -97,8 +99,15 @@ pub extern "C" fn ngulo_run(
             store,
             address,
             flags,
+            reason,
             count,
-        } => report_as(report, 2, address, fault_flags(store, flags), count),
+        } => report_as(
+            report,
+            2,
+            address,
+            fault_access(store, flags, reason),
+            count,
+        ),
         Ending::NoResult { position, count } => report_as(report, 3, position, 0, count),
     }
     0

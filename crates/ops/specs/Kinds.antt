@@ -4,10 +4,13 @@ use mathlib.Core.Bool.{Bool, true, false, cond, _&&_, _||_}
 use mathlib.Core.Option.{Option, none, some}
 use mathlib.Core.List.{List, [], _∷_}
 use lib.Dec.{eqb, ltb, leb}
+use lib.ListN.{length}
 use Rattle.theory.specs.Machine.{Touch, faults, gives}
 use Rattle.word.specs.Condition.{condW}
 use Rattle.memory.specs.Bytes.{lowFirst}
-use Rattle.memory.specs.Access.{loadAt, storeAt}
+use Rattle.memory.specs.declared.Access.{Access}
+use Rattle.memory.specs.declared.Access.the-variants.{Served, Fails}
+use Rattle.memory.specs.Access.{accessAt, loaded, stored}
 use Rattle.memory.specs.Answer.{accessWidth}
 use Rattle.ops.specs.Eval.{convertOf, unaryOf, logicOf, divideOf, shiftOf, setcondOf, movcondOf, depositOf, extractOf, extract2Of, swapOf, countOf, ctpopOf}
 use Rattle.ops.specs.Rows.{at}
@@ -52,21 +55,24 @@ statesOf k bytes vs = one (cond (eqb k 0x10 || eqb k 0x90) (some (lowFirst bytes
 abbrev pub opWidth : ℕ → ℕ
 opWidth k = accessWidth (leb 0x80 k)
 
--- "qemu_ld: d, address, flags"
-abbrev pub afterLoad : List ℕ → ℕ → ℕ → Option ℕ → Touch ℕ (List ℕ) Fault
-afterLoad m address flags none = faults (faultOf false address flags)
-afterLoad m address flags (some x) = gives (x ∷ []) m
+-- an access gives this if it is served, else it faults
+abbrev pub touched : Bool → ℕ → ℕ → Touch ℕ (List ℕ) Fault → Access → Touch ℕ (List ℕ) Fault
+touched store address flags given Served = given
+touched store address flags given (Fails reason) = faults (faultOf store address flags reason)
+
+-- "qemu_ld: d, address, flags", of this width
+abbrev pub loadAt : ℕ → ℕ → List ℕ → ℕ → Touch ℕ (List ℕ) Fault
+loadAt w flags m address = touched false address flags (gives (loaded w flags m address ∷ []) m) (accessAt (length m) address flags)
 
 unfoldable pub loadOf : ℕ → List ℕ → List ℕ → List ℕ → Touch ℕ (List ℕ) Fault
-loadOf k bytes m vs = let p = at vs 0 in let f = at bytes 0 in afterLoad m p f (loadAt (opWidth k) f m p)
+loadOf k bytes m vs = loadAt (opWidth k) (at bytes 0) m (at vs 0)
 
 -- "qemu_st: value, address, flags"
-abbrev pub afterStore : ℕ → ℕ → Option (List ℕ) → Touch ℕ (List ℕ) Fault
-afterStore address flags none = faults (faultOf true address flags)
-afterStore address flags (some m) = gives [] m
+abbrev pub storeAt : ℕ → List ℕ → ℕ → ℕ → Touch ℕ (List ℕ) Fault
+storeAt flags m address x = touched true address flags (gives [] (stored flags m address x)) (accessAt (length m) address flags)
 
 unfoldable pub storeOf : ℕ → List ℕ → List ℕ → List ℕ → Touch ℕ (List ℕ) Fault
-storeOf k bytes m vs = let p = at vs 1 in let f = at bytes 0 in afterStore p f (storeAt f m p (at vs 0))
+storeOf k bytes m vs = storeAt (at bytes 0) m (at vs 1) (at vs 0)
 
 -- "brcond: a, b, cond, label"
 unfoldable pub holdsOf : ℕ → List ℕ → List ℕ → Bool

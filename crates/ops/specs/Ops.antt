@@ -4,6 +4,7 @@ use mathlib.Core.Bool.{Bool}
 use mathlib.Core.Option.{Option}
 use mathlib.Core.List.{List, [], _∷_}
 use Rattle.theory.specs.Machine.{always, when, to, out, View, calc, access, label, flow, Touch, Lang, headOr}
+use Rattle.memory.specs.declared.Reason.{Reason}
 use Rattle.ops.specs.Rows.{Role, unknown, declares, setsLabel, jumpsTo, exits, branches, loads, stores, constant, computing, Row, Table, bitsOf}
 use Rattle.ops.specs.Fields.{kindOf, rowAt, outsBy, insBy, restBy, labelBy}
 
@@ -13,14 +14,15 @@ atTypes [] vs = []
 atTypes (t ∷ ts) [] = 0 ∷ atTypes ts []
 atTypes (t ∷ ts) (v ∷ vs) = v % 2 ^ bitsOf t ∷ atTypes ts vs
 
--- "fault with load or store, address and flags"
+-- "fault with load or store, address and flags"; "every fault the runner reports carries that reason"
 pub record Fault : Type 0 where
   pub store : Bool
   pub address : ℕ
   pub flags : ℕ
+  pub reason : Reason
 
-abbrev pub faultOf : Bool → ℕ → ℕ → Fault
-faultOf store address flags = record { store = store; address = address; flags = flags }
+abbrev pub faultOf : Bool → ℕ → ℕ → Reason → Fault
+faultOf store address flags reason = record { store = store; address = address; flags = flags; reason = reason }
 
 -- a dialect: its rows; what a pure op of a kind states, from the bytes after its operands and its inputs' values; what its loads and stores
 -- do to the memory; and when a condition holds

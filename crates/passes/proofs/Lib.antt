@@ -1,6 +1,7 @@
 pub mod Result
 pub mod Alike
 pub mod Demand
+pub mod Meaning
 pub mod Stores
 pub mod Placing
 pub mod Bytes

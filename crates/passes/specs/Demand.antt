@@ -1,5 +1,5 @@
 -- Demand 3, of what the check, the run and the pass answer. Proved in proofs/Demand.antt. Assumes nothing.
--- The words in quotation marks are the demand's, and document 01's on what they mean.
+-- The words in quotation marks are the demand's, document 01's on what they mean, and request 04's.
 use Prim.Native.Nat.{ℕ, _≤_}
 use mathlib.Core.Path.{_≡_}
 use mathlib.Core.Bool.{Bool, true, false}
@@ -7,6 +7,7 @@ use mathlib.Core.List.{List, _++_}
 use lib.ListN.{length, drop}
 use Rattle.theory.specs.Prune.{AllUsed, liveAll}
 use Rattle.theory.specs.Fold.{nothing, baseRule, Still}
+use Rattle.memory.specs.declared.Reason.{Reason}
 use Rattle.ops.specs.Ops.{tcg, Dialect}
 use Rattle.ops.specs.Kinds.{document01}
 use Rattle.ops.specs.Folds.{folding}
@@ -36,13 +37,15 @@ Room result out = length result ≤ length out
 abbrev pub unstatedEnd : Ending → Bool
 unstatedEnd (Refused number place) = false
 unstatedEnd (Exit value count) = false
-unstatedEnd (Fault store address flags count) = false
+unstatedEnd (Fault store address flags reason count) = false
 unstatedEnd (NoResult position count) = true
 
--- "Same exit: the same value. Same fault: load or store alike, the same address and the same flags." In no more ops
+-- "Same exit: the same value. Same fault: load or store alike, the same address and the same flags." "Demand 3's "same fault" includes it", the
+-- reason. In no more ops
 pub data SameEnd : Ending → Ending → Type 0 where
   same-exit : {value m n : ℕ} → n ≤ m → SameEnd (Exit value m) (Exit value n)
-  same-fault : {store : Bool} {address flags m n : ℕ} → n ≤ m → SameEnd (Fault store address flags m) (Fault store address flags n)
+  same-fault : {store : Bool} {address flags : ℕ} {reason : Reason} {m n : ℕ} → n ≤ m
+      → SameEnd (Fault store address flags reason m) (Fault store address flags reason n)
 
 -- "Each block runs on its own copy of the same globals and memory; what the runs leave there is compared, temporaries are not.
 -- The numbers of ops compared are those that the runs answer."

@@ -1,5 +1,6 @@
 pub mod Passes
 pub mod Demand
+pub mod Meaning
 pub mod Laid
 pub mod Live
 pub mod Knows

@@ -1,4 +1,4 @@
-// Of each byte those of the tests up to 7 that refuse it, a bit for the number of each; test 0 refuses none, test 1 all, and no other takes a byte above 15.
+// Of each byte those of the tests up to 7 that refuse it, a bit for the number of each; test 0 refuses none, test 1 all, and no other takes a byte above 31.
 ghost use mathlib.Core.Path.{_≡_};
 ghost use Rattle.block.specs.Scan.{refusalTable};
 
@@ -19,22 +19,22 @@ const REFUSALS: [u8; 256] = [
     0xce, // 0d
     0xce, // 0e
     0xde, // 0f
-    0xfe, // 10
-    0xfe, // 11
-    0xfe, // 12
-    0xfe, // 13
-    0xfe, // 14
-    0xfe, // 15
-    0xfe, // 16
-    0xfe, // 17
-    0xfe, // 18
-    0xfe, // 19
-    0xfe, // 1a
-    0xfe, // 1b
-    0xfe, // 1c
-    0xfe, // 1d
-    0xfe, // 1e
-    0xfe, // 1f
+    0x0e, // 10
+    0x0e, // 11
+    0x0e, // 12
+    0x5e, // 13
+    0xce, // 14
+    0xce, // 15
+    0xce, // 16
+    0xde, // 17
+    0x0e, // 18
+    0x0e, // 19
+    0x0e, // 1a
+    0x5e, // 1b
+    0xce, // 1c
+    0xce, // 1d
+    0xce, // 1e
+    0xde, // 1f
     0xfe, // 20
     0xfe, // 21
     0xfe, // 22

@@ -1,30 +1,32 @@
 -- What each op does to the values and the memory, as the step's parts find it. Assumes nothing.
 use mathlib.Core.Path.{_≡_, refl, sym, ap, ap₂, _∙_, subst}
-use mathlib.Core.Bool.{Bool, true, false, cond, false≢true}
-use mathlib.Core.Option.{Option, none, some}
+use mathlib.Core.Bool.{Bool, true, false, cond}
 use mathlib.Core.List.{List, [], _∷_}
 use Prim.Native.Nat.{ℕ, zero, suc, _+_, _%_, _^_, _<_}
 use native.Mathlib.Omega.{arith}
-use lib.ListN.{getD}
+use lib.ListN.{length, getD}
 use native.Mathlib.Nat.{mod-eq-of-lt}
-use Rattle.theory.specs.Machine.{always, to, View, label, flow, exit, fault, falls, jumps, stops, reads, afterCalc, afterAccess, effect, St}
+use Rattle.theory.specs.Machine.{gives, always, to, View, label, flow, exit, falls, jumps, stops, reads, afterCalc, afterAccess, effect, St}
 use Rattle.theory.specs.Sets.{upd}
 use Rattle.word.specs.Condition.{condW}
-use Rattle.memory.specs.Access.{loadAt, storeAt}
-use Rattle.memory.specs.Answer.{accessWidth, loadedOf, servedOf, leftOf}
+use Rattle.memory.specs.Access.{accessAt, loaded, stored}
+use Rattle.memory.specs.Answer.{accessWidth, loadedBy, leftBy}
 use Rattle.memory.specs.Bytes.{lowFirst}
 use Rattle.ops.specs.Rows.{unknown, declares, setsLabel, jumpsTo, exits, numberOf, bitsOf, at, outsIn, insIn, restIn, bodyLength}
 use Rattle.ops.specs.Kinds.{document01}
 use Rattle.ops.specs.Table.{kindTable, rowOf}
 use Rattle.ops.specs.Rows.{roleOf}
-use Rattle.ops.specs.Ops.{leave, Fault, faultOf, viewOf, tcg}
-use Rattle.ops.specs.Kinds.{afterLoad, afterStore}
+use Rattle.ops.specs.Ops.{leave, Fault, viewOf, tcg}
+use Rattle.ops.specs.Kinds.{touched, loadAt, storeAt}
 use Rattle.block.specs.Scan.{recordAt, Stands}
 use Rattle.block.proofs.Views.{unknown-view, declare-view, label-view, jump-view, leave-view, pure-view}
 use Rattle.ops.proofs.Entry.{Digits, digits}
 use Rattle.ops.proofs.Table.{same-number}
 use Rattle.runs.specs.Evaluates.{Computed, inputsAt, statesAt, valuesOf}
 use Rattle.runs.specs.Steps.{effectOf, afterState, Performs, PerformsAlone, nextAt, placeOr, branchOp, loadOp, storeOp, constantOp}
+use Rattle.memory.specs.declared.Reason.{Reason}
+use Rattle.memory.specs.declared.Access.{Access}
+use Rattle.memory.specs.declared.Access.the-variants.{Served, Fails}
 use Rattle.memory.specs.declared.Loaded.{Loaded}
 use Rattle.memory.specs.declared.Loaded.the-variants.{Value, Fault as LoadFault}
 use Rattle.word.specs.declared.Stated.{Stated}
@@ -84,57 +86,56 @@ module _ (b : List ℕ) (env : ℕ → ℕ) (p : ℕ) (wide : Bool) {x y : ℕ} 
   branch-falls t = branches-so false (Falls (p + 5)) t (λ m. refl) refl
 
 -- loads
-load-value : (o : Option ℕ) {x : ℕ} → loadedOf o ≡ Value x → o ≡ some x
-load-value none e = let z : _≡_ {A = ℕ} 0 1 = cc in absurd (omega arith)
-load-value (some y) e = cc
+load-value : (a : Access) {x y : ℕ} → loadedBy a y ≡ Value x → (a ≡ Served) × (y ≡ x)
+load-value Served e = (refl, cc)
+load-value (Fails reason) e = let z : _≡_ {A = ℕ} 0 1 = cc in absurd (omega arith)
 
-load-none : (o : Option ℕ) → loadedOf o ≡ LoadFault → o ≡ none
-load-none none e = refl
-load-none (some y) e = let z : _≡_ {A = ℕ} 0 1 = cc in absurd (omega arith)
+load-fails : (a : Access) (y : ℕ) {reason : Reason} → loadedBy a y ≡ LoadFault reason → a ≡ Fails reason
+load-fails Served y e = let z : _≡_ {A = ℕ} 0 1 = cc in absurd (omega arith)
+load-fails (Fails why) y e = cc
 
 module _ (b : List ℕ) (env : ℕ → ℕ) (memory : List ℕ) (p : ℕ) (wide : Bool) {q : ℕ} {r : Loaded} (eq : q ≡ env (at b (p + 2)))
-    (e : r ≡ loadedOf (loadAt (accessWidth wide) (at b (p + 3)) memory q)) where
-  loads-so : (o : Option ℕ) → loadAt (accessWidth wide) (at b (p + 3)) memory q ≡ o
-      → effect 0 (loadOp b p wide) (holding env memory) ≡ afterAccess {Out = ℕ} 0 (at b (p + 1) ∷ []) (holding env memory) (afterLoad memory q (at b (p + 3)) o)
-  loads-so o h =
-      ap (λ (a : ℕ). afterAccess {Out = ℕ} 0 (at b (p + 1) ∷ []) (holding env memory) (afterLoad memory a (at b (p + 3)) (loadAt (accessWidth wide) (at b (p + 3)) memory a))) (sym eq)
-      ∙ ap (λ (x : Option ℕ). afterAccess {Out = ℕ} 0 (at b (p + 1) ∷ []) (holding env memory) (afterLoad memory q (at b (p + 3)) x)) h
+    (e : r ≡ loadedBy (accessAt (length memory) q (at b (p + 3))) (loaded (accessWidth wide) (at b (p + 3)) memory q)) where
+  loads-so : (a : Access) → accessAt (length memory) q (at b (p + 3)) ≡ a
+      → effect 0 (loadOp b p wide) (holding env memory)
+      ≡ afterAccess {Out = ℕ} 0 (at b (p + 1) ∷ []) (holding env memory) (touched false q (at b (p + 3)) (gives (loaded (accessWidth wide) (at b (p + 3)) memory q ∷ []) memory) a)
+  loads-so a h =
+      ap (λ (x : ℕ). afterAccess {Out = ℕ} 0 (at b (p + 1) ∷ []) (holding env memory) (loadAt (accessWidth wide) (at b (p + 3)) memory x)) (sym eq)
+      ∙ ap (λ (x : Access). afterAccess {Out = ℕ} 0 (at b (p + 1) ∷ []) (holding env memory) (touched false q (at b (p + 3)) (gives (loaded (accessWidth wide) (at b (p + 3)) memory q ∷ []) memory) x)) h
 
   pub load-falls : {x : ℕ} {env′ : ℕ → ℕ} → r ≡ Value x → upd env (at b (p + 1)) x ≡ env′ → Performs (loadOp b p wide) (p + 4) (holding env memory) (holding env′ memory) (Falls (p + 4))
   load-falls {x} {env′} t s =
+      let v = load-value (accessAt (length memory) q (at b (p + 3))) (sym e ∙ t) in
       falls-to (loadOp b p wide) (p + 4) (holding env memory) (holding env′ memory)
-      (loads-so (some x) (load-value (loadAt (accessWidth wide) (at b (p + 3)) memory q) (sym e ∙ t)) ∙ ap (λ (f : ℕ → ℕ). falls (record { env = f; mem = memory })) s)
+      (loads-so Served (v .0) ∙ ap (λ (y : ℕ). falls (holding (upd env (at b (p + 1)) y) memory)) (v .1) ∙ ap (λ (f : ℕ → ℕ). falls (holding f memory)) s)
 
-  pub loads-fault : r ≡ LoadFault → Performs (loadOp b p wide) (p + 4) (holding env memory) (holding env memory) (Stops (Faults false q (at b (p + 3))))
-  loads-fault t =
-      stays (loadOp b p wide) (p + 4) (holding env memory) (Stops (Faults false q (at b (p + 3))))
-      (loads-so none (load-none (loadAt (accessWidth wide) (at b (p + 3)) memory q) (sym e ∙ t)))
+  pub loads-fault : {reason : Reason} → r ≡ LoadFault reason → Performs (loadOp b p wide) (p + 4) (holding env memory) (holding env memory) (Stops (Faults false q (at b (p + 3)) reason))
+  loads-fault {reason} t =
+      stays (loadOp b p wide) (p + 4) (holding env memory) (Stops (Faults false q (at b (p + 3)) reason))
+      (loads-so (Fails reason) (load-fails (accessAt (length memory) q (at b (p + 3))) (loaded (accessWidth wide) (at b (p + 3)) memory q) (sym e ∙ t)))
       refl
 
 -- stores
-module _ (b : List ℕ) (env : ℕ → ℕ) (memory : List ℕ) (p : ℕ) {x q : ℕ} {memory′ : List ℕ} {r : Bool} (ex : x ≡ env (at b (p + 1))) (eq : q ≡ env (at b (p + 2)))
-    (e : (r ≡ servedOf (storeAt (at b (p + 3)) memory q x)) × (memory′ ≡ leftOf memory (storeAt (at b (p + 3)) memory q x))) where
-  stores-so : effect 0 (storeOp b p) (holding env memory) ≡ afterAccess {Out = ℕ} 0 [] (holding env memory) (afterStore q (at b (p + 3)) (storeAt (at b (p + 3)) memory q x))
-  stores-so = ap₂ (λ (u v : ℕ). afterAccess {Out = ℕ} 0 [] (holding env memory) (afterStore v (at b (p + 3)) (storeAt (at b (p + 3)) memory v u))) (sym ex) (sym eq)
+module _ (b : List ℕ) (env : ℕ → ℕ) (memory : List ℕ) (p : ℕ) {x q : ℕ} {memory′ : List ℕ} {r : Access} (ex : x ≡ env (at b (p + 1))) (eq : q ≡ env (at b (p + 2)))
+    (e : (r ≡ accessAt (length memory) q (at b (p + 3))) × (memory′ ≡ leftBy r memory (stored (at b (p + 3)) memory q x))) where
+  stores-so : (a : Access) → r ≡ a
+      → effect 0 (storeOp b p) (holding env memory) ≡ afterAccess {Out = ℕ} 0 [] (holding env memory) (touched true q (at b (p + 3)) (gives [] (stored (at b (p + 3)) memory q x)) a)
+  stores-so a h =
+      ap₂ (λ (u v : ℕ). afterAccess {Out = ℕ} 0 [] (holding env memory) (storeAt (at b (p + 3)) memory v u)) (sym ex) (sym eq)
+      ∙ ap (λ (y : Access). afterAccess {Out = ℕ} 0 [] (holding env memory) (touched true q (at b (p + 3)) (gives [] (stored (at b (p + 3)) memory q x)) y)) (sym (e .0) ∙ h)
 
-  pub store-falls : r ≡ true → Performs (storeOp b p) (p + 4) (holding env memory) (holding env memory′) (Falls (p + 4))
-  store-falls t = falls-to (storeOp b p) (p + 4) (holding env memory) (holding env memory′) (stores-so ∙ go (storeAt (at b (p + 3)) memory q x) (sym (e .0) ∙ t) (e .1))
-    where
-      go : (o : Option (List ℕ)) → servedOf o ≡ true → memory′ ≡ leftOf memory o
-          → afterAccess {Out = ℕ} 0 [] (holding env memory) (afterStore q (at b (p + 3)) o) ≡ falls (holding env memory′)
-      go none s l = absurd (false≢true s)
-      go (some m) s l = ap (λ (n : List ℕ). falls (holding env n)) (sym l)
+  left-so : (a : Access) → r ≡ a → leftBy a memory (stored (at b (p + 3)) memory q x) ≡ memory′
+  left-so a h = sym (e .1 ∙ ap (λ (y : Access). leftBy y memory (stored (at b (p + 3)) memory q x)) h)
 
-  pub stores-fault : r ≡ false → Performs (storeOp b p) (p + 4) (holding env memory) (holding env memory′) (Stops (Faults true q (at b (p + 3))))
-  stores-fault t =
-      let g = go (storeAt (at b (p + 3)) memory q x) (sym (e .0) ∙ t) (e .1) in
-      subst (λ (m : List ℕ). Performs (storeOp b p) (p + 4) (holding env memory) (holding env m) (Stops (Faults true q (at b (p + 3))))) (sym (g .0))
-      (stays (storeOp b p) (p + 4) (holding env memory) (Stops (Faults true q (at b (p + 3)))) (stores-so ∙ g .1) refl)
-    where
-      go : (o : Option (List ℕ)) → servedOf o ≡ false → memory′ ≡ leftOf memory o
-          → (memory′ ≡ memory) × (afterAccess {Out = ℕ} 0 [] (holding env memory) (afterStore q (at b (p + 3)) o) ≡ stops (fault (faultOf true q (at b (p + 3)))))
-      go none s l = (l, refl)
-      go (some m) s l = absurd (false≢true (sym s))
+  pub store-falls : r ≡ Served → Performs (storeOp b p) (p + 4) (holding env memory) (holding env memory′) (Falls (p + 4))
+  store-falls t =
+      falls-to (storeOp b p) (p + 4) (holding env memory) (holding env memory′)
+      (stores-so Served t ∙ ap (λ (m : List ℕ). falls (holding env m)) (left-so Served t))
+
+  pub stores-fault : {reason : Reason} → r ≡ Fails reason → Performs (storeOp b p) (p + 4) (holding env memory) (holding env memory′) (Stops (Faults true q (at b (p + 3)) reason))
+  stores-fault {reason} t =
+      subst (λ (m : List ℕ). Performs (storeOp b p) (p + 4) (holding env memory) (holding env m) (Stops (Faults true q (at b (p + 3)) reason))) (left-so (Fails reason) t)
+      (stays (storeOp b p) (p + 4) (holding env memory) (Stops (Faults true q (at b (p + 3)) reason)) (stores-so (Fails reason) t) refl)
 
 -- constants
 pub constant-falls : (b : List ℕ) (env env′ : ℕ → ℕ) (p : ℕ) {x : ℕ} → x ≡ lowFirst b (p + 2) 8 → upd env (at b (p + 1)) x ≡ env′

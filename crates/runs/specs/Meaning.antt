@@ -7,6 +7,7 @@ use Prim.Native.Nat.{ℕ, suc, _-_, _<_}
 use mathlib.Core.Logic.{_⊎_}
 use lib.ListN.{length, getD, drop}
 use Rattle.theory.specs.Machine.{exit, fault, stops, inputs, computes, pure, reads, effect, St, goes, step}
+use Rattle.memory.specs.declared.Reason.{Reason}
 use Rattle.ops.specs.Ops.{Dialect, viewOf, tcg, faultOf}
 use Rattle.block.specs.Checks.{checkBy}
 use Rattle.block.specs.Records.{recordsOf, declarations, opsFrom}
@@ -26,12 +27,12 @@ pub record StatesNothing (D : Dialect) (op : List ℕ) (s : St (tcg D)) : Type 0
   pub none-stated : computes (viewOf D op) (reads (s .env) (inputs (viewOf D op))) ≡ none
 
 -- what the op at a position answers in a state, after so many completed ops: it exits with this value; it faults with "load or store, address
--- and flags"; or it states nothing. It counts: "the op that exits or faults does, and the op without a result does not". No op answers a
--- refusal
+-- and flags", and the reason; or it states nothing. It counts: "the op that exits or faults does, and the op without a result does not". No op
+-- answers a refusal
 pub data Answers (D : Dialect) (op : List ℕ) (s : St (tcg D)) (position completed : ℕ) : Ending → Type 0 where
   exits : {value : ℕ} → effect 0 (viewOf D op) s ≡ stops (exit value) → Answers D op s position completed (Exit value (suc completed))
-  faults : {store : Bool} {address flags : ℕ} → effect 0 (viewOf D op) s ≡ stops (fault (faultOf store address flags))
-      → Answers D op s position completed (Fault store address flags (suc completed))
+  faults : {store : Bool} {address flags : ℕ} {reason : Reason} → effect 0 (viewOf D op) s ≡ stops (fault (faultOf store address flags reason))
+      → Answers D op s position completed (Fault store address flags reason (suc completed))
   unstated : StatesNothing D op s → Answers D op s position completed (NoResult position completed)
 
 -- a run of these ops from the state s on: the op at a position, "counted from 0 among the ops", ended it, in the state s′ that the completed

@@ -50,10 +50,11 @@ abbrev pub noAnswer : Ending
 noAnswer = Refused 0 0
 
 -- "It ends in one of three ways: exit with a value; fault with load or store, address and flags; or no stated result, with the op's
--- position counted from 0 among the ops." No run of an accepted block falls past its last op or uses up its steps (specs/Meaning)
+-- position counted from 0 among the ops." "every fault the runner reports carries that reason". No run of an accepted block falls past its
+-- last op or uses up its steps (specs/Meaning)
 abbrev pub answerOf : End ℕ Fault → ℕ → ℕ → Ending
 answerOf (exit v) position count = Exit v count
-answerOf (fault f) position count = Faulted (f .store) (f .address) (f .flags) count
+answerOf (fault f) position count = Faulted (f .store) (f .address) (f .flags) (f .reason) count
 answerOf unstated position count = NoResult position count
 answerOf fell position count = noAnswer
 answerOf spent position count = noAnswer

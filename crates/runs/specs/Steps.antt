@@ -8,13 +8,12 @@ use lib.Dec.{eqb, ltb, leb}
 use lib.ListN.{length, getD}
 use Rattle.theory.specs.Machine.{when, to, View, calc, access, flow, End, exit, fault, unstated, Effect, falls, jumps, stops, effect, St}
 use Rattle.word.specs.Condition.{condW}
-use Rattle.memory.specs.Access.{loadAt, storeAt}
 use Rattle.memory.specs.Answer.{accessWidth}
 use Rattle.memory.specs.Bytes.{lowFirst}
 use Rattle.ops.specs.Limits.{maxOps, maxMemory}
 use Rattle.ops.specs.Rows.{at, bodyLength, isComputing, numberOf, roleOf}
 use Rattle.ops.specs.Ops.{atTypes, Fault, faultOf, tcg}
-use Rattle.ops.specs.Kinds.{afterLoad, afterStore, document01}
+use Rattle.ops.specs.Kinds.{loadAt, storeAt, document01}
 use Rattle.ops.specs.Table.{rowOf}
 use Rattle.block.specs.Records.{recordsOf, opsFrom}
 use Rattle.block.specs.Scan.{Approved}
@@ -33,7 +32,7 @@ stateOf globals temps memory = record { env = envOf globals temps; mem = memory 
 -- how a run ends, and the effect that an outcome tells, with the state that an op leaves to the next
 abbrev pub endOf : Stop → End ℕ Fault
 endOf (Leaves v) = exit v
-endOf (Faults store address flags) = fault (faultOf store address flags)
+endOf (Faults store address flags reason) = fault (faultOf store address flags reason)
 endOf Unstated = unstated
 
 abbrev pub effectOf : Outcome → St (tcg document01) → Effect ℕ (List ℕ) ℕ Fault
@@ -107,14 +106,10 @@ branchOp b p wide =
     (when (λ m vs. let xs = atTypes (t ∷ t ∷ []) vs in condW (accessWidth wide) (at b (p + 3)) (at xs 0) (at xs 1))) (to (at b (p + 4)))
 
 abbrev pub loadOp : List ℕ → ℕ → Bool → View ℕ (List ℕ) ℕ Fault
-loadOp b p wide =
-    let f = at b (p + 3) in
-    access (at b (p + 1) ∷ []) (at b (p + 2) ∷ []) (λ m vs. let q = at vs 0 in afterLoad m q f (loadAt (accessWidth wide) f m q))
+loadOp b p wide = access (at b (p + 1) ∷ []) (at b (p + 2) ∷ []) (λ m vs. loadAt (accessWidth wide) (at b (p + 3)) m (at vs 0))
 
 abbrev pub storeOp : List ℕ → ℕ → View ℕ (List ℕ) ℕ Fault
-storeOp b p =
-    let f = at b (p + 3) in
-    access [] (at b (p + 1) ∷ at b (p + 2) ∷ []) (λ m vs. let q = at vs 1 in afterStore q f (storeAt f m q (at vs 0)))
+storeOp b p = access [] (at b (p + 1) ∷ at b (p + 2) ∷ []) (λ m vs. storeAt (at b (p + 3)) m (at vs 1) (at vs 0))
 
 abbrev pub constantOp : List ℕ → ℕ → View ℕ (List ℕ) ℕ Fault
 constantOp b p = calc (at b (p + 1) ∷ []) [] (λ vs. some (lowFirst b (p + 2) 8 ∷ []))

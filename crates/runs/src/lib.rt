@@ -1,4 +1,5 @@
 // How a run goes on and ends; definitions in specs/, laws in proofs/.
+use memory::Reason;
 
 // The run's answer. Each ending gives the number of ops run.
 pub enum Ending {
@@ -14,6 +15,7 @@ pub enum Ending {
         store: bool,
         address: u64,
         flags: u8,
+        reason: Reason,
         count: u64,
     },
     NoResult {
@@ -29,6 +31,7 @@ pub enum Stop {
         store: bool,
         address: u64,
         flags: u8,
+        reason: Reason,
     },
     Unstated,
 }

@@ -13,6 +13,7 @@ ghost use Rattle.block.specs.Scan.{recordAt, Stands};
 ghost use Rattle.runs.specs.Evaluates.{envOf};
 ghost use Rattle.runs.specs.Steps.{stateOf, Performs, PerformsAlone, nextAt, branchOp, loadOp, storeOp, constantOp};
 use kinds::is_wide;
+use memory::Access;
 use memory::Loaded;
 use memory::from_little_endian;
 use memory::load;
@@ -71,10 +72,11 @@ fn load_step(
             put(globals, temps, block[at + 1], x);
             Outcome::Falls(next)
         }
-        Loaded::Fault => Outcome::Stops(Stop::Faults {
+        Loaded::Fault(reason) => Outcome::Stops(Stop::Faults {
             store: false,
             address,
             flags,
+            reason,
         }),
     }
 }
@@ -94,14 +96,16 @@ fn store_step(
     let address = get(globals, temps, block[at + 2]);
     let flags = block[at + 3];
     let next = at + 4;
-    if store(memory, address, flags, value) {
-        return Outcome::Falls(next);
+    let access = store(memory, address, flags, value);
+    match access {
+        Access::Served => Outcome::Falls(next),
+        Access::Fails(reason) => Outcome::Stops(Stop::Faults {
+            store: true,
+            address,
+            flags,
+            reason,
+        }),
     }
-    Outcome::Stops(Stop::Faults {
-        store: true,
-        address,
-        flags,
-    })
 }
 
 // movi: d, eight bytes.

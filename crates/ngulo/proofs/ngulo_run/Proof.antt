@@ -35,8 +35,8 @@ report-as-requires c κs = tt
 enum-known-ending-3 : tie.Need-enum-known-ending-3
 enum-known-ending-3 c = search needs
 
-fault-flags-requires : tie.Need-fault-flags-requires
-fault-flags-requires c κs = tt
+fault-access-requires : tie.Need-fault-access-requires
+fault-access-requires c κs = tt
 
 report-as-requires-2 : tie.Need-report-as-requires-2
 report-as-requires-2 c κs = tt
@@ -65,7 +65,7 @@ same-length-6 c = search needs
 
 returns-3 : tie.Need-returns-3
 returns-3 c =
-    run-answers (c .before .before .before .before .before .before .before .before .before .before .run .ensures) (c .before .before .before .before .ending3 .given .1) refl (fault-report (c .report-as2 .ensures) (c .before .fault-flags .ensures))
+    run-answers (c .before .before .before .before .before .before .before .before .before .before .run .ensures) (c .before .before .before .before .ending3 .given .1) refl (fault-report (c .report-as2 .ensures) (c .before .fault-access .ensures))
 
 same-length-7 : tie.Need-same-length-7
 same-length-7 c = search needs
@@ -90,7 +90,7 @@ ngulo-run-spec =
     enum-known-ending-2
     report-as-requires
     enum-known-ending-3
-    fault-flags-requires
+    fault-access-requires
     report-as-requires-2
     enum-known-ending-4
     report-as-requires-3

@@ -39,8 +39,8 @@ shared-slice-read-put c = search needs
 put-requires : tie.Need-put-requires
 put-requires c κs = search needs
 
-enum-told : tie.Need-enum-told
-enum-told c = search needs
+enum-known-loaded-2 : tie.Need-enum-known-loaded-2
+enum-known-loaded-2 c = search needs
 
 same-length : tie.Need-same-length
 same-length c = search needs
@@ -57,8 +57,8 @@ same-length-2 c = search needs
 
 returns-2 : tie.Need-returns-2
 returns-2 c =
-    let args = c .before .before .before .before .before .before .before .before .before .before .before .args in
-    loads-fault (args .block .now) (envOf (args .globals .now) (args .temps .now)) (args .memory .now) (args .at) (args .wide) (c .before .before .before .before .get .ensures) (c .before .before .load .ensures) (c .enum-told .given .1)
+    let args = c .before .before .before .before .before .before .before .before .before .before .before .before .args in
+    loads-fault (args .block .now) (envOf (args .globals .now) (args .temps .now)) (args .memory .now) (args .at) (args .wide) (c .before .before .before .before .before .get .ensures) (c .before .before .before .load .ensures) (c .before .loaded2 .given .1)
 
 pub load-step-spec : {M : Type 1} → statement M
 load-step-spec =
@@ -74,7 +74,7 @@ load-step-spec =
     add-put
     shared-slice-read-put
     put-requires
-    enum-told
+    enum-known-loaded-2
     same-length
     returns
     same-length-2

@@ -35,21 +35,27 @@ add-next c = search needs
 store-requires : tie.Need-store-requires
 store-requires c κs = search needs
 
+enum-told : tie.Need-enum-told
+enum-told c = search needs
+
+enum-known-access : tie.Need-enum-known-access
+enum-known-access c = search needs
+
 same-length : tie.Need-same-length
 same-length c = search needs
 
 returns : tie.Need-returns
 returns c =
-    let args = c .before .before .before .before .before .before .before .before .before .before .before .before .before .args in
-    store-falls (args .block .now) (envOf (args .globals .now) (args .temps .now)) (args .memory .now) (args .at) (c .before .before .before .before .before .before .before .before .get .ensures) (c .before .before .before .before .before .before .get2 .ensures) (c .before .before .before .store .ensures) (c .if1 .taken)
+    let args = c .before .before .before .before .before .before .before .before .before .before .before .before .before .before .args in
+    store-falls (args .block .now) (envOf (args .globals .now) (args .temps .now)) (args .memory .now) (args .at) (c .before .before .before .before .before .before .before .before .before .get .ensures) (c .before .before .before .before .before .before .before .get2 .ensures) (c .before .before .before .before .store .ensures) (c .enum-told .given .1)
 
 same-length-2 : tie.Need-same-length-2
 same-length-2 c = search needs
 
 returns-2 : tie.Need-returns-2
 returns-2 c =
-    let args = c .before .before .before .before .before .before .before .before .before .before .before .before .before .args in
-    stores-fault (args .block .now) (envOf (args .globals .now) (args .temps .now)) (args .memory .now) (args .at) (c .before .before .before .before .before .before .before .before .get .ensures) (c .before .before .before .before .before .before .get2 .ensures) (c .before .before .before .store .ensures) (c .if1 .left)
+    let args = c .before .before .before .before .before .before .before .before .before .before .before .before .before .before .before .args in
+    stores-fault (args .block .now) (envOf (args .globals .now) (args .temps .now)) (args .memory .now) (args .at) (c .before .before .before .before .before .before .before .before .before .before .get .ensures) (c .before .before .before .before .before .before .before .before .get2 .ensures) (c .before .before .before .before .before .store .ensures) (c .before .access .given .1)
 
 pub store-step-spec : {M : Type 1} → statement M
 store-step-spec =
@@ -64,6 +70,8 @@ store-step-spec =
     add-flags
     shared-slice-read-flags
     add-next store-requires
+    enum-told
+    enum-known-access
     same-length
     returns
     same-length-2
