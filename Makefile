@@ -120,12 +120,14 @@ test-exported:
 check: test-c
 test-c: test-calls test-strict test-tool test-format test-demo test-readme test-install test-dist
 
-# The calls and the header, as C and as C++.
-test-calls: $(KIT)/calls $(KIT)/calls-cpp $(KIT)/header $(KIT)/header-cpp
+# The calls, the header and the stack that the calls take, as C and as C++.
+test-calls: $(KIT)/calls $(KIT)/calls-cpp $(KIT)/header $(KIT)/header-cpp $(KIT)/stack $(KIT)/stack-cpp
 	$(KIT)/header
 	$(KIT)/header-cpp
 	$(KIT)/calls
 	$(KIT)/calls-cpp
+	tests/stack $(KIT)/stack
+	tests/stack $(KIT)/stack-cpp
 
 test-strict:
 	CC='$(CC)' CXX='$(CXX)' tests/strict
@@ -133,6 +135,7 @@ test-strict:
 test-tool: $(KIT)/ngulo $(KIT)/ngulo-cpp
 	tests/tool $(KIT)/ngulo
 	tests/tool $(KIT)/ngulo-cpp
+	tests/sweep --long $(KIT)/ngulo
 
 test-format: $(KIT)/ngulo
 	tests/format $(KIT)/ngulo

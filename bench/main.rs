@@ -19,7 +19,7 @@ mod second;
 mod sets;
 mod sides;
 
-use cases::Case;
+use cases::{Case, RESULT};
 use second::{Form, SHAPES};
 use sets::Set;
 use sides::{Calls, LIBRARY, PLAIN};
@@ -29,8 +29,6 @@ use std::process::ExitCode;
 /// The median of so many rounds, each of at least so many nanoseconds.
 const ROUNDS: usize = 9;
 const ROUND: f64 = 20e6;
-/// The longest result.
-const ROOM: usize = 2752;
 /// The other blocks on which the answers are compared.
 const SEED: u64 = 2;
 const OTHERS: u64 = 100_000;
@@ -65,42 +63,52 @@ fn kinds_left_out(sets: &[Set], names: [&str; 2]) -> Vec<u8> {
         .collect()
 }
 
-/// One turn over a set.
-type Turn = fn(&Calls, &[Case]);
+/// What the calls write; made before the time is taken.
+struct Lent {
+    out: Vec<u8>,
+    globals: Vec<u64>,
+    memory: Vec<u8>,
+}
 
-fn checks(side: &Calls, set: &[Case]) {
+/// One turn over a set.
+type Turn = fn(&Calls, &[Case], &mut Lent);
+
+fn checks(side: &Calls, set: &[Case], _: &mut Lent) {
     for case in set {
         black_box((side.check)(black_box(&case.block)));
     }
 }
 
-fn passes(side: &Calls, set: &[Case]) {
-    let mut out = [0; ROOM];
+fn passes(side: &Calls, set: &[Case], lent: &mut Lent) {
     for case in set {
-        black_box((side.pass)(black_box(&case.block), &mut out));
-        black_box(&out);
+        black_box((side.pass)(black_box(&case.block), &mut lent.out));
+        black_box(&lent.out);
     }
 }
 
 /// Each run starts from the same state, which is copied for both sides alike.
-fn runs(side: &Calls, set: &[Case]) {
-    let mut globals = Vec::new();
-    let mut memory = Vec::new();
+fn runs(side: &Calls, set: &[Case], lent: &mut Lent) {
+    let (globals, memory) = (&mut lent.globals, &mut lent.memory);
     let mut report = [0; 4];
     for case in set {
         globals.clone_from(&case.globals);
         memory.clone_from(&case.memory);
         let block = black_box(&case.block);
-        black_box((side.run)(block, &mut globals, &mut memory, &mut report));
+        black_box((side.run)(block, globals, memory, &mut report));
         black_box((&globals, &memory, &report));
     }
 }
 
 /// Nanoseconds for a block.
 fn time(turn: Turn, side: &Calls, set: &[Case], turns: usize) -> f64 {
+    let mut lent = Lent {
+        out: vec![0; RESULT],
+        globals: vec![],
+        memory: vec![],
+    };
     let start = now();
     for _ in 0..turns {
-        turn(side, set);
+        turn(side, set, &mut lent);
     }
     (now() - start) / (turns * set.len()) as f64
 }

@@ -1,15 +1,21 @@
 //! Plain, safe Rust that checks, optimises and runs blocks, written for
-//! speed. What the kind fixes stands in one static table, a set of variables
-//! or of labels is one `u64`, all arrays are on the stack. One forward scan
-//! checks and folds, one backward scan prunes.
+//! speed. What the kind fixes stands in one static table, all arrays are on
+//! the stack, and few ops or variables take small ones. One forward scan
+//! checks and folds, one backward scan prunes: with few variables a set of them
+//! is one `u64`, with many each has a stamp.
 //!
 //! A branch on the kind is often foreseen wrongly, so the scans treat nearly
 //! all ops alike, by what the table says. The forward scan only asks whether
 //! all is well, in one test; which rule is broken is found apart.
 
-/// At most 256 ops, 65,536 bytes of memory.
-const OPS: usize = 256;
+/// At most so many variables, ops, labels and bytes of memory.
+const VARIABLES: usize = 200;
+const OPS: usize = 1024;
+const LABELS: usize = 128;
 const MEMORY: usize = 65_536;
+/// Few variables have a bit each in a `u64`; many are told apart by a byte.
+const FEW: usize = 64;
+const MANY: usize = 256;
 
 /// What an op does to the set of live variables.
 #[derive(Clone, Copy, PartialEq, Eq)]
@@ -147,14 +153,19 @@ static KINDS: [Row; 256] = {
     table
 };
 
-/// The set of one variable or label.
+/// The set of one of few variables.
 fn one(number: u8) -> u64 {
     1 << (number & 63)
 }
 
-/// The first so many, at most 64.
+/// The first so many of few.
 fn first(count: usize) -> u64 {
     !u64::MAX.checked_shl(count as u32).unwrap_or(0)
+}
+
+/// The set of one label.
+fn label_bit(label: u8) -> u128 {
+    1 << (label & 127)
 }
 
 fn refused(number: u64, place: usize) -> u64 {
@@ -166,15 +177,14 @@ struct Scan<'a> {
     block: &'a [u8],
     /// What speaks against each variable now, and when an extended basic block
     /// starts.
-    against: [u8; 256],
-    starting: [u8; 64],
+    against: [u8; MANY],
+    starting: [u8; MANY],
     variables: usize,
     globals: usize,
-    temporaries: u64,
     /// Labels set, labels jumped to, and where they are set.
-    set: u64,
-    jumped: u64,
-    places: [u16; 32],
+    set: u128,
+    jumped: u128,
+    places: [u16; LABELS],
 }
 
 impl<'a> Scan<'a> {
@@ -182,14 +192,13 @@ impl<'a> Scan<'a> {
     fn new(block: &'a [u8]) -> Scan<'a> {
         Scan {
             block,
-            against: [UNDECLARED; 256],
-            starting: [UNDECLARED; 64],
+            against: [UNDECLARED; MANY],
+            starting: [UNDECLARED; MANY],
             variables: 0,
             globals: 0,
-            temporaries: 0,
             set: 0,
             jumped: 0,
-            places: [0; 32],
+            places: [0; LABELS],
         }
     }
 
@@ -197,7 +206,7 @@ impl<'a> Scan<'a> {
     #[inline(always)]
     fn declarations(&mut self) {
         let (records, _) = self.block.as_chunks::<3>();
-        let records = &records[..records.len().min(64)];
+        let records = &records[..records.len().min(VARIABLES)];
         let mut count = 0;
         for (&[kind, class, width], starting) in records.iter().zip(&mut self.starting) {
             if kind != 1 || class != 0 || width > 1 {
@@ -213,19 +222,31 @@ impl<'a> Scan<'a> {
                 break;
             }
             *starting = DECLARED + width + (class & 2) * (NOT_READY / 2);
-            self.temporaries |= (class as u64 >> 1) << count;
             count += 1;
         }
         self.variables = count;
-        self.against[..64].copy_from_slice(&self.starting);
     }
 
-    /// All records in order; the first bad one answers.
+    /// Starts an extended basic block; `N` is at least the number of variables.
     #[inline(always)]
-    fn all<const ROOM: usize>(&mut self, fold: &mut Fold<ROOM>) -> Result<(), u64> {
-        self.declarations();
+    fn start<const N: usize>(&mut self) {
+        self.against[..N].copy_from_slice(&self.starting[..N]);
+    }
+
+    /// The bytes after the declarations.
+    fn rest(&self) -> &'a [u8] {
+        &self.block[3 * self.variables..]
+    }
+
+    /// All ops in order; the first bad one answers.
+    #[inline(always)]
+    fn all<const ROOM: usize, const N: usize>(
+        &mut self,
+        fold: &mut Fold<ROOM, N>,
+    ) -> Result<(), u64> {
+        self.start::<N>();
         let block = self.block;
-        let mut rest = &block[3 * self.variables..];
+        let mut rest = self.rest();
         let (mut ops, mut last) = (0, 0);
         while let Some(&kind) = rest.first() {
             let row = &KINDS[kind as usize];
@@ -254,12 +275,12 @@ impl<'a> Scan<'a> {
 
     /// Is all well with this movi?
     #[inline(always)]
-    fn movi<const ROOM: usize>(
+    fn movi<const ROOM: usize, const N: usize>(
         &mut self,
         place: usize,
         row: &Row,
         record: &[u8; 10],
-        fold: &mut Fold<ROOM>,
+        fold: &mut Fold<ROOM, N>,
     ) -> bool {
         let value = movi_value(record);
         let above = if record[0] >= 0x80 { 0 } else { value >> 32 };
@@ -268,19 +289,19 @@ impl<'a> Scan<'a> {
             return false;
         }
         *against &= !(NOT_READY | NOT_KNOWN);
-        fold.values[record[1] as usize & 63] = value;
-        fold.push(place, record[1], Effect::Pure, 0);
+        fold.values[record[1] as usize & (N - 1)] = value;
+        fold.push(place, record[1], Effect::Pure, Fold::<ROOM, N>::NOTHING);
         true
     }
 
     /// Is all well with this op?
     #[inline(always)]
-    fn op<const ROOM: usize>(
+    fn op<const ROOM: usize, const N: usize>(
         &mut self,
         place: usize,
         row: &Row,
         record: &[u8],
-        fold: &mut Fold<ROOM>,
+        fold: &mut Fold<ROOM, N>,
     ) -> bool {
         if record.len() < 2 {
             return false;
@@ -296,17 +317,18 @@ impl<'a> Scan<'a> {
             return false;
         }
         let mut seen = against_a | against_b;
-        let mut reads = one(a) | one(b);
+        let mut reads = Fold::<ROOM, N>::two(a, b);
         if row.more {
             if row.effect != Effect::Pure {
-                let reads = if row.operands > 0 { reads } else { 0 };
+                let nothing = Fold::<ROOM, N>::NOTHING;
+                let reads = if row.operands > 0 { reads } else { nothing };
                 fold.push(place, output, row.effect, reads);
-                return self.parts(place, record);
+                return self.parts::<N>(place, record);
             }
             if row.operands == 5 {
                 let (c, d) = (record[4], record[5]);
                 seen |= self.against[c as usize] | self.against[d as usize];
-                reads |= one(c) | one(d);
+                reads = Fold::<ROOM, N>::two_more(reads, c, d);
                 if seen & row.asked[1] != 0 {
                     return false;
                 }
@@ -314,40 +336,45 @@ impl<'a> Scan<'a> {
                 return false;
             }
         }
-        let against = &mut self.against[output as usize];
-        *against &= !NOT_READY;
+        self.against[output as usize] &= !NOT_READY;
         if ROOM > 0 {
             let known = seen & NOT_KNOWN == 0 && fold.folds(place, row, record);
             if !known {
                 fold.push(place, output, row.effect, reads);
             }
-            // A store has no output.
-            let unknown = if known { 0 } else { NOT_KNOWN };
-            let kept = if row.asked[0] == 0 { *against } else { unknown };
-            *against = *against & !NOT_KNOWN | kept & NOT_KNOWN;
+            self.knows(row, output, known);
         }
         true
     }
 
+    /// Marks whether the output is known now; a store has none.
+    #[inline(always)]
+    fn knows(&mut self, row: &Row, output: u8, known: bool) {
+        let against = &mut self.against[output as usize];
+        let unknown = if known { 0 } else { NOT_KNOWN };
+        let kept = if row.asked[0] == 0 { *against } else { unknown };
+        *against = *against & !NOT_KNOWN | kept & NOT_KNOWN;
+    }
+
     /// A good exit_tb, set_label, br or brcond, but for its label.
     #[inline(always)]
-    fn parts(&mut self, place: usize, record: &[u8]) -> bool {
+    fn parts<const N: usize>(&mut self, place: usize, record: &[u8]) -> bool {
         // All but brcond, which is longer, end an extended basic block.
         if record.len() == 2 {
-            self.against[..64].copy_from_slice(&self.starting);
+            self.start::<N>();
         }
         if record[0] == 4 {
             return true;
         }
         let label = record[record.len() - 1];
-        if label > 31 || self.set & one(label) != 0 {
+        if label as usize >= LABELS || self.set & label_bit(label) != 0 {
             return false;
         }
         if record[0] == 2 {
-            self.set |= one(label);
+            self.set |= label_bit(label);
             self.places[label as usize] = place as u16;
         } else {
-            self.jumped |= one(label);
+            self.jumped |= label_bit(label);
         }
         true
     }
@@ -383,10 +410,10 @@ impl<'a> Scan<'a> {
         let limits = CONSTANTS[record[row.constant[0] as usize] as usize] & row.constant[1];
         let field = matches!(kind & 0x7F, 0x2D..=0x2F) && !field_fits(row, record);
         let large = kind == 0x10 && record[6..10] != [0; 4];
-        if limits != 0 || field || jumps && label > 31 || large {
+        if limits != 0 || field || jumps && label as usize >= LABELS || large {
             return 6;
         }
-        if jumps && self.set & one(label) != 0 {
+        if jumps && self.set & label_bit(label) != 0 {
             return 7;
         }
         8
@@ -499,16 +526,13 @@ fn swapped(record: &[u8], t1: u64) -> Option<u64> {
     })
 }
 
-/// The values of all variables.
-type Values = [u64; 64];
-
-fn value(values: &Values, variable: u8) -> u64 {
-    values[variable as usize & 63]
+fn value<const N: usize>(values: &[u64; N], variable: u8) -> u64 {
+    values[variable as usize & (N - 1)]
 }
 
 /// The result of a pure op, if one is stated.
 #[inline(always)]
-fn result(record: &[u8], values: &Values) -> Option<u64> {
+fn result<const N: usize>(record: &[u8], values: &[u64; N]) -> Option<u64> {
     let wide = record[0] >= 0x80;
     let a = || value(values, record[2]);
     let b = || value(values, record[3]);
@@ -552,7 +576,7 @@ fn result(record: &[u8], values: &Values) -> Option<u64> {
 /// The result of a bit field, swap or count. Apart, so that the others stay as
 /// fast.
 #[inline(never)]
-fn field_swap_or_count(record: &[u8], values: &Values) -> Option<u64> {
+fn field_swap_or_count<const N: usize>(record: &[u8], values: &[u64; N]) -> Option<u64> {
     let wide = record[0] >= 0x80;
     let a = || value(values, record[2]);
     let b = || value(values, record[3]);
@@ -635,16 +659,29 @@ fn store(memory: &mut [u8], address: u64, flags: u8, mut value: u64) -> Option<(
     Some(())
 }
 
+impl Scan<'_> {
+    /// Checks the whole block.
+    #[inline(always)]
+    fn check(&mut self) -> Result<(), u64> {
+        self.declarations();
+        if self.variables <= FEW {
+            self.all(&mut Fold::<0, FEW>::new())
+        } else {
+            self.all(&mut Fold::<0, MANY>::new())
+        }
+    }
+}
+
 /// Checks a block: 0 if it is accepted, else number + 256 * place.
 pub fn check(block: &[u8]) -> u64 {
-    let checked = Scan::new(block).all(&mut Fold::<0>::new());
+    let checked = Scan::new(block).check();
     checked.map_or_else(|refusal| refusal, |()| 0)
 }
 
 /// Runs a block on the globals and memory; 0 and the report, or a refusal.
 pub fn run(block: &[u8], globals: &mut [u64], memory: &mut [u8], report: &mut [u64; 4]) -> u64 {
     let mut scan = Scan::new(block);
-    if let Err(refusal) = scan.all(&mut Fold::<0>::new()) {
+    if let Err(refusal) = scan.check() {
         return refusal;
     }
     let mut high = 0;
@@ -654,15 +691,26 @@ pub fn run(block: &[u8], globals: &mut [u64], memory: &mut [u8], report: &mut [u
     if globals.len() != scan.globals || high != 0 || memory.len() > MEMORY {
         return refused(11, 0);
     }
-    let mut values = [0; 64];
-    values[..globals.len()].copy_from_slice(globals);
-    *report = execute(&scan, &mut values, memory);
-    globals.copy_from_slice(&values[..globals.len()]);
+    *report = if scan.variables <= FEW {
+        run_on::<FEW>(&scan, globals, memory)
+    } else {
+        run_on::<MANY>(&scan, globals, memory)
+    };
     0
 }
 
+/// Runs an accepted block on globals that fit; the report.
+#[inline(always)]
+fn run_on<const N: usize>(scan: &Scan, globals: &mut [u64], memory: &mut [u8]) -> [u64; 4] {
+    let mut values = [0; N];
+    values[..globals.len()].copy_from_slice(globals);
+    let report = execute(scan, &mut values, memory);
+    globals.copy_from_slice(&values[..globals.len()]);
+    report
+}
+
 /// Runs an accepted block from its first op; the report.
-fn execute(scan: &Scan, values: &mut Values, memory: &mut [u8]) -> [u64; 4] {
+fn execute<const N: usize>(scan: &Scan, values: &mut [u64; N], memory: &mut [u8]) -> [u64; 4] {
     let (block, places, start) = (scan.block, &scan.places, 3 * scan.variables);
     let mut place = start;
     let mut count = 0;
@@ -672,13 +720,13 @@ fn execute(scan: &Scan, values: &mut Values, memory: &mut [u8]) -> [u64; 4] {
         count += 1;
         match record[0] {
             0x02 => place += 2,
-            0x03 => place = places[record[1] as usize & 31] as usize,
+            0x03 => place = places[record[1] as usize & (LABELS - 1)] as usize,
             0x04 => return [1, value(values, record[1]), 0, count],
             0x2A | 0xAA => {
                 let (a, b) = (value(values, record[1]), value(values, record[2]));
                 place += 5;
                 if holds(record[3], a, b, wide) {
-                    place = places[record[4] as usize & 31] as usize;
+                    place = places[record[4] as usize & (LABELS - 1)] as usize;
                 }
             }
             0x2B | 0xAB => {
@@ -686,7 +734,7 @@ fn execute(scan: &Scan, values: &mut Values, memory: &mut [u8]) -> [u64; 4] {
                 let Some(loaded) = load(memory, address, record[3], wide) else {
                     return faulted(address, record[3], false, count);
                 };
-                values[record[1] as usize & 63] = loaded;
+                values[record[1] as usize & (N - 1)] = loaded;
                 place += 4;
             }
             0x2C | 0xAC => {
@@ -700,7 +748,7 @@ fn execute(scan: &Scan, values: &mut Values, memory: &mut [u8]) -> [u64; 4] {
                 let Some(result) = result(record, values) else {
                     return [3, position(&block[start..place]), 0, count - 1];
                 };
-                values[record[1] as usize & 63] = result;
+                values[record[1] as usize & (N - 1)] = result;
                 place += KINDS[kind as usize].length as usize;
             }
         }
@@ -718,30 +766,186 @@ fn position(mut ops: &[u8]) -> u64 {
     count
 }
 
+/// What is live, read backward.
+trait Live {
+    /// Whether the op with this effect, first operand and slot is kept, 0 or 1;
+    /// then what is live before it.
+    fn keeps(&mut self, effect: usize, first: u8, slot: u64) -> u64;
+}
+
+/// By effect: does the op stay, read, and write its first operand?
+const STAYS: [u64; 8] = [0, 0, 1, 1, 1, 1, 1, 1];
+const READS: [u64; 8] = [!0, 0, !0, !0, !0, !0, !0, 0];
+const WRITES: [u64; 8] = [!0, !0, !0, 0, 0, 0, 0, 0];
+
+/// Few variables, a bit for each.
+struct Bits {
+    live: u64,
+    /// By effect: what the op makes live besides what it reads.
+    adds: [u64; 8],
+}
+
+impl Bits {
+    fn new(scan: &Scan) -> Bits {
+        let globals = first(scan.globals);
+        let mut lasting = globals;
+        for variable in scan.globals..scan.variables.min(FEW) {
+            let lasts = scan.starting[variable] & NOT_READY == 0;
+            lasting |= (lasts as u64) << variable;
+        }
+        Bits {
+            live: 0,
+            adds: [0, 0, globals, globals, globals, lasting, lasting, 0],
+        }
+    }
+}
+
+impl Live for Bits {
+    #[inline(always)]
+    fn keeps(&mut self, effect: usize, first: u8, slot: u64) -> u64 {
+        const AFTER: [u64; 8] = [!0, !0, !0, !0, 0, 0, !0, 0];
+        let keep = STAYS[effect] | self.live >> (first & 63) & 1;
+        let after = self.live & AFTER[effect] & !(one(first) & WRITES[effect]);
+        self.live = after | self.adds[effect] | slot & READS[effect] & keep.wrapping_neg();
+        keep
+    }
+}
+
+/// Many variables: the last thing that an op did to each, and to all globals,
+/// all local temporaries and all temporaries. A later stamp is higher; the low
+/// bit of the highest tells whether the variable is live.
+struct Stamps {
+    stamps: [u16; MANY],
+    /// For each variable the place of its class in `floors`, in bits.
+    classes: [u8; MANY],
+    floors: u64,
+    now: u64,
+}
+
+/// One in the place of each class; what a stamp grows by with each op; the low
+/// bits of a read, which comes after a class made live (3) or dead (2), which
+/// come after the op's own write (0).
+const EACH: u64 = 0x1_0001_0001;
+const STEP: u64 = 8;
+const READ: u64 = 5;
+
+impl Stamps {
+    fn new(scan: &Scan) -> Stamps {
+        let mut classes = [0; MANY];
+        let others = scan.globals..scan.variables;
+        let starting = &scan.starting[others.clone()];
+        for (class, starting) in classes[others].iter_mut().zip(starting) {
+            *class = 16 + (starting & NOT_READY) * (16 / NOT_READY);
+        }
+        Stamps {
+            stamps: [0; MANY],
+            classes,
+            floors: 0,
+            now: 0,
+        }
+    }
+
+    /// Makes a variable live now, if the mask is not 0. The place that is
+    /// written does not wait for the mask.
+    #[inline(always)]
+    fn read(&mut self, variable: u64, mask: u64) {
+        let stamp = &mut self.stamps[(variable & 0xFF) as usize];
+        *stamp = (*stamp).max(((self.now + READ) & mask) as u16);
+    }
+}
+
+impl Live for Stamps {
+    #[inline(always)]
+    fn keeps(&mut self, effect: usize, first: u8, slot: u64) -> u64 {
+        // By effect: the classes that it leaves alone, and those it makes live;
+        // the others become dead.
+        const ALL: u64 = 0xFFFF_FFFF_FFFF;
+        const LOCALS: u64 = 0xFFFF_FFFF;
+        const GLOBALS: u64 = 0xFFFF;
+        const LEAVES: [u64; 8] = [
+            ALL,
+            ALL,
+            ALL - GLOBALS,
+            ALL - GLOBALS,
+            0,
+            0,
+            ALL - LOCALS,
+            0,
+        ];
+        const LIVE: [u64; 8] = [0, 0, 3, 3, EACH * 2 + 1, EACH * 2 + 0x1_0001, 0x3_0003, 0];
+        self.now += STEP;
+        let floor = (self.floors >> self.classes[first as usize]) as u16;
+        let stamp = &mut self.stamps[first as usize];
+        let keep = STAYS[effect] | ((*stamp).max(floor) & 1) as u64;
+        *stamp = (*stamp & !WRITES[effect] as u16).max((self.now & WRITES[effect]) as u16);
+        let (leaves, new) = (LEAVES[effect], self.now * EACH + LIVE[effect]);
+        self.floors = self.floors & leaves | new & !leaves;
+        let mask = READS[effect] & keep.wrapping_neg();
+        self.read(slot, mask);
+        self.read(slot >> 8, mask);
+        if slot & mask & 1 << 16 != 0 {
+            self.read(slot >> 24, mask);
+            self.read(slot >> 32, mask);
+        }
+        keep
+    }
+}
+
 /// Where an op starts, its first operand, its effect.
 type Mark = (u16, u8, Effect);
 
 /// What fold keeps for prune and the writing, with room for so many ops; a
-/// scan that only checks has none.
-struct Fold<const ROOM: usize> {
+/// scan that only checks has none. `N` is `FEW` or `MANY`.
+struct Fold<const ROOM: usize, const N: usize> {
     /// The known values.
-    values: Values,
+    values: [u64; N],
     count: usize,
     marks: [Mark; ROOM],
     /// What the op reads or, if it is folded, its value.
     slots: [u64; ROOM],
 }
 
-/// What prune keeps: the ops, those folded, and the length of the result.
-type Plan = ([u64; 4], [u64; 4], usize);
+/// What prune keeps, 64 ops to a word: the ops, those folded, and the length of
+/// the result.
+struct Plan<const WORDS: usize> {
+    kept: [u64; WORDS],
+    folded: [u64; WORDS],
+    length: usize,
+}
 
-impl<const ROOM: usize> Fold<ROOM> {
-    fn new() -> Fold<ROOM> {
+/// A variable that is never declared.
+const NONE: u64 = 0xFF;
+
+impl<const ROOM: usize, const N: usize> Fold<ROOM, N> {
+    /// The slot of an op that reads nothing.
+    const NOTHING: u64 = if N == FEW { 0 } else { NONE | NONE << 8 };
+
+    fn new() -> Fold<ROOM, N> {
         Fold {
-            values: [0; 64],
+            values: [0; N],
             count: 0,
             marks: [(0, 0, Effect::Pure); ROOM],
             slots: [0; ROOM],
+        }
+    }
+
+    /// The slot of an op that reads these: a set of few, or the numbers.
+    #[inline(always)]
+    fn two(a: u8, b: u8) -> u64 {
+        if N == FEW {
+            one(a) | one(b)
+        } else {
+            a as u64 | (b as u64) << 8
+        }
+    }
+
+    /// The same with two more, above a bit that tells of them.
+    #[inline(always)]
+    fn two_more(reads: u64, c: u8, d: u8) -> u64 {
+        if N == FEW {
+            reads | one(c) | one(d)
+        } else {
+            reads | 1 << 16 | (c as u64) << 24 | (d as u64) << 32
         }
     }
 
@@ -765,55 +969,59 @@ impl<const ROOM: usize> Fold<ROOM> {
         let Some(result) = result(record, &self.values) else {
             return false;
         };
-        self.values[record[1] as usize & 63] = result;
+        self.values[record[1] as usize & (N - 1)] = result;
         self.push(place, record[1], Effect::Folded, result);
         true
     }
 
     /// Reads the folded ops backward.
     #[inline(never)]
-    fn prune(&self, scan: &Scan) -> Plan {
-        let globals = first(scan.globals);
-        let lasting = first(scan.variables) & !scan.temporaries;
-        // By effect: what the op makes live besides what it reads, and masks.
-        let adds = [0, 0, globals, globals, globals, lasting, lasting, 0];
-        const STAYS: [u64; 8] = [0, 0, 1, 1, 1, 1, 1, 1];
-        const READS: [u64; 8] = [!0, 0, !0, !0, !0, !0, !0, 0];
-        const WRITES: [u64; 8] = [!0, !0, !0, 0, 0, 0, 0, 0];
-        const AFTER: [u64; 8] = [!0, !0, !0, !0, 0, 0, !0, 0];
-        let (mut all_kept, mut all_folded, mut length) = ([0; 4], [0; 4], 3 * scan.variables);
-        let (mut live, mut next) = (0u64, scan.block.len());
+    fn prune<const WORDS: usize>(&self, mut live: impl Live, scan: &Scan) -> Plan<WORDS> {
+        let mut plan = Plan {
+            kept: [0; WORDS],
+            folded: [0; WORDS],
+            length: 3 * scan.variables,
+        };
+        let mut next = scan.block.len();
         let marks = self.marks[..self.count].chunks(64);
         let slots = self.slots[..self.count].chunks(64);
-        for ((marks, slots), word) in marks.zip(slots).zip(0..4).rev() {
+        for ((marks, slots), word) in marks.zip(slots).zip(0..WORDS).rev() {
             let (mut kept, mut folded) = (0, 0);
-            for (&(start, first, effect), slot) in marks.iter().zip(slots).rev() {
+            for (&(start, first, effect), &slot) in marks.iter().zip(slots).rev() {
                 let effect = effect as usize & 7;
-                let keep = STAYS[effect] | live >> (first & 63) & 1;
+                let keep = live.keeps(effect, first, slot);
                 let fold = (effect == Effect::Folded as usize) as u64;
-                live = live & AFTER[effect] & !(one(first) & WRITES[effect]);
-                live |= adds[effect] | slot & READS[effect] & keep.wrapping_neg();
                 kept = kept << 1 | keep;
                 folded = folded << 1 | fold;
                 let bytes = if fold != 0 { 10 } else { next - start as usize };
-                length += bytes & (keep as usize).wrapping_neg();
+                plan.length += bytes & (keep as usize).wrapping_neg();
                 next = start as usize;
             }
-            (all_kept[word], all_folded[word]) = (kept, folded);
+            (plan.kept[word], plan.folded[word]) = (kept, folded);
         }
-        (all_kept, all_folded, length)
+        plan
+    }
+
+    /// Writes the result, if the buffer has room for it.
+    fn finish<const WORDS: usize>(&self, plan: &Plan<WORDS>, block: &[u8], out: &mut [u8]) -> u64 {
+        if out.len() < plan.length {
+            return refused(12, 0);
+        }
+        self.write(plan, block, out);
+        256 * plan.length as u64
     }
 
     /// Writes the declarations and what is kept, neighbours together.
     #[inline(never)]
-    fn write(&self, (all_kept, all_folded, _): &Plan, block: &[u8], out: &mut [u8]) {
+    fn write<const WORDS: usize>(&self, plan: &Plan<WORDS>, block: &[u8], out: &mut [u8]) {
         let start = |position: usize| match self.marks[..self.count].get(position) {
             Some(mark) => mark.0 as usize,
             None => block.len(),
         };
         let mut to = start(0);
         out[..to].copy_from_slice(&block[..to]);
-        for (word, (&kept, &folded)) in all_kept.iter().zip(all_folded).enumerate() {
+        let words = plan.kept.iter().zip(&plan.folded).enumerate();
+        for (word, (&kept, &folded)) in words.take(self.count.div_ceil(64)) {
             let mut left = kept;
             while left != 0 {
                 let at = left.trailing_zeros();
@@ -840,24 +1048,39 @@ impl<const ROOM: usize> Fold<ROOM> {
 
 /// Folds and prunes into the buffer: 256 * the result's length, or a refusal.
 pub fn pass(block: &[u8], out: &mut [u8]) -> u64 {
+    let mut scan = Scan::new(block);
+    scan.declarations();
+    let scan = &mut scan;
     // An op has at least two bytes; few ops need less room, which is sooner cleared.
-    if block.len() <= 128 {
-        pass_in::<64>(block, out)
-    } else {
-        pass_in::<OPS>(block, out)
+    match scan.rest().len() {
+        0..=128 if scan.variables <= FEW => pass_few::<64, 1>(scan, out),
+        0..=256 if scan.variables <= FEW => pass_few::<128, 2>(scan, out),
+        0..=512 if scan.variables <= FEW => pass_few::<256, 4>(scan, out),
+        0..=1024 if scan.variables <= FEW => pass_few::<512, 8>(scan, out),
+        _ if scan.variables <= FEW => pass_few::<OPS, { OPS / 64 }>(scan, out),
+        0..=512 => pass_many::<256, 4>(scan, out),
+        _ => pass_many::<OPS, { OPS / 64 }>(scan, out),
     }
 }
 
-fn pass_in<const ROOM: usize>(block: &[u8], out: &mut [u8]) -> u64 {
-    let mut fold = Fold::<ROOM>::new();
-    let mut scan = Scan::new(block);
+/// With few variables.
+#[inline(never)]
+fn pass_few<const ROOM: usize, const WORDS: usize>(scan: &mut Scan, out: &mut [u8]) -> u64 {
+    let mut fold = Fold::<ROOM, FEW>::new();
     if let Err(refusal) = scan.all(&mut fold) {
         return refusal;
     }
-    let plan = fold.prune(&scan);
-    if out.len() < plan.2 {
-        return refused(12, 0);
+    let plan: Plan<WORDS> = fold.prune(Bits::new(scan), scan);
+    fold.finish(&plan, scan.block, out)
+}
+
+/// With many.
+#[inline(never)]
+fn pass_many<const ROOM: usize, const WORDS: usize>(scan: &mut Scan, out: &mut [u8]) -> u64 {
+    let mut fold = Fold::<ROOM, MANY>::new();
+    if let Err(refusal) = scan.all(&mut fold) {
+        return refusal;
     }
-    fold.write(&plan, block, out);
-    256 * plan.2 as u64
+    let plan: Plan<WORDS> = fold.prune(Stamps::new(scan), scan);
+    fold.finish(&plan, scan.block, out)
 }

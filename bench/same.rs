@@ -12,12 +12,19 @@ enum Done {
     Pass(u64, Vec<u8>),
 }
 
+/// A buffer has at most so many bytes more than the longest result.
+const MORE: usize = 17;
+
 /// What a buffer holds before a call: no two neighbours alike.
-fn pattern(length: usize) -> Vec<u8> {
-    (0..length)
-        .map(|i| (i * 11 + i / 256 + 0x35) as u8)
-        .collect()
-}
+static PATTERN: [u8; RESULT + MORE] = {
+    let mut bytes = [0; RESULT + MORE];
+    let mut i = 0;
+    while i < bytes.len() {
+        bytes[i] = (i * 11 + i / 256 + 0x35) as u8;
+        i += 1;
+    }
+    bytes
+};
 
 fn checked(side: &Calls, case: &Case) -> Done {
     Done::Check((side.check)(&case.block))
@@ -31,20 +38,20 @@ fn ran(side: &Calls, case: &Case) -> Done {
 }
 
 fn passed(side: &Calls, case: &Case, room: usize) -> Done {
-    let mut out = pattern(room);
+    let mut out = PATTERN[..room].to_vec();
     let answer = (side.pass)(&case.block, &mut out);
     Done::Pass(answer, out)
 }
 
 /// The buffers of a pass: exact, with more, with too little and with no room.
 fn rooms(side: &Calls, case: &Case) -> Vec<usize> {
-    let answer = (side.pass)(&case.block, &mut pattern(RESULT));
+    let answer = (side.pass)(&case.block, &mut [0; RESULT]);
     let whole = if answer % 256 == 0 {
         answer as usize / 256
     } else {
         0
     };
-    let mut rooms = vec![RESULT, 0, whole, whole + 1, whole + 17, whole / 2];
+    let mut rooms = vec![RESULT, 0, whole, whole + 1, whole + MORE, whole / 2];
     rooms.push(whole.saturating_sub(1));
     rooms
 }

@@ -1,9 +1,9 @@
 //! The sets of blocks that are timed. Each follows from its seed alone.
 
-use crate::blocks::{self, Random};
+use crate::blocks::{self, Random, OLDER};
 use crate::calls::Side;
 use crate::cases::Case;
-use crate::second::{self, ALIGNED};
+use crate::second::{self, Form, ALIGNED, DECLARATION, LABELS, OPS, SHAPES};
 
 pub struct Set {
     pub name: &'static str,
@@ -18,6 +18,8 @@ pub fn all() -> Vec<Set> {
     };
     let aligned: Vec<Case> = (0..ALIGNED_BLOCKS).map(aligned).collect();
     let without_bit_4 = aligned.iter().map(without_bit_4).collect();
+    let borders: Vec<Case> = (0..BORDERS).map(bordered).collect();
+    let on_two = borders.iter().map(on_two_variables).collect();
     let set = |name, cases| Set { name, cases };
     vec![
         set("seeded", seeded()),
@@ -27,6 +29,9 @@ pub fn all() -> Vec<Set> {
         set("aligned", aligned),
         set("aligned, bit 4 clear", without_bit_4),
         set("two records", vec![two_records]),
+        set("long", (0..LONG).map(long).collect()),
+        set("borders", borders),
+        set("borders, 2 variables", on_two),
     ]
 }
 
@@ -34,12 +39,14 @@ const SEED: u64 = 1;
 /// Of the seeded set: so many blocks of at least so many ops.
 const SEEDED: usize = 200;
 const LEAST_OPS: usize = 64;
-/// How many blocks the sets "short", "globals", "fields" and "aligned" have.
+/// How many blocks the other sets have.
 const SHORT: u64 = 400;
 const CROWDED: u64 = 100;
 const FIELDS: usize = 200;
 const ALIGNED_BLOCKS: u64 = 200;
-/// The bytes of memory in these, and in "aligned, bit 4 clear".
+const LONG: u64 = 20;
+const BORDERS: u64 = 20;
+/// The bytes of memory in these.
 const MEMORY: usize = 1024;
 
 pub fn ops(block: &[u8]) -> usize {
@@ -54,12 +61,27 @@ pub fn report(case: &Case) -> Option<[u64; 4]> {
     (answer == 0).then_some(report)
 }
 
+/// Whether the block is no larger than older front ends write them.
+fn is_older(block: &[u8]) -> bool {
+    let Ok(read) = second::read(block) else {
+        return false;
+    };
+    let high = |position: usize| {
+        let op = read.op(block, position);
+        let labelled = matches!(op.shape.form, Form::SetLabel | Form::Br | Form::BrCond);
+        labelled && op.label() as usize >= OLDER.labels
+    };
+    let fits = read.variables <= OLDER.variables && read.ops <= OLDER.ops;
+    fits && !(0..read.ops).any(high)
+}
+
 /// The comparison's accepted blocks of older front ends with many ops whose
 /// run takes at least half of them.
 fn seeded() -> Vec<Case> {
     let belongs = |case: &Case| {
         let ops = ops(&case.block);
-        ops >= LEAST_OPS && report(case).is_some_and(|report| 2 * report[3] >= ops as u64)
+        let runs = || report(case).is_some_and(|report| 2 * report[3] >= ops as u64);
+        ops >= LEAST_OPS && is_older(&case.block) && runs()
     };
     let cases = (0..).map(|number| blocks::older(SEED, number));
     cases.filter(belongs).take(SEEDED).collect()
@@ -87,7 +109,9 @@ struct FrontEnd {
     turn: usize,
     /// A local temporary of 64 bits.
     local: u8,
+    /// How many labels are used, and how many may be.
     labels: u8,
+    most_labels: u8,
 }
 
 const NARROW: usize = 0;
@@ -136,6 +160,7 @@ impl FrontEnd {
             turn: 0,
             local: 0,
             labels: 0,
+            most_labels: OLDER.labels as u8,
         }
     }
 
@@ -192,6 +217,20 @@ impl FrontEnd {
         self.temporaries[WIDE] = (0..12).map(|_| self.global(WIDE, 0)).collect();
         self.flags(10);
         self.temporaries[NARROW] = (0..6).map(|_| self.global(NARROW, 0)).collect();
+    }
+
+    /// 80 globals, 20 local temporaries and 100 temporaries; the local
+    /// temporaries. All have 64 bits if there are no narrow ones.
+    fn full_state(&mut self, narrow: bool) -> Vec<u8> {
+        self.pc = self.global(WIDE, 0x1000);
+        let (flags, temporaries) = if narrow { (20, 36) } else { (0, 0) };
+        self.registers(79 - flags);
+        self.flags(flags);
+        let locals = (0..20).map(|_| self.declare(1, WIDE)).collect();
+        for (width, count) in [(WIDE, 100 - temporaries), (NARROW, temporaries)] {
+            self.temporaries[width] = (0..count).map(|_| self.declare(2, width)).collect();
+        }
+        locals
     }
 
     fn op(&mut self, kind: u8, body: &[u8]) {
@@ -467,7 +506,8 @@ impl FrontEnd {
 
     fn instruction(&mut self) {
         // One label is left for the end.
-        let most = if self.labels < 31 { 100 } else { 97 };
+        let more = self.labels + 1 < self.most_labels;
+        let most = if more { 100 } else { 97 };
         match self.random.below(most) {
             0..=29 => self.compute(),
             30..=37 => self.compute_32(),
@@ -543,6 +583,90 @@ fn crowded(number: u64) -> Case {
     }
     front_end.end();
     front_end.case()
+}
+
+/// A block of as many ops and variables as there may be.
+fn long(number: u64) -> Case {
+    let mut front_end = FrontEnd {
+        most_labels: LABELS as u8,
+        ..FrontEnd::new(Random::new(SEED, number))
+    };
+    let locals = front_end.full_state(true);
+    // An instruction has at most 14 ops with its pc, the end 3.
+    while front_end.ops + 17 <= OPS {
+        front_end.local = front_end.random.pick(&locals);
+        if front_end.random.chance(30) {
+            front_end.advance();
+        }
+        front_end.instruction();
+    }
+    while front_end.ops + 3 < OPS {
+        let (d, a) = (front_end.target(), front_end.source());
+        front_end.op(MOV, &[d, a]);
+    }
+    front_end.leave(0x3000);
+    front_end.case()
+}
+
+/// One to three ops on variables that last: some compute in temporaries.
+fn brief(front_end: &mut FrontEnd, lasting: &[u8]) {
+    let random = &mut front_end.random;
+    let (d, a, b) = (
+        random.pick(lasting),
+        random.pick(lasting),
+        random.pick(lasting),
+    );
+    let (sort, kind) = (front_end.random.below(3), front_end.arithmetic());
+    let t = match sort {
+        0 => return front_end.op(kind, &[d, a, b]),
+        1 => front_end.binary(kind, a, b),
+        _ => {
+            let value = front_end.small();
+            let value = front_end.constant(value);
+            front_end.binary(kind, a, value)
+        }
+    };
+    front_end.op(MOV, &[d, t]);
+}
+
+/// A block of some hundred ops on as many variables as there may be, with a
+/// border, a set_label or br, after every few of them.
+fn bordered(number: u64) -> Case {
+    let mut front_end = FrontEnd::new(Random::new(SEED, number));
+    let mut lasting = front_end.full_state(false);
+    lasting.extend(&front_end.registers);
+    for label in 0..LABELS as u8 {
+        for _ in 0..1 + front_end.random.below(2) {
+            brief(&mut front_end, &lasting);
+        }
+        if front_end.random.chance(30) {
+            front_end.op(0x03, &[label]);
+            brief(&mut front_end, &lasting);
+        }
+        front_end.op(0x02, &[label]);
+    }
+    front_end.leave(0x3000);
+    front_end.case()
+}
+
+/// The same ops on two variables, a global for those that last and a temporary
+/// for the others, which shows what the number of variables costs.
+fn on_two_variables(case: &Case) -> Case {
+    let mut same = case.clone();
+    same.globals.truncate(1);
+    same.block = vec![1, 0, 1, 1, 2, 1];
+    for start in blocks::records(&case.block) {
+        let shape = SHAPES[case.block[start] as usize];
+        let (operands, body) = (shape.outputs + shape.inputs, shape.body as usize);
+        let mut record = case.block[start..=start + body].to_vec();
+        for variable in &mut record[1..=operands as usize] {
+            *variable = (case.block[DECLARATION * *variable as usize + 1] == 2) as u8;
+        }
+        if shape.form != Form::Declaration {
+            same.block.extend(record);
+        }
+    }
+    same
 }
 
 /// Blocks of 20 to 40 ops, a third of them bit fields, swaps and counts.

@@ -2,8 +2,14 @@
 
 use crate::cases::Case;
 use crate::second::{
-    size, Form, ALIGNED, IZ, LABELS, MEMORY, OPS, OS, OZ, SHAPES, SIGNED, VARIABLES,
+    one, size, Form, Set, ALIGNED, DECLARATION, IZ, LABELS, MEMORY, OPS, OS, OZ, SHAPES, SIGNED,
+    VARIABLES,
 };
+
+#[path = "borders_made.rs"]
+mod borders_made;
+#[path = "larger.rs"]
+pub mod larger;
 
 /// A small generator of pseudo-random numbers (splitmix64).
 pub struct Random(u64);
@@ -218,21 +224,49 @@ fn bad_flags(random: &mut Random, wide: bool, store: bool) -> u8 {
     }
 }
 
+/// How large blocks are made.
+#[derive(Clone, Copy)]
+pub struct Sizes {
+    pub variables: usize,
+    pub ops: usize,
+    pub labels: usize,
+}
+
+/// Older front ends write smaller blocks than the limits allow.
+pub const OLDER: Sizes = Sizes {
+    variables: 64,
+    ops: 256,
+    labels: 32,
+};
+const NEWER: Sizes = Sizes {
+    variables: VARIABLES,
+    ops: OPS,
+    labels: LABELS,
+};
+
 /// What a block is made for.
 #[derive(Clone, Copy)]
 struct Setting {
     /// The length of the memory lent.
     memory: usize,
     /// Newer front ends read temporaries past a brcond, write the kinds that
-    /// request 03 added and ask for aligned addresses; older ones do not. The
-    /// benchmark times blocks of older ones, so those that are accepted stay as
-    /// they are.
+    /// request 03 added, ask for aligned addresses and go up to the limits of
+    /// request 05; older ones do not. The benchmark times blocks of older ones,
+    /// so those that are accepted stay as they are.
     newer: bool,
 }
 
 impl Setting {
     fn has(self, kind: u8) -> bool {
         self.newer || !is_added(kind)
+    }
+
+    fn sizes(self) -> Sizes {
+        if self.newer {
+            NEWER
+        } else {
+            OLDER
+        }
     }
 }
 
@@ -261,14 +295,18 @@ struct Style {
     exact: bool,
 }
 
-fn style(random: &mut Random) -> Style {
+fn style(random: &mut Random, setting: Setting) -> Style {
     let ops = match random.below(20) {
         0..=9 => 5 + random.below(12),
         10..=15 => 10 + random.below(40),
-        16..=18 => 40 + random.below(OPS - 40),
+        16..=18 => 40 + random.below(OLDER.ops - 40),
+        _ if !setting.newer => OLDER.ops,
+        // Few have more ops, so that the comparison takes no longer.
+        _ if random.chance(85) => 40 + random.below(OLDER.ops - 40),
+        _ if random.chance(70) => OLDER.ops + random.below(OPS - OLDER.ops),
         _ => OPS,
     };
-    let exact = ops == OPS || random.chance(10);
+    let exact = ops == setting.sizes().ops || random.chance(10);
     Style {
         constants: random.pick(&[5, 15, 30, 45]),
         accesses: random.pick(&[0, 5, 20, 50]),
@@ -288,11 +326,13 @@ struct Maker<'a> {
     ops: usize,
     /// Variables written in this extended basic block; for older front ends,
     /// since its last brcond.
-    written: u64,
-    set: u32,
-    jumped: u32,
+    written: Set,
+    set: Set,
+    jumped: Set,
     setting: Setting,
     slip: Slip,
+    /// The kinds that fold may replace, as far as the front end writes them.
+    kinds: Vec<u8>,
 }
 
 /// The most ops that `branch` makes, and the label it owes.
@@ -302,17 +342,19 @@ impl Maker<'_> {
     fn new(random: &mut Random, variables: usize, setting: Setting) -> Maker<'_> {
         let globals = random.below(variables + 1);
         let sure = random.below(variables);
+        let folds = |&k: &u8| SHAPES[k as usize].form == Form::Compute && setting.has(k);
         let mut maker = Maker {
             random,
             bytes: vec![],
             classes: vec![],
             types: vec![],
             ops: 0,
-            written: 0,
-            set: 0,
-            jumped: 0,
+            written: Set::NONE,
+            set: Set::NONE,
+            jumped: Set::NONE,
             setting,
             slip: Slip::Nothing,
+            kinds: (0..=255).filter(folds).collect(),
         };
         for variable in 0..variables {
             let class = if variable < globals {
@@ -358,6 +400,11 @@ impl Maker<'_> {
         }
     }
 
+    /// Whether a read of this variable is allowed here.
+    fn may_read(&self, variable: u8) -> bool {
+        self.classes[variable as usize] != 2 || self.written.has(variable)
+    }
+
     /// A variable that may be read here, often one that was just written.
     fn input(&mut self, wide: bool) -> Option<u8> {
         let mut all = self.of_width(wide);
@@ -365,11 +412,11 @@ impl Maker<'_> {
         if any && self.random.chance(15) && !all.is_empty() {
             return Some(self.random.pick(&all));
         }
-        all.retain(|&v| self.classes[v as usize] != 2 || self.written >> v & 1 != 0);
+        all.retain(|&v| self.may_read(v));
         let fresh: Vec<u8> = all
             .iter()
             .copied()
-            .filter(|&v| self.written >> v & 1 != 0)
+            .filter(|&v| self.written.has(v))
             .collect();
         if !fresh.is_empty() && self.random.chance(75) {
             return Some(self.random.pick(&fresh));
@@ -387,10 +434,10 @@ impl Maker<'_> {
         self.ops += 1;
         let shape = &SHAPES[kind as usize];
         if shape.outputs == 1 {
-            self.written |= 1 << body[0];
+            self.written |= one(body[0]);
         }
         if self.ends(shape.form) {
-            self.written = 0;
+            self.written = Set::NONE;
         }
     }
 
@@ -449,13 +496,10 @@ impl Maker<'_> {
 
     /// An op that fold may replace.
     fn compute(&mut self, risk: usize) -> Option<()> {
-        let kinds: Vec<u8> = (0..=255)
-            .filter(|&k| SHAPES[k as usize].form == Form::Compute && self.setting.has(k))
-            .collect();
         let kind = if self.slip == Slip::Constants && self.random.chance(50) {
             limited(self.random)
         } else {
-            self.random.pick(&kinds)
+            self.random.pick(&self.kinds)
         };
         if is_added(kind) {
             return self.added(kind, risk);
@@ -618,13 +662,13 @@ impl Maker<'_> {
 
     /// A label that is not set; often one already jumped to.
     fn label(&mut self) -> Option<u8> {
-        let unset: Vec<u8> = (0..LABELS as u8)
-            .filter(|&l| self.set >> l & 1 == 0)
+        let unset: Vec<u8> = (0..self.setting.sizes().labels as u8)
+            .filter(|&l| !self.set.has(l))
             .collect();
         let jumped: Vec<u8> = unset
             .iter()
             .copied()
-            .filter(|&l| self.jumped >> l & 1 != 0)
+            .filter(|&l| self.jumped.has(l))
             .collect();
         let from = if jumped.is_empty() || self.random.chance(40) {
             unset
@@ -639,7 +683,7 @@ impl Maker<'_> {
     }
 
     fn set_label(&mut self, label: u8) {
-        self.set |= 1 << label;
+        self.set |= one(label);
         self.op(0x02, &[label]);
     }
 
@@ -655,7 +699,7 @@ impl Maker<'_> {
     }
 
     fn br(&mut self, label: u8) {
-        self.jumped |= 1 << label;
+        self.jumped |= one(label);
         self.op(0x03, &[label]);
     }
 
@@ -664,7 +708,7 @@ impl Maker<'_> {
         let a = self.input(wide)?;
         let b = self.input(wide)?;
         let cond = self.random.below(10) as u8;
-        self.jumped |= 1 << label;
+        self.jumped |= one(label);
         self.op(if wide { 0xAA } else { 0x2A }, &[a, b, cond, label]);
         Some(())
     }
@@ -722,8 +766,7 @@ impl Maker<'_> {
     fn reads(&mut self, some: &[u8], wide: bool) {
         for &a in some {
             let b = self.random.pick(some);
-            let may = |v: u8| self.classes[v as usize] != 2 || self.written >> v & 1 != 0;
-            if !may(a) || !may(b) || self.random.chance(40) {
+            if !self.may_read(a) || !self.may_read(b) || self.random.chance(40) {
                 continue;
             }
             // mov to nor, whose results are all stated.
@@ -745,18 +788,23 @@ impl Maker<'_> {
 
     /// The labels still to set; every exit may need a movi before it.
     fn owed(&self) -> usize {
-        (self.jumped & !self.set).count_ones() as usize + 2
+        (self.jumped & !self.set).count() + 2
+    }
+
+    /// Sets the labels that were jumped to and not set.
+    fn set_owed(&mut self) {
+        for label in 0..LABELS as u8 {
+            if (self.jumped & !self.set).has(label) {
+                self.set_label(label);
+            }
+        }
     }
 
     fn finish(&mut self, style: &Style) {
         while style.exact && self.ops + self.owed() < style.ops {
             self.constant();
         }
-        for label in 0..LABELS as u8 {
-            if (self.jumped & !self.set) >> label & 1 != 0 {
-                self.set_label(label);
-            }
-        }
+        self.set_owed();
         if style.exact {
             // What exit_tb reads, and then as many movis as are left.
             self.known(true, 6);
@@ -779,29 +827,35 @@ impl Maker<'_> {
         }
         // An op may come with two movis, and jump to a new label.
         while self.ops + self.owed() + 4 <= style.ops {
-            let sort = self.random.below(100);
-            if sort < style.jumps && self.branches(style) && self.random.chance(50) {
-                self.branch();
-            } else if sort < style.jumps {
-                self.jump();
-            } else if sort < style.jumps + style.accesses {
-                self.access(style.risk);
-            } else if sort < style.jumps + style.accesses + style.constants {
-                self.constant();
-            } else {
-                self.compute(style.risk);
-            }
+            self.step(style);
         }
         self.finish(style);
     }
+
+    /// An op of some sort, with what it needs.
+    fn step(&mut self, style: &Style) {
+        let sort = self.random.below(100);
+        if sort < style.jumps && self.branches(style) && self.random.chance(50) {
+            self.branch();
+        } else if sort < style.jumps {
+            self.jump();
+        } else if sort < style.jumps + style.accesses {
+            self.access(style.risk);
+        } else if sort < style.jumps + style.accesses + style.constants {
+            self.constant();
+        } else {
+            self.compute(style.risk);
+        }
+    }
 }
 
-fn variables(random: &mut Random) -> usize {
+fn variables(random: &mut Random, setting: Setting) -> usize {
+    let most = setting.sizes().variables;
     match random.below(20) {
         0..=9 => 1 + random.below(6),
         10..=16 => 4 + random.below(13),
-        17 | 18 => 16 + random.below(VARIABLES - 16),
-        _ => VARIABLES,
+        17 | 18 => 16 + random.below(most - 16),
+        _ => most,
     }
 }
 
@@ -815,7 +869,7 @@ fn memory_length(random: &mut Random) -> usize {
 }
 
 fn made(random: &mut Random, setting: Setting, slip: Slip) -> Vec<u8> {
-    let style = style(random);
+    let style = style(random, setting);
     styled(random, style, setting, slip)
 }
 
@@ -826,13 +880,13 @@ fn accesses(random: &mut Random, setting: Setting, slip: Slip) -> Vec<u8> {
         risk: 50,
         ops: 10 + random.below(30),
         exact: false,
-        ..style(random)
+        ..style(random, setting)
     };
     styled(random, style, setting, slip)
 }
 
 fn styled(random: &mut Random, style: Style, setting: Setting, slip: Slip) -> Vec<u8> {
-    let variables = variables(random);
+    let variables = variables(random, setting);
     let mut maker = Maker {
         slip,
         ..Maker::new(random, variables, setting)
@@ -871,31 +925,33 @@ fn jump(random: &mut Random, length: usize, setting: Setting) -> Vec<u8> {
         ..Maker::new(random, 1, setting)
     };
     maker.bytes = vec![1, 0, 1, 1, 1, 0];
-    maker.op(0x03, &[31]);
+    let label = (setting.sizes().labels - 1) as u8;
+    maker.op(0x03, &[label]);
     while maker.ops < length {
         maker.constant();
     }
-    maker.set_label(31);
+    maker.set_label(label);
     maker.exit();
     maker.bytes
 }
 
 /// As many folded copies as fit, so the result is longer than the block.
 fn growth(random: &mut Random, setting: Setting) -> Vec<u8> {
-    let copies = 1 + random.below(63) as u8;
+    let Sizes { variables, ops, .. } = setting.sizes();
+    let copies = 1 + random.below(variables - 1) as u8;
     let mut maker = Maker {
-        classes: vec![0; 64],
-        types: vec![1; 64],
+        classes: vec![0; variables],
+        types: vec![1; variables],
         ..Maker::new(random, 1, setting)
     };
-    maker.bytes = [1, 0, 1].repeat(64);
-    while maker.ops + copies as usize + 3 <= OPS {
+    maker.bytes = [1, 0, 1].repeat(variables);
+    while maker.ops + copies as usize + 3 <= ops {
         let value = corner(maker.random, true);
         maker.movi(0, value);
         for copy in 1..=copies {
             maker.op(0x91, &[copy, copy - 1]);
         }
-        maker.op(0xAC, &[1, 63, 0x0B]);
+        maker.op(0xAC, &[1, (variables - 1) as u8, 0x0B]);
     }
     maker.exit();
     maker.bytes
@@ -956,20 +1012,28 @@ fn broken(random: &mut Random, setting: Setting) -> Vec<u8> {
     block
 }
 
-/// Blocks that reach a limit or break it by one.
-fn limit(random: &mut Random, number: usize, setting: Setting) -> Vec<u8> {
+/// A block of as many variables and ops as its front end writes.
+fn full(random: &mut Random, setting: Setting) -> Vec<u8> {
+    let Sizes { variables, ops, .. } = setting.sizes();
     let full = Style {
         constants: 20,
         accesses: 10,
         jumps: 5,
         risk: 1,
-        ops: OPS,
+        ops,
         exact: true,
     };
-    let mut maker = Maker::new(random, VARIABLES, setting);
+    let mut maker = Maker::new(random, variables, setting);
     maker.body(&full);
-    let mut block = maker.bytes;
-    let first = 3 * VARIABLES;
+    maker.bytes
+}
+
+/// Blocks that reach the size of older front ends or pass it by one; `larger`
+/// has those at the limits.
+fn limit(random: &mut Random, number: usize, setting: Setting) -> Vec<u8> {
+    let mut block = full(random, setting);
+    let Sizes { variables, ops, .. } = setting.sizes();
+    let first = DECLARATION * variables;
     match number % 7 {
         0 => block,
         1 => {
@@ -978,7 +1042,7 @@ fn limit(random: &mut Random, number: usize, setting: Setting) -> Vec<u8> {
         }
         2 => {
             let starts = records(&block);
-            let start = starts[VARIABLES + random.below(OPS)];
+            let start = starts[variables + random.below(ops)];
             let twice = record(&block, start);
             block.splice(start..start, twice);
             block
@@ -1002,12 +1066,13 @@ fn jump_gone_wrong(random: &mut Random, setting: Setting) -> Vec<u8> {
     let ops: Vec<usize> = starts.into_iter().filter(|&s| block[s] != 1).collect();
     let start = random.pick(&ops);
     let kind = random.pick(&[2, 3]);
+    let labels = setting.sizes().labels;
     let label = if random.chance(50) {
-        31
+        labels - 1
     } else {
-        random.below(LABELS) as u8
+        random.below(labels)
     };
-    block.splice(start..start, [kind, label]);
+    block.splice(start..start, [kind, label as u8]);
     block
 }
 
@@ -1150,37 +1215,42 @@ pub fn older(seed: u64, number: u64) -> Case {
 }
 
 fn made_case(mut random: Random, number: u64, newer: bool) -> Case {
-    let hundreds = (number / 100) as usize;
     let length = memory_length(&mut random);
     let setting = Setting {
         memory: length,
         newer,
     };
-    let block = match number % 100 {
-        0 if hundreds.is_multiple_of(10) => vec![],
-        0 if hundreds % 10 == 1 => long(&mut random, setting),
-        0..=2 => jump(
-            &mut random,
-            1 + (hundreds * 2 + (number % 2) as usize) % (OPS - 2),
-            setting,
-        ),
-        3..=8 => limit(&mut random, hundreds * 6 + (number % 100) as usize, setting),
-        9..=13 => broken(&mut random, setting),
-        14..=16 => made(&mut random, setting, Slip::Lifetimes),
-        17..=19 if newer => made(&mut random, setting, Slip::Lifetimes),
-        20..=25 if newer => made(&mut random, setting, Slip::Constants),
-        37..=42 if newer => accesses(&mut random, setting, Slip::Flags),
-        43..=46 if newer => accesses(&mut random, setting, Slip::Nothing),
-        17..=28 => damaged(&mut random, setting),
-        29..=36 => soup(&mut random, setting),
-        _ => accepted(&mut random, setting),
-    };
+    let block = block(&mut random, number, setting);
     let globals = lent(&mut random, &block, setting);
     let memory = (0..length).map(|_| random.next() as u8).collect();
     Case {
         block,
         globals,
         memory,
+    }
+}
+
+/// A block of the sort that follows from the number.
+fn block(random: &mut Random, number: u64, setting: Setting) -> Vec<u8> {
+    let (hundreds, rest) = ((number / 100) as usize, (number % 100) as usize);
+    let newer = setting.newer;
+    let over = 1 + (hundreds * 2 + rest % 2) % (setting.sizes().ops - 2);
+    match rest {
+        0 if hundreds.is_multiple_of(10) => vec![],
+        0 if hundreds % 10 == 1 => long(random, setting),
+        0 | 47..=51 if newer => borders_made::block(random, setting),
+        0..=2 => jump(random, over, setting),
+        3..=8 if newer => larger::block(random, hundreds * 6 + rest - 3, setting),
+        3..=8 => limit(random, hundreds * 6 + rest, setting),
+        9..=13 => broken(random, setting),
+        14..=16 => made(random, setting, Slip::Lifetimes),
+        17..=19 if newer => made(random, setting, Slip::Lifetimes),
+        20..=25 if newer => made(random, setting, Slip::Constants),
+        37..=42 if newer => accesses(random, setting, Slip::Flags),
+        43..=46 if newer => accesses(random, setting, Slip::Nothing),
+        17..=28 => damaged(random, setting),
+        29..=36 => soup(random, setting),
+        _ => accepted(random, setting),
     }
 }
 

@@ -3,9 +3,11 @@
 
 use crate::calls::Side;
 use crate::demand;
+pub use crate::second::RESULT;
+use crate::second::{DECLARATION, MOVI};
 
-/// The longest result: 64 declarations and 256 ops.
-pub const RESULT: usize = 2_752;
+/// A buffer has at most so many bytes more than the longest result.
+const MORE: usize = 62;
 /// What the report holds before a run.
 const REPORT: [u64; 4] = [0xA5A5_A5A5_A5A5_A5A5, 1, u64::MAX, 0x5A];
 
@@ -63,18 +65,27 @@ pub fn ran(side: Side, block: &[u8], globals: &[u64], memory: &[u8]) -> Ran {
     ran
 }
 
-/// A buffer's bytes before the pass: no two neighbours alike.
-fn pattern(length: usize) -> Vec<u8> {
-    (0..length)
-        .map(|i| (i * 7 + i / 256 * 3 + 0x5B) as u8)
-        .collect()
+/// The header's `ngulo_result_bound`: the result of this block is no longer.
+pub fn bound(block: &[u8]) -> usize {
+    RESULT.min(MOVI * block.len() / DECLARATION)
 }
+
+/// A buffer's bytes before the pass: no two neighbours alike.
+static PATTERN: [u8; RESULT + MORE] = {
+    let mut bytes = [0; RESULT + MORE];
+    let mut i = 0;
+    while i < bytes.len() {
+        bytes[i] = (i * 7 + i / 256 * 3 + 0x5B) as u8;
+        i += 1;
+    }
+    bytes
+};
 
 /// Passes the block into a patterned buffer of this length.
 pub fn passed(side: Side, block: &[u8], length: usize) -> Passed {
     let mut passed = Passed {
         answer: 0,
-        out: pattern(length),
+        out: PATTERN[..length].to_vec(),
     };
     passed.answer = side.pass(block, &mut passed.out);
     passed
@@ -122,12 +133,12 @@ pub fn run_differs(case: &Case) -> Option<Difference> {
 
 /// The pass into buffers of exact, more, one byte less and no room.
 fn pass_differs(block: &[u8]) -> Option<Difference> {
-    let whole = passed(Side::Second, block, RESULT)
+    let whole = passed(Side::Second, block, bound(block))
         .result()
         .map_or(64, <[u8]>::len);
     let rooms = [
         whole,
-        whole + 1 + block.len() % 61,
+        whole + 1 + block.len() % (MORE - 1),
         whole.saturating_sub(1),
         0,
         RESULT,
@@ -142,7 +153,7 @@ fn pass_into(block: &[u8], room: usize) -> Option<Difference> {
         Some(result) => result.len(),
         None => 0,
     };
-    if library == second && library.out[untouched..] == pattern(room)[untouched..] {
+    if library == second && library.out[untouched..] == PATTERN[untouched..room] {
         return None;
     }
     let call = format!("pass into {room} bytes");

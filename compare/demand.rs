@@ -3,7 +3,7 @@
 //! readings.
 
 use crate::calls::Side;
-use crate::cases::{answer, hex, passed, ran, Case, Difference, Ran, RESULT};
+use crate::cases::{answer, bound, hex, passed, ran, Case, Difference, Ran, RESULT};
 use crate::second;
 
 /// The first property that the library's answers break on this case.
@@ -14,7 +14,7 @@ pub fn broken(case: &Case) -> Option<Difference> {
     let source = passed(Side::Library, &case.block, RESULT);
     let Some(result) = source.result() else {
         return told(
-            "a buffer of 2,752 bytes has room",
+            "a buffer as long as the bound has room",
             "a result",
             answer(source.answer),
         );
@@ -39,7 +39,7 @@ fn told(property: &str, expected: &str, found: String) -> Option<Difference> {
 
 /// At most the header's `ngulo_result_bound`.
 fn longer(block: &[u8], result: &[u8]) -> Option<Difference> {
-    let bound = RESULT.min(10 * block.len() / 3);
+    let bound = bound(block);
     if result.len() <= bound {
         return None;
     }

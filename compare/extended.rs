@@ -2,7 +2,7 @@
 //! that were compared.
 
 use crate::blocks::records;
-use crate::second::{set, Block, Form, Op, Plan, LABELS};
+use crate::second::{one, set, Block, Form, Op, Plan, Set, LABELS};
 
 /// The name of the group.
 pub const GROUP: &str = "extended basic blocks";
@@ -45,13 +45,13 @@ pub fn note(counts: &mut Counts, block: &Block, bytes: &[u8], plan: &Plan) {
 /// block; a folded op knows all that it reads.
 fn reads(counts: &mut Counts, block: &Block, bytes: &[u8], plan: &Plan) {
     let classes = [block.globals, block.locals, block.temporaries];
-    let (mut written, mut before) = (0, 0);
+    let (mut written, mut before) = (Set::NONE, Set::NONE);
     for position in 0..block.ops {
         let op = block.op(bytes, position);
         let read = before & set(op.inputs());
-        counts[READ] += (read & block.temporaries != 0) as u64;
+        counts[READ] += !(read & block.temporaries).is_empty() as u64;
         for (class, variables) in classes.into_iter().enumerate() {
-            let folded = plan.folded[position].is_some() && read & variables != 0;
+            let folded = plan.folded[position].is_some() && !(read & variables).is_empty();
             counts[FOLDED + class] += folded as u64;
         }
         before &= !set(op.outputs());
@@ -59,7 +59,7 @@ fn reads(counts: &mut Counts, block: &Block, bytes: &[u8], plan: &Plan) {
         if op.shape.form == Form::BrCond {
             before = written;
         } else if op.parts_extended_blocks() {
-            (written, before) = (0, 0);
+            (written, before) = (Set::NONE, Set::NONE);
         }
     }
 }
@@ -67,21 +67,23 @@ fn reads(counts: &mut Counts, block: &Block, bytes: &[u8], plan: &Plan) {
 /// Ops that would be folded if values known at a brcond and at its label were
 /// known after the label.
 fn labels(counts: &mut Counts, block: &Block, bytes: &[u8], plan: &Plan) {
-    let mut at_branch = [0; LABELS];
-    let (mut known, mut past) = (0, 0);
+    let mut at_branch = [Set::NONE; LABELS];
+    let (mut known, mut past) = (Set::NONE, Set::NONE);
     for position in 0..block.ops {
         let op = block.op(bytes, position);
         let folded = plan.folded[position].is_some();
         let (inputs, output) = (set(op.inputs()), set(op.outputs()));
         let computes = op.shape.form == Form::Compute && !folded;
-        let would = inputs & past != 0 && inputs & !(known | past) == 0;
+        let would = !(inputs & past).is_empty() && (inputs & !(known | past)).is_empty();
         counts[NOT_FOLDED] += (computes && would) as u64;
         known &= !output;
         past &= !output;
         match op.shape.form {
-            Form::BrCond => at_branch[op.label()] |= known,
-            Form::SetLabel => (known, past) = (0, known & at_branch[op.label()]),
-            Form::Br | Form::ExitTb => (known, past) = (0, 0),
+            Form::BrCond => at_branch[op.label() as usize] |= known,
+            Form::SetLabel => {
+                (known, past) = (Set::NONE, known & at_branch[op.label() as usize]);
+            }
+            Form::Br | Form::ExitTb => (known, past) = (Set::NONE, Set::NONE),
             Form::Movi => known |= output,
             _ if folded => known |= output,
             _ => {}
@@ -92,11 +94,11 @@ fn labels(counts: &mut Counts, block: &Block, bytes: &[u8], plan: &Plan) {
 /// Writes of a temporary that no kept op names up to the next brcond of the
 /// same extended basic block.
 fn writes(counts: &mut Counts, block: &Block, bytes: &[u8], plan: &Plan) {
-    let mut unnamed = 0;
+    let mut unnamed = Set::NONE;
     for position in (0..block.ops).rev() {
         let op = block.op(bytes, position);
         let temporary = set(op.outputs()) & block.temporaries;
-        let concerns = (op.is_pure() && temporary & unnamed != 0) as u64;
+        let concerns = (op.is_pure() && !(temporary & unnamed).is_empty()) as u64;
         if !plan.kept[position] {
             counts[DROPPED] += concerns;
             continue;
@@ -105,10 +107,10 @@ fn writes(counts: &mut Counts, block: &Block, bytes: &[u8], plan: &Plan) {
         if op.shape.form == Form::BrCond {
             unnamed = block.temporaries;
         } else if op.parts_extended_blocks() {
-            unnamed = 0;
+            unnamed = Set::NONE;
         }
         let folded = plan.folded[position].is_some();
-        let inputs = if folded { 0 } else { set(op.inputs()) };
+        let inputs = if folded { Set::NONE } else { set(op.inputs()) };
         unnamed &= !(inputs | set(op.outputs()));
     }
 }
@@ -116,31 +118,33 @@ fn writes(counts: &mut Counts, block: &Block, bytes: &[u8], plan: &Plan) {
 /// Counts what alone ended the extended basic block in which a temporary was
 /// written that refusal 8 is about.
 pub fn refused(counts: &mut Counts, bytes: &[u8], place: usize) {
-    let (mut declared, mut temporaries) = (0, 0);
-    let (mut written, mut jumped) = (0, 0u32);
+    let (mut declared, mut temporaries) = (0, Set::NONE);
+    let (mut written, mut jumped) = (Set::NONE, Set::NONE);
     // What was written in the extended basic block before, by its end.
-    let mut lost = [0; 3];
+    let mut lost = [Set::NONE; 3];
     for start in records(&bytes[..place]) {
         let op = Op::at(bytes, start);
         match op.shape.form {
             Form::Declaration => {
-                temporaries |= ((op.body[0] == 2) as u64) << declared;
+                if op.body[0] == 2 {
+                    temporaries |= one(declared);
+                }
                 declared += 1;
             }
-            Form::BrCond => jumped |= 1 << op.label(),
-            Form::SetLabel if jumped >> op.label() & 1 == 0 => lost = [0; 3],
-            Form::SetLabel => lost = [written, 0, 0],
-            Form::Br => lost = [0, written, 0],
-            Form::ExitTb => lost = [0, 0, written],
+            Form::BrCond => jumped |= one(op.label()),
+            Form::SetLabel if !jumped.has(op.label()) => lost = [Set::NONE; 3],
+            Form::SetLabel => lost = [written, Set::NONE, Set::NONE],
+            Form::Br => lost = [Set::NONE, written, Set::NONE],
+            Form::ExitTb => lost = [Set::NONE, Set::NONE, written],
             _ => {}
         }
         written |= set(op.outputs());
         if op.parts_extended_blocks() {
-            written = 0;
+            written = Set::NONE;
         }
     }
     let read = set(Op::at(bytes, place).inputs()) & temporaries & !written;
     for (count, variables) in counts[LOST..].iter_mut().zip(lost) {
-        *count += (read & variables != 0) as u64;
+        *count += !(read & variables).is_empty() as u64;
     }
 }

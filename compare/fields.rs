@@ -1,6 +1,6 @@
 //! What bit fields, swaps and counts came to in the blocks that were compared.
 
-use crate::second::{result, set, Block, Form, Op, Plan, Refusal, IZ, OS, OZ, VARIABLES};
+use crate::second::{result, set, Block, Form, Op, Plan, Refusal, Set, IZ, OS, OZ, VARIABLES};
 use std::collections::BTreeMap;
 
 /// The name of the group.
@@ -164,7 +164,7 @@ impl Counts {
 
     /// What fold does in an accepted block.
     pub fn note(&mut self, block: &Block, bytes: &[u8], plan: &Plan) {
-        let mut known = 0;
+        let mut known = Set::NONE;
         let mut values = [0; VARIABLES];
         for position in 0..block.ops {
             let op = block.op(bytes, position);
@@ -179,14 +179,14 @@ impl Counts {
                 values[op.body[0] as usize] = value;
             }
             if op.parts_extended_blocks() {
-                known = 0;
+                known = Set::NONE;
             }
         }
     }
 
     /// An op that fold meets with these values known.
-    fn note_op(&mut self, op: &Op, folded: bool, known: u64, values: &[u64; VARIABLES]) {
-        let knows = |i: usize| op.inputs().get(i).is_some_and(|&v| known >> v & 1 != 0);
+    fn note_op(&mut self, op: &Op, folded: bool, known: Set, values: &[u64; VARIABLES]) {
+        let knows = |i: usize| op.inputs().get(i).is_some_and(|&v| known.has(v));
         let (t1, t2) = (knows(0), knows(1));
         let zero = t1 && values[op.inputs()[0] as usize] == 0;
         let iz = PARTS.contains(&op.kind) && op.constants()[0] & IZ != 0;

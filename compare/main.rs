@@ -3,19 +3,22 @@
 
 mod aligned;
 mod blocks;
+mod borders;
 mod calls;
 mod cases;
 mod demand;
 mod extended;
 mod fields;
+mod limits;
 mod paper;
 mod second;
 mod shrink;
 mod stats;
 mod worked;
 mod worked_aligned;
+mod worked_limits;
 
-use cases::{difference, hex, run_differs, Case};
+use cases::{difference, hex, run_differs, Case, RESULT};
 use stats::Stats;
 use std::process::ExitCode;
 
@@ -28,6 +31,8 @@ Compares the proved library with the second interpreter on generated blocks.
 usage: compare [options]
   --blocks N          compare on N blocks (default 140000)
   --seed S            start the generator from S (default 1)
+  --as-found          tell the first difference as it is, not made smaller,
+                      and keep no statistics
   --write-corpus DIR  write the first 2000 cases as fuzz inputs into DIR
   --help              print this text
 
@@ -38,6 +43,7 @@ struct Options {
     blocks: u64,
     seed: u64,
     corpus: Option<String>,
+    as_found: bool,
     help: bool,
 }
 
@@ -46,12 +52,17 @@ fn options(arguments: &[String]) -> Result<Options, String> {
         blocks: BLOCKS,
         seed: 1,
         corpus: None,
+        as_found: false,
         help: false,
     };
     let mut rest = arguments.iter();
     while let Some(name) = rest.next() {
         if name == "--help" {
             options.help = true;
+            continue;
+        }
+        if name == "--as-found" {
+            options.as_found = true;
             continue;
         }
         if !["--blocks", "--seed", "--write-corpus"].contains(&name.as_str()) {
@@ -99,39 +110,49 @@ fn compare(options: &Options) -> ExitCode {
         let case = blocks::case(options.seed, number);
         let other = blocks::other(options.seed, number, &case);
         if difference(&case).is_some() {
-            return tell(case, number);
+            return tell(case, number, options.as_found);
         }
         if run_differs(&other).is_some() {
-            return tell(other, number);
+            return tell(other, number, options.as_found);
         }
-        stats.note(&case);
-        stats.note_run(&other);
+        if !options.as_found {
+            stats.note(&case);
+            stats.note_run(&other);
+        }
     }
     if let Some(what) = paper::failed() {
         println!("difference: the paper's cases: {what}");
         return ExitCode::FAILURE;
     }
-    println!(
-        "{} of {} blocks accepted",
-        stats.accepted_blocks, options.blocks
-    );
-    let missing = stats.report();
-    if options.blocks >= BLOCKS && !missing.is_empty() {
-        println!("compare: too seldom: {}", missing.join("; "));
+    if !options.as_found && seldom(&stats, options.blocks) {
         return ExitCode::FAILURE;
     }
     println!("compare: {} blocks, no difference", options.blocks);
     ExitCode::SUCCESS
 }
 
-/// Prints the smallest case found on which something differs.
-fn tell(case: Case, number: u64) -> ExitCode {
-    let smallest = shrink::smallest(case, &|case| difference(case).is_some());
+/// Prints the statistics; whether something occurred too seldom, where there
+/// are enough blocks.
+fn seldom(stats: &Stats, blocks: u64) -> bool {
+    println!("{} of {} blocks accepted", stats.accepted_blocks, blocks);
+    let missing = stats.report();
+    let seldom = blocks >= BLOCKS && !missing.is_empty();
+    if seldom {
+        println!("compare: too seldom: {}", missing.join("; "));
+    }
+    seldom
+}
+
+/// Prints the case, or the smallest found, on which something differs.
+fn tell(case: Case, number: u64, as_found: bool) -> ExitCode {
+    let (smallest, how) = if as_found {
+        (case, "as found")
+    } else {
+        let differs = |case: &Case| difference(case).is_some();
+        (shrink::smallest(case, &differs), "made smaller")
+    };
     if let Some(found) = difference(&smallest) {
-        println!(
-            "difference: {} (from block {number}, made smaller)",
-            found.call
-        );
+        println!("difference: {} (from block {number}, {how})", found.call);
         println!("  block:   {}", hex(&smallest.block));
         println!("  globals: {:x?}", smallest.globals);
         println!("  memory:  {}", hex(&smallest.memory));
@@ -154,7 +175,7 @@ fn input(case: &Case) -> Vec<u8> {
 fn write_corpus(directory: &str, seed: u64) -> ExitCode {
     for number in 0..2000 {
         let case = blocks::case(seed, number);
-        if case.memory.len() > 253 || case.block.len() > 3000 {
+        if case.memory.len() > 253 || case.block.len() > RESULT {
             continue;
         }
         let path = format!("{directory}/case-{number}");

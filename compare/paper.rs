@@ -1,10 +1,10 @@
 //! The paper's own cases and some of request 02, worked out by hand, asked of
 //! the library and of the second interpreter; `worked` has those of request 03,
-//! `worked_aligned` those of request 04.
+//! `worked_aligned` those of request 04, `worked_limits` those of request 05.
 
 use crate::calls::Side;
 use crate::cases::{hex, passed, ran, Ran, RESULT};
-use crate::{worked, worked_aligned};
+use crate::{worked, worked_aligned, worked_limits};
 
 /// Kind, both inputs, cond if any, and the result if stated.
 type Stated = (u8, u64, u64, &'static [u8], Option<u64>);
@@ -132,6 +132,7 @@ pub fn failed() -> Option<String> {
             branches(side),
             worked::failed(side),
             worked_aligned::failed(side),
+            worked_limits::failed(side),
         ];
         if let Some(what) = sets.into_iter().flatten().next() {
             return Some(format!("{what}, by {name}"));
@@ -206,14 +207,14 @@ fn loads(side: Side) -> Option<String> {
     })
 }
 
-/// Case 11.
+/// Case 11, with the limits of request 05.
 fn limits(side: Side) -> Option<String> {
     let variables = |n: usize| [[1, 0, 1].repeat(n), vec![4, 0]].concat();
     let ops = |n: usize| [vec![1, 0, 1], [4, 0].repeat(n)].concat();
-    let holds = side.check(&variables(64)) == 0
-        && side.check(&variables(65)) == 3 + 256 * 192
-        && side.check(&ops(256)) == 0
-        && side.check(&ops(257)) == 9 + 256 * 515;
+    let holds = side.check(&variables(200)) == 0
+        && side.check(&variables(201)) == 3 + 256 * 600
+        && side.check(&ops(1024)) == 0
+        && side.check(&ops(1025)) == 9 + 256 * 2051;
     unless(holds, "case 11".into())
 }
 

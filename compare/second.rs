@@ -1,23 +1,86 @@
 //! A second interpreter of blocks, written from the papers alone: its own
 //! table, check, run, fold and prune. The comparison sets its answers beside
 //! those of the proved library.
-//!
-//! A set of variables is one `u64`, a bit for each of the 64 variables.
 
-use std::ops::Range;
+use std::ops::{BitAnd, BitAndAssign, BitOr, BitOrAssign, Not, Range};
 
-/// At most 64 variables.
-pub const VARIABLES: usize = 64;
-/// At most 256 ops.
-pub const OPS: usize = 256;
-/// Labels 0 to 31.
-pub const LABELS: usize = 32;
+/// At most so many variables.
+pub const VARIABLES: usize = 200;
+/// At most so many ops.
+pub const OPS: usize = 1024;
+/// Labels from 0 to below this.
+pub const LABELS: usize = 128;
 /// A run takes at most 65,536 bytes of memory.
 pub const MEMORY: usize = 65_536;
-/// The bytes of a movi: its kind, its output, eight bytes of value.
-const MOVI: usize = 10;
+/// The bytes of a movi, the longest op: its kind, its output, eight bytes of
+/// value.
+pub const MOVI: usize = 10;
 /// The bytes of a declaration: its kind, class and type.
-const DECLARATION: usize = 3;
+pub const DECLARATION: usize = 3;
+/// A result has at most so many bytes, and so has an accepted block.
+pub const RESULT: usize = DECLARATION * VARIABLES + MOVI * OPS;
+
+/// A set of variables or of labels: a bit for each number that a byte holds.
+#[derive(Clone, Copy, Debug, PartialEq, Eq)]
+pub struct Set([u64; 4]);
+
+impl Set {
+    pub const NONE: Set = Set([0; 4]);
+
+    pub fn is_empty(self) -> bool {
+        self == Set::NONE
+    }
+
+    pub fn has(self, number: u8) -> bool {
+        self.0[number as usize / 64] >> (number % 64) & 1 != 0
+    }
+
+    /// How many it has.
+    pub fn count(self) -> usize {
+        self.0.iter().map(|word| word.count_ones() as usize).sum()
+    }
+
+    fn with(self, other: Set, join: impl Fn(u64, u64) -> u64) -> Set {
+        let mut all = self;
+        for (word, more) in all.0.iter_mut().zip(other.0) {
+            *word = join(*word, more);
+        }
+        all
+    }
+}
+
+impl BitAnd for Set {
+    type Output = Set;
+    fn bitand(self, other: Set) -> Set {
+        self.with(other, |a, b| a & b)
+    }
+}
+
+impl BitOr for Set {
+    type Output = Set;
+    fn bitor(self, other: Set) -> Set {
+        self.with(other, |a, b| a | b)
+    }
+}
+
+impl Not for Set {
+    type Output = Set;
+    fn not(self) -> Set {
+        Set(self.0.map(|word| !word))
+    }
+}
+
+impl BitAndAssign for Set {
+    fn bitand_assign(&mut self, other: Set) {
+        *self = *self & other;
+    }
+}
+
+impl BitOrAssign for Set {
+    fn bitor_assign(&mut self, other: Set) {
+        *self = *self | other;
+    }
+}
 
 /// A refusal carries only its number and place.
 #[derive(Clone, Copy, Debug, PartialEq, Eq)]
@@ -156,20 +219,22 @@ pub static SHAPES: [Shape; 256] = {
     table
 };
 
-/// The set of one variable.
-fn one(variable: u8) -> u64 {
-    1 << variable
+/// The set of one variable or label.
+pub fn one(number: u8) -> Set {
+    let bit = 1 << (number % 64);
+    Set([0, 1, 2, 3].map(|word| if number / 64 == word { bit } else { 0 }))
 }
 
 /// The set of some operands.
-pub fn set(operands: &[u8]) -> u64 {
-    operands
-        .iter()
-        .fold(0, |all, &variable| all | one(variable))
+pub fn set(operands: &[u8]) -> Set {
+    let join = |all, &variable: &u8| all | one(variable);
+    operands.iter().fold(Set::NONE, join)
 }
 
 /// An op where it stands in the block.
 pub struct Op<'a> {
+    /// Where it starts.
+    pub place: usize,
     pub kind: u8,
     pub shape: &'static Shape,
     pub body: &'a [u8],
@@ -180,6 +245,7 @@ impl<'a> Op<'a> {
         let kind = bytes[place];
         let shape = &SHAPES[kind as usize];
         Op {
+            place,
             kind,
             shape,
             body: &bytes[place + 1..place + 1 + shape.body as usize],
@@ -216,8 +282,8 @@ impl<'a> Op<'a> {
     }
 
     /// The label of a set_label, br or brcond.
-    pub fn label(&self) -> usize {
-        self.body[self.body.len() - 1] as usize
+    pub fn label(&self) -> u8 {
+        self.body[self.body.len() - 1]
     }
 
     fn has_64_bits(&self) -> bool {
@@ -274,13 +340,13 @@ impl<'a> Op<'a> {
 pub struct Block {
     pub variables: usize,
     /// The variables of 64 bits, and those of each class.
-    wide: u64,
-    pub globals: u64,
-    pub locals: u64,
-    pub temporaries: u64,
+    wide: Set,
+    pub globals: Set,
+    pub locals: Set,
+    pub temporaries: Set,
     pub ops: usize,
-    /// Where each op starts; 64 declarations and 256 ops fit in 2,752 bytes.
-    starts: [u16; OPS],
+    /// Where each op starts, below `RESULT`.
+    starts: Vec<u16>,
     /// The position of each label's set_label.
     labels: [u16; LABELS],
 }
@@ -291,43 +357,43 @@ impl Block {
     }
 
     /// The position of the set_label that a jump goes to.
-    fn target(&self, jump: &Op) -> usize {
-        self.labels[jump.label()] as usize
+    pub fn target(&self, jump: &Op) -> usize {
+        self.labels[jump.label() as usize] as usize
     }
 
     /// The number of declared globals.
     pub fn lent(&self) -> usize {
-        self.globals.count_ones() as usize
+        self.globals.count()
     }
 }
 
 /// The check's memory between records.
 struct Reader {
     block: Block,
-    /// Labels set and labels jumped to, a bit for each.
-    set: u32,
-    jumped: u32,
+    /// Labels set and labels jumped to.
+    set: Set,
+    jumped: Set,
     /// Variables written in this extended basic block.
-    written: u64,
+    written: Set,
 }
 
 impl Reader {
     fn new() -> Reader {
         let block = Block {
             variables: 0,
-            wide: 0,
-            globals: 0,
-            locals: 0,
-            temporaries: 0,
+            wide: Set::NONE,
+            globals: Set::NONE,
+            locals: Set::NONE,
+            temporaries: Set::NONE,
             ops: 0,
-            starts: [0; OPS],
+            starts: vec![],
             labels: [0; LABELS],
         };
         Reader {
             block,
-            set: 0,
-            jumped: 0,
-            written: 0,
+            set: Set::NONE,
+            jumped: Set::NONE,
+            written: Set::NONE,
         }
     }
 
@@ -351,7 +417,7 @@ impl Reader {
         constants(&op)?;
         self.labels(&op)?;
         self.lifetimes(&op)?;
-        self.block.starts[self.block.ops] = place as u16;
+        self.block.starts.push(place as u16);
         self.block.ops += 1;
         Ok(())
     }
@@ -362,7 +428,7 @@ impl Reader {
         if block.ops > 0 || class > 2 || width > 1 || block.variables == VARIABLES {
             return Err(3);
         }
-        if class == 0 && block.locals | block.temporaries != 0 {
+        if class == 0 && !(block.locals | block.temporaries).is_empty() {
             return Err(3);
         }
         let variable = one(block.variables as u8);
@@ -388,7 +454,7 @@ impl Reader {
             return Err(4);
         }
         for (i, &variable) in operands.iter().enumerate() {
-            if (op.shape.wide >> i & 1 != 0) != (self.block.wide & one(variable) != 0) {
+            if (op.shape.wide >> i & 1 != 0) != self.block.wide.has(variable) {
                 return Err(5);
             }
         }
@@ -401,14 +467,14 @@ impl Reader {
             return Ok(());
         }
         let label = op.label();
-        if self.set >> label & 1 != 0 {
+        if self.set.has(label) {
             return Err(7);
         }
         if op.shape.form == Form::SetLabel {
-            self.set |= 1 << label;
-            self.block.labels[label] = self.block.ops as u16;
+            self.set |= one(label);
+            self.block.labels[label as usize] = self.block.ops as u16;
         } else {
-            self.jumped |= 1 << label;
+            self.jumped |= one(label);
         }
         Ok(())
     }
@@ -416,12 +482,13 @@ impl Reader {
     /// 8, temporary read before a write in its extended basic block; reads
     /// come first.
     fn lifetimes(&mut self, op: &Op) -> Result<(), u8> {
-        if set(op.inputs()) & self.block.temporaries & !self.written != 0 {
+        let missing = set(op.inputs()) & self.block.temporaries & !self.written;
+        if !missing.is_empty() {
             return Err(8);
         }
         self.written |= set(op.outputs());
         if op.parts_extended_blocks() {
-            self.written = 0;
+            self.written = Set::NONE;
         }
         Ok(())
     }
@@ -433,20 +500,20 @@ impl Reader {
         if ops == 0 || self.block.op(bytes, ops - 1).shape.form != Form::ExitTb {
             return Err(Refusal { number: 10, place });
         }
-        if self.jumped & !self.set != 0 {
+        if !(self.jumped & !self.set).is_empty() {
             return Err(Refusal { number: 7, place });
         }
         Ok(self.block)
     }
 }
 
-/// 6, cond above 9, bad flags, label above 31, 32-bit movi of 2^32 or more,
-/// bad field or position.
+/// 6, cond above 9, bad flags, no such label, 32-bit movi of 2^32 or more, bad
+/// field or position.
 fn constants(op: &Op) -> Result<(), u8> {
     let constants = op.constants();
     let good = match op.shape.form {
-        Form::SetLabel | Form::Br => op.label() < LABELS,
-        Form::BrCond => constants[0] <= 9 && op.label() < LABELS,
+        Form::SetLabel | Form::Br => label_fits(op),
+        Form::BrCond => constants[0] <= 9 && label_fits(op),
         Form::Movi => op.has_64_bits() || op.value() <= u32::MAX as u64,
         Form::Compute => match op.narrow_kind() {
             0x28 | 0x29 => constants[0] <= 9,
@@ -464,6 +531,10 @@ fn constants(op: &Op) -> Result<(), u8> {
     } else {
         Err(6)
     }
+}
+
+fn label_fits(op: &Op) -> bool {
+    (op.label() as usize) < LABELS
 }
 
 /// Bits 5 to 7 are zero, and the size never exceeds the width.
@@ -712,7 +783,7 @@ fn store(bytes: &mut [u8], flags: u8, value: u64) {
 
 /// 11, globals or memory that do not fit the block.
 fn fit(block: &Block, globals: &[u64], memory: &[u8]) -> Result<(), Refusal> {
-    let narrow = |i: usize| block.wide >> i & 1 == 0;
+    let narrow = |i: usize| !block.wide.has(i as u8);
     let number = globals.len() != block.lent();
     let large = |(i, &value): (usize, &u64)| narrow(i) && value > u32::MAX as u64;
     if number || globals.iter().enumerate().any(large) || memory.len() > MEMORY {
@@ -825,15 +896,15 @@ fn access(
 
 /// What the pass makes of each op: a movi of a value, kept or dropped.
 pub struct Plan {
-    pub folded: [Option<u64>; OPS],
-    pub kept: [bool; OPS],
+    pub folded: Vec<Option<u64>>,
+    pub kept: Vec<bool>,
 }
 
 impl Plan {
-    fn new() -> Plan {
+    fn new(block: &Block) -> Plan {
         Plan {
-            folded: [None; OPS],
-            kept: [false; OPS],
+            folded: vec![None; block.ops],
+            kept: vec![false; block.ops],
         }
     }
 }
@@ -841,13 +912,13 @@ impl Plan {
 /// Fold reads forward.
 fn fold(block: &Block, bytes: &[u8], plan: &mut Plan) {
     // Nothing is known at the start.
-    let mut known = 0;
+    let mut known = Set::NONE;
     let mut values = [0; VARIABLES];
     for position in 0..block.ops {
         let op = block.op(bytes, position);
         let value = match op.shape.form {
             Form::Movi => Some(op.value()),
-            Form::Compute if set(op.inputs()) & !known == 0 => {
+            Form::Compute if (set(op.inputs()) & !known).is_empty() => {
                 plan.folded[position] = result(&op, inputs(&op, &values));
                 plan.folded[position]
             }
@@ -861,14 +932,14 @@ fn fold(block: &Block, bytes: &[u8], plan: &mut Plan) {
         }
         // brcond keeps known values for the next op.
         if op.parts_extended_blocks() {
-            known = 0;
+            known = Set::NONE;
         }
     }
 }
 
 /// What is live just before a kept op; a folded op has no inputs.
-fn live_before(block: &Block, op: &Op, folded: bool, after: u64) -> u64 {
-    let inputs = if folded { 0 } else { set(op.inputs()) };
+fn live_before(block: &Block, op: &Op, folded: bool, after: Set) -> Set {
+    let inputs = if folded { Set::NONE } else { set(op.inputs()) };
     let output = set(op.outputs());
     match op.shape.form {
         Form::ExitTb => block.globals | inputs,
@@ -881,10 +952,10 @@ fn live_before(block: &Block, op: &Op, folded: bool, after: u64) -> u64 {
 
 /// Prune reads the folded ops backward.
 fn prune(block: &Block, bytes: &[u8], plan: &mut Plan) {
-    let mut live = 0;
+    let mut live = Set::NONE;
     for position in (0..block.ops).rev() {
         let op = block.op(bytes, position);
-        plan.kept[position] = !op.is_pure() || live & one(op.body[0]) != 0;
+        plan.kept[position] = !op.is_pure() || live.has(op.body[0]);
         if plan.kept[position] {
             live = live_before(block, &op, plan.folded[position].is_some(), live);
         }
@@ -893,7 +964,7 @@ fn prune(block: &Block, bytes: &[u8], plan: &mut Plan) {
 
 /// Fold, then prune.
 pub fn plan(block: &Block, bytes: &[u8]) -> Plan {
-    let mut plan = Plan::new();
+    let mut plan = Plan::new(block);
     fold(block, bytes, &mut plan);
     prune(block, bytes, &mut plan);
     plan
@@ -953,7 +1024,7 @@ pub fn pass(bytes: &[u8], out: &mut [u8]) -> Result<usize, Refusal> {
 /// The first op that fold, reading from the first op, would replace.
 pub fn foldable(bytes: &[u8]) -> Result<Option<usize>, Refusal> {
     let block = read(bytes)?;
-    let mut plan = Plan::new();
+    let mut plan = Plan::new(&block);
     fold(&block, bytes, &mut plan);
     Ok(plan.folded.iter().position(|value| value.is_some()))
 }
@@ -962,10 +1033,10 @@ pub fn foldable(bytes: &[u8]) -> Result<Option<usize>, Refusal> {
 pub fn dead(bytes: &[u8]) -> Result<Option<usize>, Refusal> {
     let block = read(bytes)?;
     let mut found = None;
-    let mut live = 0;
+    let mut live = Set::NONE;
     for position in (0..block.ops).rev() {
         let op = block.op(bytes, position);
-        if op.is_pure() && live & one(op.body[0]) == 0 {
+        if op.is_pure() && !live.has(op.body[0]) {
             found = Some(position);
         }
         live = live_before(&block, &op, false, live);

@@ -2,7 +2,7 @@
 
 use crate::blocks::records;
 use crate::cases::Case;
-use crate::second::SHAPES;
+use crate::second::{DECLARATION, LABELS, SHAPES, VARIABLES};
 
 /// How many bytes of smaller blocks are tried at most, with 64 for each block.
 const EFFORT: usize = 6_000_000;
@@ -83,7 +83,7 @@ impl Shrinker<'_> {
 
     /// Drops a variable that no op names, with its lent value.
     fn drop_variables(&mut self) {
-        for variable in (0..64).rev() {
+        for variable in (0..VARIABLES).rev() {
             if let Some(smaller) = without(&self.case, variable) {
                 self.take(smaller);
             }
@@ -108,10 +108,10 @@ impl Shrinker<'_> {
 
     /// Gives a label a lower number wherever it stands.
     fn lower_labels(&mut self) {
-        for label in 1..32 {
+        for label in 1..LABELS as u8 {
             for lower in 0..label {
                 let mut block = self.case.block.clone();
-                if relabel(&mut block, label, lower) && self.take_block(block) {
+                if !relabel(&mut block, label, lower) || self.take_block(block) {
                     break;
                 }
             }
@@ -228,7 +228,7 @@ fn without(case: &Case, variable: usize) -> Option<Case> {
         .iter()
         .take_while(|&&start| case.block[start] == 1)
         .count();
-    if variable >= declared || variable * 3 + 3 > case.block.len() {
+    if variable >= declared || DECLARATION * (variable + 1) > case.block.len() {
         return None;
     }
     for &start in &starts[declared..] {
@@ -244,9 +244,10 @@ fn without(case: &Case, variable: usize) -> Option<Case> {
             }
         }
     }
-    if case.block[variable * 3 + 1] == 0 && variable < smaller.globals.len() {
+    let start = DECLARATION * variable;
+    if case.block[start + 1] == 0 && variable < smaller.globals.len() {
         smaller.globals.remove(variable);
     }
-    smaller.block.drain(variable * 3..variable * 3 + 3);
+    smaller.block.drain(start..start + DECLARATION);
     Some(smaller)
 }

@@ -1,23 +1,23 @@
 //! What occurred in the comparison. A default run has to have met all of it.
 
 use crate::aligned::{self, may_have, FLAGS};
+use crate::borders;
 use crate::calls::Side;
 use crate::cases::{passed, Case, RESULT};
 use crate::extended::{self, Counts, THINGS};
 use crate::fields;
+use crate::limits;
 use crate::second::{
-    self, Block, Ending, Form, Op, Plan, Reason, Refusal, ALIGNED, MEMORY, OPS, SHAPES, VARIABLES,
+    self, Block, Ending, Form, Op, Plan, Reason, Refusal, ALIGNED, DECLARATION, MEMORY, OPS, SHAPES,
 };
 
 /// Things that have to occur, each with how often it did.
 type Things = Vec<(String, u64)>;
 
 /// Single things that have to occur.
-const SINGLE: [&str; 12] = [
+const SINGLE: [&str; 10] = [
     "empty block",
     "100,000 bytes or more",
-    "64 variables",
-    "256 ops",
     "longer result",
     "shorter result",
     "memory of 65,536 bytes",
@@ -52,6 +52,8 @@ pub struct Stats {
     extended: Counts,
     fields: fields::Counts,
     aligned: aligned::Counts,
+    limits: limits::Counts,
+    borders: borders::Counts,
     pub accepted_blocks: u64,
 }
 
@@ -74,6 +76,8 @@ impl Stats {
             extended: [0; THINGS.len()],
             fields: fields::Counts::default(),
             aligned: aligned::Counts::new(),
+            limits: limits::Counts::default(),
+            borders: borders::Counts::default(),
             accepted_blocks: 0,
         }
     }
@@ -96,20 +100,21 @@ impl Stats {
 
     fn refused(&mut self, refusal: Refusal, bytes: &[u8]) {
         self.refusals[refusal.number as usize] += 1;
-        self.single[11] += (refusal.number == 7 && refusal.place == bytes.len()) as u64;
+        self.single[9] += (refusal.number == 7 && refusal.place == bytes.len()) as u64;
         self.fields.refused(refusal, bytes);
         self.aligned.refused(refusal, bytes);
+        self.limits.refused(refusal, bytes);
         if refusal.number == 8 {
             extended::refused(&mut self.extended, bytes, refusal.place);
+            self.borders.refused(bytes, refusal.place);
         }
     }
 
     fn note_block(&mut self, block: &Block, bytes: &[u8]) {
-        for declaration in bytes[..3 * block.variables].chunks(3) {
+        for declaration in bytes[..DECLARATION * block.variables].chunks(DECLARATION) {
             self.variables[(2 * declaration[1] + declaration[2]) as usize] += 1;
         }
-        self.single[2] += (block.variables == VARIABLES) as u64;
-        self.single[3] += (block.ops == OPS) as u64;
+        self.limits.note(block, bytes);
         for position in 0..block.ops {
             let op = block.op(bytes, position);
             self.accepted[op.kind as usize] += 1;
@@ -120,13 +125,7 @@ impl Stats {
                 _ => {}
             }
             if matches!(op.shape.form, Form::Br | Form::BrCond) {
-                let label = op.body[op.body.len() - 1];
-                let at = |next: &usize| {
-                    let op = block.op(bytes, *next);
-                    op.shape.form == Form::SetLabel && op.body[0] == label
-                };
-                let target = (position..block.ops).find(at).unwrap_or(position);
-                self.jumps[target - position] += 1;
+                self.jumps[block.target(&op) - position] += 1;
             }
         }
     }
@@ -134,6 +133,7 @@ impl Stats {
     fn note_plan(&mut self, block: &Block, bytes: &[u8], plan: &Plan) {
         extended::note(&mut self.extended, block, bytes, plan);
         self.fields.note(block, bytes, plan);
+        self.borders.note(block, bytes, plan);
         for position in 0..block.ops {
             let kind = block.op(bytes, position).kind as usize;
             self.folded[kind] += plan.folded[position].is_some() as u64;
@@ -142,8 +142,9 @@ impl Stats {
         let result = passed(Side::Second, bytes, RESULT)
             .result()
             .map_or(0, <[u8]>::len);
-        self.single[4] += (result > bytes.len()) as u64;
-        self.single[5] += (result < bytes.len()) as u64;
+        self.limits.note_result(result);
+        self.single[2] += (result > bytes.len()) as u64;
+        self.single[3] += (result < bytes.len()) as u64;
         let little = passed(Side::Second, bytes, result - 1).answer;
         self.refusals[(little % 256) as usize] += 1;
     }
@@ -155,6 +156,7 @@ impl Stats {
         let see = |op: &Op, now| {
             self.fields.due(op, now);
             self.aligned.due(op, now, length);
+            self.limits.due(op);
         };
         let ending = second::watched(&case.block, &mut globals, &mut memory, see);
         let Ok(block) = second::read(&case.block) else {
@@ -163,8 +165,8 @@ impl Stats {
         let Ok(ending) = ending else {
             return self.misfit(&block, case);
         };
-        self.single[6] += (memory.len() == MEMORY) as u64;
-        self.single[7] += memory.is_empty() as u64;
+        self.single[4] += (memory.len() == MEMORY) as u64;
+        self.single[5] += memory.is_empty() as u64;
         let kind = |position: u64| block.op(&case.block, position as usize).kind as usize;
         let count = match ending {
             Ending::Exit { count, .. } => count,
@@ -178,6 +180,7 @@ impl Stats {
             }
         }
         self.note_ending(ending, kind);
+        self.limits.note_ending(ending, count);
     }
 
     fn note_ending(&mut self, ending: Ending, kind: impl Fn(u64) -> usize) {
@@ -203,11 +206,11 @@ impl Stats {
     fn misfit(&mut self, block: &Block, case: &Case) {
         self.refusals[11] += 1;
         if case.memory.len() > MEMORY {
-            self.single[10] += 1;
-        } else if case.globals.len() != block.lent() {
             self.single[8] += 1;
+        } else if case.globals.len() != block.lent() {
+            self.single[6] += 1;
         } else {
-            self.single[9] += 1;
+            self.single[7] += 1;
         }
     }
 
@@ -238,6 +241,8 @@ impl Stats {
             (extended::GROUP, crossing),
             (fields::GROUP, self.fields.named()),
             (aligned::GROUP, self.aligned.named()),
+            (limits::GROUP, self.limits.named()),
+            (borders::GROUP, self.borders.named()),
             ("single things", single),
         ]
     }
@@ -291,6 +296,8 @@ impl Stats {
                 extended::GROUP => extended::OFTEN,
                 fields::GROUP => fields::OFTEN,
                 aligned::GROUP => aligned::OFTEN,
+                limits::GROUP => limits::OFTEN,
+                borders::GROUP => borders::OFTEN,
                 _ => 1,
             };
             let seen = things.iter().filter(|(_, n)| *n >= needed).count();

@@ -10,7 +10,8 @@
 int compare_differs(const uint8_t *block, size_t block_length, const uint64_t *globals, size_t globals_length,
                     const uint8_t *memory, size_t memory_length);
 
-enum { GLOBALS = 66, MEMORY = 65537 };
+/* One more global than there may be variables, and one more byte than a run takes. */
+enum { GLOBALS = 202, MEMORY = 65537 };
 
 /* Copies up to n bytes from the front of the rest; the others stay zero. */
 static void take(void *to, size_t n, const uint8_t **rest, size_t *left) {

@@ -14,7 +14,7 @@
  * - no buffer is longer than PTRDIFF_MAX bytes.
  * Nothing else is asked. Whatever the bytes and numbers are, each call comes back with an answer. No call allocates,
  * keeps a pointer, or has state of its own, so calls on different buffers may run at the same time. Each takes less
- * than 9 KB of stack (ngulo_pass_in_place: less than 12 KB).
+ * than 16 KB of stack (ngulo_pass_in_place: less than 27 KB).
  *
  * A later version may have more kinds, refusals, endings and reasons: have a default where you tell them apart.
  */
@@ -27,9 +27,9 @@
 
 /* The version of this header; ngulo_version() is that of the library. */
 #define NGULO_VERSION_MAJOR 0
-#define NGULO_VERSION_MINOR 6
+#define NGULO_VERSION_MINOR 7
 #define NGULO_VERSION_PATCH 0
-#define NGULO_VERSION "0.6.0"
+#define NGULO_VERSION "0.7.0"
 #define NGULO_VERSION_NUMBER (65536 * NGULO_VERSION_MAJOR + 256 * NGULO_VERSION_MINOR + NGULO_VERSION_PATCH)
 
 /* What stands before the library's functions. Define it yourself to have something else there. */
@@ -64,11 +64,12 @@ extern "C" {
 #endif
 
 /* Limits. A block that is accepted, and the result of a pass, is within all of them. */
-#define NGULO_MAX_VARIABLES 64
-#define NGULO_MAX_OPS 256
-#define NGULO_MAX_LABELS 32     /* labels 0 to 31 */
+#define NGULO_MAX_VARIABLES 200
+#define NGULO_MAX_OPS 1024
+#define NGULO_MAX_LABELS 128    /* labels 0 to 127 */
 #define NGULO_MAX_MEMORY 65536  /* bytes lent to a run */
-#define NGULO_MAX_RESULT 2752   /* bytes: 64 declarations of 3 and 256 ops of at most 10 */
+/* Bytes of a result: declarations of 3 and ops of at most 10; 10840. */
+#define NGULO_MAX_RESULT (3 * NGULO_MAX_VARIABLES + 10 * NGULO_MAX_OPS)
 
 /* The first byte of a record. Operands are the numbers of variables, a byte each, outputs first. A bit field starts at
    bit pos, counted from the lowest, and has len bits. */
@@ -196,13 +197,13 @@ enum ngulo_refusal {
     NGULO_REFUSAL_NONE = 0,
     NGULO_REFUSAL_RECORD_CUT = 1,       /* a record runs past the end */
     NGULO_REFUSAL_UNKNOWN_KIND = 2,     /* unknown kind, 00 included */
-    NGULO_REFUSAL_BAD_DECLARATION = 3,  /* after an op, bad class or type, global after a non-global, 65th variable */
+    NGULO_REFUSAL_BAD_DECLARATION = 3,  /* after an op, bad class or type, global after a non-global, 201st variable */
     NGULO_REFUSAL_UNDECLARED = 4,       /* variable not declared */
     NGULO_REFUSAL_WRONG_WIDTH = 5,      /* an operand has the wrong width */
-    NGULO_REFUSAL_BAD_FIELD = 6,        /* cond above 9, label above 31, bad flags, pos or len, movi_i32 from 2^32 on */
+    NGULO_REFUSAL_BAD_FIELD = 6,        /* cond above 9, label above 127, bad flags, pos, len, movi_i32 from 2^32 on */
     NGULO_REFUSAL_BAD_LABEL = 7,        /* set twice, or jump to one already set; never set: at the block's length */
     NGULO_REFUSAL_UNWRITTEN = 8,        /* temporary read before a write in its extended basic block */
-    NGULO_REFUSAL_TOO_MANY_OPS = 9,     /* 257th op */
+    NGULO_REFUSAL_TOO_MANY_OPS = 9,     /* 1025th op */
     NGULO_REFUSAL_NO_EXIT = 10,         /* no op, or last op is not exit_tb: at the block's length */
     NGULO_REFUSAL_UNFIT_STATE = 11,     /* run: globals or memory do not fit the block: at 0 */
     NGULO_REFUSAL_NO_ROOM = 12          /* pass: out is shorter than the result: at 0 */
@@ -356,7 +357,7 @@ static inline unsigned ngulo_refusal_number(uint64_t answer)
     return NGULO_CAST(unsigned, answer & 255);
 }
 
-/* The place of a refusal, at most the block's length. */
+/* The place of a refusal, at most the block's length, and at most NGULO_MAX_RESULT. */
 static inline size_t ngulo_refusal_place(uint64_t answer)
 {
     return answer >> 8;
@@ -375,13 +376,13 @@ static inline const char *ngulo_refusal_text(unsigned number)
     case NGULO_REFUSAL_NONE: return "not refused";
     case NGULO_REFUSAL_RECORD_CUT: return "a record runs past the end";
     case NGULO_REFUSAL_UNKNOWN_KIND: return "unknown kind";
-    case NGULO_REFUSAL_BAD_DECLARATION: return "bad or misplaced declaration, or 65th variable";
+    case NGULO_REFUSAL_BAD_DECLARATION: return "bad or misplaced declaration, or 201st variable";
     case NGULO_REFUSAL_UNDECLARED: return "variable not declared";
     case NGULO_REFUSAL_WRONG_WIDTH: return "an operand has the wrong width";
     case NGULO_REFUSAL_BAD_FIELD: return "bad condition, flags, label, position, length or 32-bit constant";
     case NGULO_REFUSAL_BAD_LABEL: return "label set twice, jumped to after it was set, or never set";
     case NGULO_REFUSAL_UNWRITTEN: return "temporary read before a write in its extended basic block";
-    case NGULO_REFUSAL_TOO_MANY_OPS: return "257th op";
+    case NGULO_REFUSAL_TOO_MANY_OPS: return "1025th op";
     case NGULO_REFUSAL_NO_EXIT: return "no op, or the last op is not exit_tb";
     case NGULO_REFUSAL_UNFIT_STATE: return "globals or memory do not fit the block";
     case NGULO_REFUSAL_NO_ROOM: return "output buffer shorter than the result";

@@ -1,8 +1,8 @@
 /*
  * The calls for C on case 12, on a fault, on an op without a stated result, across a conditional branch, on every
- * refusal, with no bytes lent, and in place; the conditions at the corners of both widths; loads and stores with all
- * flags, about the ends of memories and of addresses, each run and optimised; bit fields at every position and length,
- * swaps with all flags, and counts, each run and folded. Answers 0 if all are as they should be.
+ * refusal, at the limits, with no bytes lent, and in place; the conditions at the corners of both widths; loads and
+ * stores with all flags, about the ends of memories and of addresses, each run and optimised; bit fields at every
+ * position and length, swaps with all flags, and counts, each run and folded. Answers 0 if all are as they should be.
  */
 #include "ngulo.h"
 
@@ -195,7 +195,7 @@ static const struct refused_block refused_blocks[] = {
     {"flag bit 7, beside bit 4", {0x01, 0x00, 0x01, 0xAB, 0x00, 0x00, 0x90}, 7, NGULO_REFUSAL_BAD_FIELD, 3},
     {"an aligned store that sign-extends", {0x01, 0x00, 0x01, 0xAC, 0x00, 0x00, 0x14}, 7, NGULO_REFUSAL_BAD_FIELD, 3},
     {"an aligned access above the width", {0x01, 0x00, 0x00, 0x01, 0x00, 0x01, 0x2B, 0x00, 0x01, 0x13}, 10, NGULO_REFUSAL_BAD_FIELD, 6},
-    {"label 32", {0x02, NGULO_MAX_LABELS}, 2, NGULO_REFUSAL_BAD_FIELD, 0},
+    {"label 128", {0x02, NGULO_MAX_LABELS}, 2, NGULO_REFUSAL_BAD_FIELD, 0},
     {"a 32-bit movi of 2^32", {0x01, 0x00, 0x00, 0x10, 0x00, 0x00, 0x00, 0x00, 0x00, 0x01}, 13, NGULO_REFUSAL_BAD_FIELD, 3},
     {"bswap64 in 32 bits", {0x01, 0x00, 0x00, 0x33, 0x00, 0x00, 0x00}, 7, NGULO_REFUSAL_UNKNOWN_KIND, 3},
     {"a field of no bits", {0x01, 0x00, 0x00, 0x2E, 0x00, 0x00, 0x00, 0x00}, 8, NGULO_REFUSAL_BAD_FIELD, 3},
@@ -270,17 +270,184 @@ static void limits(void)
     uint64_t report[4] = {9, 9, 9, 9};
     size_t length;
 
-    expect("64 variables", ngulo_check(bytes, fill(bytes, NGULO_MAX_VARIABLES, 0)), 0);
-    length = fill(bytes, NGULO_MAX_VARIABLES + 1, 0);
-    expect_refused("65 variables", bytes, length, NGULO_REFUSAL_BAD_DECLARATION, 3 * NGULO_MAX_VARIABLES);
-    expect("256 ops", ngulo_check(bytes, fill(bytes, 1, NGULO_MAX_OPS - 1)), 0);
-    length = fill(bytes, 1, NGULO_MAX_OPS);
-    expect_refused("257 ops", bytes, length, NGULO_REFUSAL_TOO_MANY_OPS, 3 + 3 * NGULO_MAX_OPS);
+    expect("200 variables", ngulo_check(bytes, fill(bytes, 200, 0)), 0);
+    length = fill(bytes, 201, 0);
+    expect_refused("201 variables", bytes, length, NGULO_REFUSAL_BAD_DECLARATION, 600);
+    expect("1,024 ops", ngulo_check(bytes, fill(bytes, 1, 1023)), 0);
+    length = fill(bytes, 1, 1024);
+    expect_refused("1,025 ops", bytes, length, NGULO_REFUSAL_TOO_MANY_OPS, 3 + 3 * 1024);
+    length = fill(bytes, 200, 1023);
+    expect("200 variables and 1,024 ops", ngulo_check(bytes, length), 0);
     length = fill(bytes, 1, 0);
     expect("65,537 bytes", ngulo_run(bytes, length, globals, 1, memory, sizeof memory, report), NGULO_REFUSAL_UNFIT_STATE);
     expect_report("65,537 bytes", report, 9, 9, 9, 9);
     expect("65,536 bytes", ngulo_run(bytes, length, globals, 1, memory, NGULO_MAX_MEMORY, report), 0);
     expect_report("65,536 bytes", report, NGULO_ENDING_EXIT, 7, 0, 1);
+}
+
+/* The last variable of 200 is global 199; there is none after it. */
+static void last_variable(void)
+{
+    uint8_t bytes[3 * NGULO_MAX_VARIABLES + 2];
+    size_t length = fill(bytes, NGULO_MAX_VARIABLES, 0);
+    uint64_t globals[NGULO_MAX_VARIABLES + 1];
+    uint64_t report[4] = {9, 9, 9, 9};
+    uint64_t i;
+
+    for (i = 0; i <= NGULO_MAX_VARIABLES; i += 1) {
+        globals[i] = 1000 + i;
+    }
+    bytes[length - 1] = 199;
+    expect("199 of 200 globals", ngulo_run_nullable(bytes, length, globals, 199, NULL, 0, report), NGULO_REFUSAL_UNFIT_STATE);
+    expect("201 of 200 globals", ngulo_run_nullable(bytes, length, globals, 201, NULL, 0, report), NGULO_REFUSAL_UNFIT_STATE);
+    expect("200 globals", ngulo_run_nullable(bytes, length, globals, 200, NULL, 0, report), 0);
+    expect_report("200 globals", report, NGULO_ENDING_EXIT, 1199, 0, 1);
+    bytes[length - 1] = 200;
+    expect_refused("v200", bytes, length, NGULO_REFUSAL_UNDECLARED, 600);
+}
+
+/* A run counts 1,024 ops, and the last position before the exit is 1022. */
+static void last_op(void)
+{
+    static uint8_t bytes[5 + 3 * NGULO_MAX_OPS];
+    size_t length = fill(bytes, 1, NGULO_MAX_OPS - 1);
+    uint64_t globals[1] = {0};
+    uint64_t report[4] = {9, 9, 9, 9};
+
+    expect("1,024 ops: run", ngulo_run_nullable(bytes, length, globals, 1, NULL, 0, report), 0);
+    expect_report("1,024 ops", report, NGULO_ENDING_EXIT, 0, 0, 1024);
+    length = fill(bytes, 1, NGULO_MAX_OPS - 2);
+    memcpy(bytes + length - 2, "\xA2\x00\x00\x00\x04\x00", 6);
+    expect("op 1022: run", ngulo_run_nullable(bytes, length + 4, globals, 1, NULL, 0, report), 0);
+    expect_report("op 1022", report, NGULO_ENDING_NO_RESULT, 1022, 0, 1022);
+}
+
+/* Labels up to 127 can be set and jumped to, and none above. */
+static void each_label(void)
+{
+    size_t label;
+
+    for (label = 0; label < 256; label += 1) {
+        uint8_t l = (uint8_t)label;
+        uint8_t jumps[] = {0x01, 0x00, 0x01, 0x03, l, 0x02, l, 0x04, 0x00};
+        uint8_t branches_there[] = {0x01, 0x00, 0x01, 0xAA, 0x00, 0x00, 0x00, l, 0x02, l, 0x04, 0x00};
+        uint64_t answer = label < 128 ? 0 : NGULO_REFUSAL_BAD_FIELD + 256 * 3;
+
+        expect("br to a label", ngulo_check(jumps, sizeof jumps), answer);
+        expect("brcond to a label", ngulo_check(branches_there, sizeof branches_there), answer);
+        expect("set_label", ngulo_check(jumps + 5, 2), label < 128 ? NGULO_REFUSAL_NO_EXIT + 256 * 2 : NGULO_REFUSAL_BAD_FIELD);
+    }
+}
+
+/* One block that branches to each and sets each. */
+static void all_labels(void)
+{
+    uint8_t all[3 + 7 * NGULO_MAX_LABELS + 2] = {0x01, 0x00, 0x01};
+    uint64_t globals[1] = {5};
+    uint64_t report[4] = {9, 9, 9, 9};
+    size_t label;
+
+    for (label = 0; label < NGULO_MAX_LABELS; label += 1) {
+        uint8_t l = (uint8_t)label;
+        uint8_t skips[5] = {0xAA, 0x00, 0x00, NGULO_COND_NE, l};
+        uint8_t sets[2] = {0x02, l};
+
+        memcpy(all + 3 + 5 * label, skips, sizeof skips);
+        memcpy(all + 3 + 5 * NGULO_MAX_LABELS + 2 * label, sets, sizeof sets);
+    }
+    all[sizeof all - 2] = NGULO_KIND_EXIT_TB;
+    expect("all labels", ngulo_run_nullable(all, sizeof all, globals, 1, NULL, 0, report), 0);
+    expect_report("all labels", report, NGULO_ENDING_EXIT, 5, 0, 257);
+}
+
+/* 200 globals and this many movis, to one after the other. */
+static size_t fill_movis(uint8_t *bytes, size_t movis)
+{
+    size_t at = fill(bytes, NGULO_MAX_VARIABLES, 0) - 2;
+    size_t i;
+
+    for (i = 0; i < movis; i += 1, at += 10) {
+        memset(bytes + at, 1, 10);
+        bytes[at] = NGULO_KIND_MOVI_I64;
+        bytes[at + 1] = (uint8_t)(i % NGULO_MAX_VARIABLES);
+    }
+    return at;
+}
+
+/*
+ * The highest place is that of what stands, or is missing, after 200 declarations and 1,024 ops of 10 bytes. The longest
+ * block that is accepted has an exit for its last op.
+ */
+static void longest_block(void)
+{
+    static uint8_t bytes[NGULO_MAX_RESULT + 3];
+    size_t length = fill_movis(bytes, NGULO_MAX_OPS);
+
+    expect("1,024 movis", length, 10840);
+    expect("1,024 movis", ngulo_check(bytes, length), 10 + 256 * 10840);
+    expect_refused("no exit", bytes, length, NGULO_REFUSAL_NO_EXIT, NGULO_MAX_RESULT);
+    bytes[length] = 0x00;
+    expect_refused("kind 00 as 1,025th op", bytes, length + 1, NGULO_REFUSAL_UNKNOWN_KIND, NGULO_MAX_RESULT);
+    bytes[length] = NGULO_KIND_EXIT_TB;
+    bytes[length + 1] = 0;
+    expect_refused("a cut 1,025th op", bytes, length + 1, NGULO_REFUSAL_RECORD_CUT, NGULO_MAX_RESULT);
+    expect_refused("an exit as 1,025th op", bytes, length + 2, NGULO_REFUSAL_TOO_MANY_OPS, NGULO_MAX_RESULT);
+    memcpy(bytes + length, bytes, 3);
+    expect_refused("a declaration after all", bytes, length + 3, NGULO_REFUSAL_BAD_DECLARATION, NGULO_MAX_RESULT);
+    length = fill_movis(bytes, NGULO_MAX_OPS - 1);
+    bytes[length] = NGULO_KIND_EXIT_TB;
+    bytes[length + 1] = 0;
+    expect("the longest block", length + 2, 10832);
+    expect("the longest block", ngulo_check(bytes, length + 2), 0);
+}
+
+/*
+ * 1,024 ops: five times a constant to each of 200 globals and a store, before which all of them are live, then a constant
+ * to 18 globals and an exit. Only the first is a movi if the others are to be copies, which fold to movis.
+ */
+static size_t fill_live(uint8_t *bytes, int copies)
+{
+    size_t at = fill_movis(bytes, 1);
+    size_t i;
+
+    for (i = 1; i < NGULO_MAX_OPS - 1; i += 1) {
+        uint8_t movi[10] = {NGULO_KIND_MOVI_I64, 0, 1, 1, 1, 1, 1, 1, 1, 1};
+        uint8_t copy[3] = {NGULO_KIND_MOV_I64, 0, 0};
+        uint8_t store[4] = {NGULO_KIND_QEMU_ST_I64, 0, 1, NGULO_SIZE_8};
+        const uint8_t *op = i % 201 == 200 ? store : copies ? copy : movi;
+        size_t length = i % 201 == 200 ? sizeof store : copies ? sizeof copy : sizeof movi;
+
+        movi[1] = copy[1] = (uint8_t)(i % 201);
+        memcpy(bytes + at, op, length);
+        at += length;
+    }
+    bytes[at] = NGULO_KIND_EXIT_TB;
+    bytes[at + 1] = 0;
+    return at + 2;
+}
+
+/* A result of 1,024 ops: as long as its block, or almost three times as long. One byte less has no room. */
+static void longest_result(void)
+{
+    static uint8_t expected[NGULO_MAX_RESULT];
+    static uint8_t bytes[NGULO_MAX_RESULT];
+    static uint8_t out[NGULO_MAX_RESULT];
+    size_t length = fill_live(expected, 0);
+    size_t copies = fill_live(bytes, 1);
+
+    expect("movis to live globals", length, 10802);
+    expect("movis to live globals: pass", ngulo_pass(expected, length, out, length), 256 * 10802);
+    expect("movis to live globals: result", (uint64_t)memcmp(out, expected, length), 0);
+    expect("copies to live globals", copies, 10802 - 7 * 1017);
+    memset(out, 0xEE, sizeof out);
+    expect("no room for the copies", ngulo_pass(bytes, copies, out, 10801), NGULO_REFUSAL_NO_ROOM);
+    expect("no room for the copies: out", out[0] == 0xEE && memcmp(out, out + 1, sizeof out - 1) == 0, 1);
+    expect("room for the copies", ngulo_pass(bytes, copies, out, ngulo_result_bound(copies)), 256 * 10802);
+    expect("room for the copies: result", (uint64_t)memcmp(out, expected, length), 0);
+    expect("room for the copies: byte after it", out[length], 0xEE);
+    expect("no room in place", ngulo_pass_in_place(bytes, copies, 10801), NGULO_REFUSAL_NO_ROOM);
+    expect("room in place", ngulo_pass_in_place(bytes, copies, 10802), 256 * 10802);
+    expect("room in place: result", (uint64_t)memcmp(bytes, expected, length), 0);
 }
 
 /* So many globals, the first given a constant and every other one a copy of it; an exit. */
@@ -908,6 +1075,12 @@ int main(void)
     refuses();
     refuses_each();
     limits();
+    last_variable();
+    last_op();
+    each_label();
+    all_labels();
+    longest_block();
+    longest_result();
     lends_nothing();
     lends_all();
     conditions();

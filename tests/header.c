@@ -8,6 +8,11 @@
 #include <stdio.h>
 #include <string.h>
 
+/* The limits can be asked before the program is compiled. */
+#if NGULO_MAX_RESULT / 2 != 5420 || 2 * NGULO_MAX_RESULT != 21680
+#error "NGULO_MAX_RESULT is not one number"
+#endif
+
 static int failures;
 
 static void expect(const char *what, uint64_t found, uint64_t expected)
@@ -31,11 +36,11 @@ static void constants(void)
     for (i = 0; i < sizeof refusals / sizeof refusals[0]; i += 1) {
         expect("refusal", (uint64_t)refusals[i], i);
     }
-    expect("variables", NGULO_MAX_VARIABLES, 64);
-    expect("ops", NGULO_MAX_OPS, 256);
-    expect("labels", NGULO_MAX_LABELS, 32);
+    expect("variables", NGULO_MAX_VARIABLES, 200);
+    expect("ops", NGULO_MAX_OPS, 1024);
+    expect("labels", NGULO_MAX_LABELS, 128);
     expect("memory", NGULO_MAX_MEMORY, 65536);
-    expect("result", NGULO_MAX_RESULT, 3 * NGULO_MAX_VARIABLES + 10 * NGULO_MAX_OPS);
+    expect("result", NGULO_MAX_RESULT, 10840);
     expect("exit", NGULO_ENDING_EXIT, 1);
     expect("fault", NGULO_ENDING_FAULT, 2);
     expect("no result", NGULO_ENDING_NO_RESULT, 3);
@@ -93,10 +98,12 @@ static void bounds(void)
     expect("bound of 2", ngulo_result_bound(2), 6);
     expect("bound of 5", ngulo_result_bound(5), 16);
     expect("bound of 38", ngulo_result_bound(38), 126);
-    expect("bound of 825", ngulo_result_bound(825), 2750);
-    expect("bound of 826", ngulo_result_bound(826), NGULO_MAX_RESULT);
-    expect("bound of 1000", ngulo_result_bound(1000), NGULO_MAX_RESULT);
-    expect("bound of 2752", ngulo_result_bound(2752), NGULO_MAX_RESULT);
+    expect("bound of 826", ngulo_result_bound(826), 2753);
+    expect("bound of 3251", ngulo_result_bound(3251), 10836);
+    expect("bound of 3252", ngulo_result_bound(3252), NGULO_MAX_RESULT);
+    expect("bound of 3253", ngulo_result_bound(3253), NGULO_MAX_RESULT);
+    expect("bound of 10832", ngulo_result_bound(10832), NGULO_MAX_RESULT);
+    expect("bound of 10840", ngulo_result_bound(10840), NGULO_MAX_RESULT);
     expect("bound that size_t cannot hold", ngulo_result_bound((SIZE_MAX / 10 + 1) * 3), NGULO_MAX_RESULT);
     expect("bound of SIZE_MAX", ngulo_result_bound(SIZE_MAX), NGULO_MAX_RESULT);
 }
@@ -110,9 +117,11 @@ static void answers(void)
     expect("refusal 7 at 31: place", ngulo_refusal_place(7 + 256 * 31), 31);
     expect("refusal 12 at 0: refused", (uint64_t)ngulo_is_refused(12), 1);
     expect("refusal 12 at 0: place", ngulo_refusal_place(12), 0);
-    expect("refusal 3 at 3200: place", ngulo_refusal_place(3 + 256 * 3200), 3200);
-    expect("length 2752: refused", (uint64_t)ngulo_is_refused((uint64_t)256 * 2752), 0);
-    expect("length 2752", ngulo_result_length((uint64_t)256 * 2752), NGULO_MAX_RESULT);
+    expect("refusal 10 at 10840: refused", (uint64_t)ngulo_is_refused(10 + 256 * 10840), 1);
+    expect("refusal 10 at 10840: number", ngulo_refusal_number(10 + 256 * 10840), NGULO_REFUSAL_NO_EXIT);
+    expect("refusal 10 at 10840: place", ngulo_refusal_place(10 + 256 * 10840), NGULO_MAX_RESULT);
+    expect("length 10840: refused", (uint64_t)ngulo_is_refused((uint64_t)256 * 10840), 0);
+    expect("length 10840", ngulo_result_length((uint64_t)256 * 10840), NGULO_MAX_RESULT);
 }
 
 /*
@@ -150,9 +159,9 @@ static void reports(void)
 {
     static const uint64_t leaves[NGULO_REPORT_LENGTH] = {1, UINT64_MAX, 0, 5};
     static const uint64_t loads[NGULO_REPORT_LENGTH] = {2, UINT64_MAX - 1, 0x0F, 3};
-    static const uint64_t stores[NGULO_REPORT_LENGTH] = {2, 16, 0x0A + 256, 256};
+    static const uint64_t stores[NGULO_REPORT_LENGTH] = {2, 16, 0x0A + 256, 1023};
     static const uint64_t little[NGULO_REPORT_LENGTH] = {2, 16, 0x04, 1};
-    static const uint64_t unstated[NGULO_REPORT_LENGTH] = {3, 4, 0, 2};
+    static const uint64_t unstated[NGULO_REPORT_LENGTH] = {3, 1022, 0, 2};
 
     expect("exit", ngulo_report_ending(leaves), NGULO_ENDING_EXIT);
     expect("exit: value", ngulo_report_exit_value(leaves), UINT64_MAX);
@@ -173,9 +182,9 @@ static void reports(void)
     expect("little-endian", (uint64_t)ngulo_report_fault_is_big_endian(little), 0);
     expect("little-endian: signed", (uint64_t)ngulo_report_fault_is_signed(little), 1);
     expect("little-endian: size", ngulo_report_fault_size(little), 1);
-    expect("store: count", ngulo_report_count(stores), 256);
+    expect("store: count", ngulo_report_count(stores), 1023);
     expect("no result", ngulo_report_ending(unstated), NGULO_ENDING_NO_RESULT);
-    expect("no result: position", ngulo_report_position(unstated), 4);
+    expect("no result: position", ngulo_report_position(unstated), 1022);
     expect("no result: count", ngulo_report_count(unstated), 2);
 }
 
@@ -296,6 +305,17 @@ static void in_place(void)
     expect("in place: a refusal with a place", written_in_place(NGULO_REFUSAL_UNDECLARED + 256 * 3, 9), 0);
 }
 
+/* The words that name a limit name the header's. */
+static void limits_in_texts(void)
+{
+    char words[64];
+
+    sprintf(words, "bad or misplaced declaration, or %dst variable", NGULO_MAX_VARIABLES + 1);
+    expect("text: 3", (uint64_t)strcmp(ngulo_refusal_text(NGULO_REFUSAL_BAD_DECLARATION), words), 0);
+    sprintf(words, "%dth op", NGULO_MAX_OPS + 1);
+    expect("text: 9", (uint64_t)strcmp(ngulo_refusal_text(NGULO_REFUSAL_TOO_MANY_OPS), words), 0);
+}
+
 /* Each number has words of its own. */
 static void texts(void)
 {
@@ -328,6 +348,7 @@ int main(void)
     nullable_with_nothing();
     nullable_with_all();
     in_place();
+    limits_in_texts();
     texts();
     if (failures == 0) {
         puts("header: as it should be");

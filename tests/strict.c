@@ -28,6 +28,9 @@ uint64_t use_calls(const uint8_t *block, size_t block_length, uint8_t *out, size
     struct ngulo_report report = {{0, 0, 0, 0}};
     uint64_t answers = ngulo_version() ^ NGULO_VERSION_NUMBER;
 
+    if (out_length < NGULO_MAX_RESULT || block_length > NGULO_MAX_RESULT) {
+        return NGULO_MAX_RESULT - NGULO_MAX_OPS;
+    }
     answers |= ngulo_check(block, block_length);
     answers |= ngulo_pass(block, block_length, out, out_length);
     answers |= ngulo_run(block, block_length, globals, 1, out, out_length, report.places);

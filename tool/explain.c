@@ -260,8 +260,6 @@ static void print_fate(const struct records *block, const struct fate fates[NGUL
     const struct fate *fate = &fates[position];
     char text[LISTING_SIZE];
 
-    list_record(op_at(block, position), text);
-    printf("%3u  %-34s  ", position, text);
     if (fate->folded) {
         list_record(fate->form, text);
         printf("folded to %s, ", text);
@@ -285,9 +283,11 @@ static void print_fate(const struct records *block, const struct fate fates[NGUL
 
 void print_fates(const struct records *block, const struct fate fates[NGULO_MAX_OPS], const char *names)
 {
+    struct columns columns = measure_ops(block);
     unsigned i;
 
     for (i = 0; i < block->ops; i += 1) {
+        print_op(&columns, i, op_at(block, i));
         print_fate(block, fates, i, names);
     }
 }

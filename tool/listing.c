@@ -4,6 +4,9 @@
 #include <stdio.h>
 #include <string.h>
 
+/* The least widths: of an op's position, of its text, and of a record's text with names beside it. */
+enum { LEAST_POSITION = 3, LEAST_TEXT = 34, LEAST_NAMED = 31 };
+
 static uint64_t movi_constant(const uint8_t *op)
 {
     uint64_t value = 0;
@@ -49,6 +52,45 @@ void list_record(const uint8_t *record, char text[LISTING_SIZE])
     }
 }
 
+/* The width of the positions of so many ops. */
+static int position_width(unsigned ops)
+{
+    int digits = snprintf(NULL, 0, "%u", ops == 0 ? 0 : ops - 1);
+
+    return digits < LEAST_POSITION ? LEAST_POSITION : digits;
+}
+
+/* The width of the texts of a block's ops, at least this. */
+static int text_width(const struct records *block, int least)
+{
+    char text[LISTING_SIZE];
+    int width = least;
+    unsigned i;
+
+    for (i = 0; i < block->ops; i += 1) {
+        list_record(op_at(block, i), text);
+        width = (int)strlen(text) > width ? (int)strlen(text) : width;
+    }
+    return width;
+}
+
+struct columns measure_ops(const struct records *block)
+{
+    struct columns columns;
+
+    columns.position = position_width(block->ops);
+    columns.text = text_width(block, LEAST_TEXT);
+    return columns;
+}
+
+void print_op(const struct columns *columns, unsigned position, const uint8_t *op)
+{
+    char text[LISTING_SIZE];
+
+    list_record(op, text);
+    printf("%*u  %-*s  ", columns->position, position, columns->text, text);
+}
+
 unsigned count_names(const char *names)
 {
     unsigned count = names != NULL && *names != '\0';
@@ -80,8 +122,8 @@ void print_variable(unsigned variable, const char *names)
     printf("v%u%s%.*s", variable, length == 0 ? "" : " ", (int)length, name);
 }
 
-/* Beside a text of some length: variables that have names, each once. */
-static void print_beside(size_t length, const uint8_t *variables, unsigned count, const char *names)
+/* So many blanks after a text: variables that have names, each once. */
+static void print_beside(int blanks, const uint8_t *variables, unsigned count, const char *names)
 {
     const char *name;
     int beside = 0;
@@ -89,7 +131,7 @@ static void print_beside(size_t length, const uint8_t *variables, unsigned count
 
     for (k = 0; k < count; k += 1) {
         if (find_name(names, variables[k], &name) > 0 && memchr(variables, variables[k], k) == NULL) {
-            printf("%*s%s", beside ? 0 : length < 31 ? 32 - (int)length : 1, "", beside ? ", " : "# ");
+            printf("%*s%s", beside ? 0 : blanks, "", beside ? ", " : "# ");
             print_variable(variables[k], names);
             beside = 1;
         }
@@ -99,6 +141,7 @@ static void print_beside(size_t length, const uint8_t *variables, unsigned count
 
 void print_listing(const struct records *block, const char *names)
 {
+    int width = text_width(block, LEAST_NAMED);
     char text[LISTING_SIZE];
     unsigned i;
 
@@ -106,32 +149,44 @@ void print_listing(const struct records *block, const char *names)
         const uint8_t *record = block->at[i];
         const struct shape *shape = shape_of(record[0]);
         uint8_t declared = (uint8_t)i;
+        int blanks;
 
         list_record(record, text);
         fputs(text, stdout);
+        blanks = width + 1 - (int)strlen(text);
         if (record[0] == NGULO_KIND_DECL) {
-            print_beside(strlen(text), &declared, 1, names);
+            print_beside(blanks, &declared, 1, names);
         } else {
-            print_beside(strlen(text), record + 1, shape->outputs + shape->inputs, names);
+            print_beside(blanks, record + 1, shape->outputs + shape->inputs, names);
         }
     }
+}
+
+/* Is there a whole record at a place of any bytes? */
+static int is_whole(const uint8_t *block, size_t length, size_t at)
+{
+    return at < length && shape_of(block[at]) != NULL && record_length(block[at]) <= length - at;
 }
 
 void print_places(const uint8_t *block, size_t length)
 {
     char text[LISTING_SIZE];
     unsigned ops = 0;
-    size_t at = 0;
+    int width;
+    size_t at;
 
-    while (at < length && shape_of(block[at]) != NULL && record_length(block[at]) <= length - at) {
+    for (at = 0; is_whole(block, length, at); at += record_length(block[at])) {
+        ops += block[at] != NGULO_KIND_DECL;
+    }
+    width = position_width(ops);
+    ops = 0;
+    for (at = 0; is_whole(block, length, at); at += record_length(block[at])) {
         list_record(block + at, text);
-        printf("%5lu  ", (unsigned long)at);
         if (block[at] == NGULO_KIND_DECL) {
-            printf("     %s\n", text);
+            printf("%5lu  %*s  %s\n", (unsigned long)at, width, "", text);
         } else {
-            printf("%3u  %s\n", ops, text);
+            printf("%5lu  %*u  %s\n", (unsigned long)at, width, ops, text);
             ops += 1;
         }
-        at += record_length(block[at]);
     }
 }

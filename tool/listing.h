@@ -13,6 +13,17 @@ void list_name(uint8_t kind, char text[LISTING_SIZE]);
 /* The text of a record with a known kind. */
 void list_record(const uint8_t *record, char text[LISTING_SIZE]);
 
+/* How wide the positions and the texts of a block's ops are, so that what stands beside them lines up. */
+struct columns {
+    int position;
+    int text;
+};
+
+struct columns measure_ops(const struct records *block);
+
+/* Prints the position and the text of an op, in its columns. */
+void print_op(const struct columns *columns, unsigned position, const uint8_t *op);
+
 /* Below, names are those of globals, from global 0 on, with commas between; NULL for none. */
 
 /* How many names there are. */

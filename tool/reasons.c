@@ -59,8 +59,10 @@ static void print_bad_declaration(FILE *stream, const struct seen *seen, const u
         fprintf(stream, ": there is no class %u", (unsigned)record[1]);
     } else if (record[2] > NGULO_TYPE_I64) {
         fprintf(stream, ": there is no type %u", (unsigned)record[2]);
+    } else if (seen->variables == NGULO_MAX_VARIABLES) {
+        fprintf(stream, ": %d variables stand before it", NGULO_MAX_VARIABLES);
     } else {
-        fputs(seen->variables == NGULO_MAX_VARIABLES ? ": it is the 65th" : ": a global after a temporary", stream);
+        fputs(": a global after a temporary", stream);
     }
 }
 
@@ -261,6 +263,8 @@ static void print_record_reason(FILE *stream, const uint8_t *block, unsigned num
         print_bad_field(stream, block + place);
     } else if (number == NGULO_REFUSAL_BAD_LABEL) {
         fprintf(stream, ": label %u is set already", (unsigned)label_of(block + place));
+    } else if (number == NGULO_REFUSAL_TOO_MANY_OPS) {
+        fprintf(stream, ": %d ops stand before it", NGULO_MAX_OPS);
     } else {
         print_operands(stream, number, &seen, block + place);
     }

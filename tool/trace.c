@@ -9,6 +9,7 @@
 
 /* Where a traced run stands. */
 struct machine {
+    struct columns columns;
     uint64_t values[NGULO_MAX_VARIABLES];
     uint8_t *memory;
     size_t memory_length;
@@ -126,11 +127,9 @@ static void print_writes(const struct records *block, const char *names, const s
 static int trace_op(const struct records *block, const char *names, struct machine *m)
 {
     const uint8_t *op = op_at(block, m->position);
-    char text[LISTING_SIZE];
     int goes_on;
 
-    list_record(op, text);
-    printf("%3u  %-34s  ", m->position, text);
+    print_op(&m->columns, m->position, op);
     print_reads(op, names, m);
     goes_on = run_op(block, m);
     print_writes(block, names, m, goes_on);
@@ -146,6 +145,7 @@ void trace_run(const struct records *block, const char *names, uint64_t *globals
     int goes_on;
 
     memset(&m, 0, sizeof m);
+    m.columns = measure_ops(block);
     memcpy(m.values, globals, block->globals * sizeof *globals);
     m.memory = memory;
     m.memory_length = memory_length;

@@ -6,6 +6,7 @@ use Prim.Native.Nat.{ℕ, _+_, _≤_, _<_}
 use native.Mathlib.Omega.{arith}
 use lib.Dec.{eqb, ltb, leb, eqb·suc-zero}
 use lib.ListN.{length, length-append}
+use Rattle.ops.specs.Limits.{maxVariables, maxOps}
 use borrow.Author.Tests.{ltb-true, not-true}
 use Rattle.theory.proofs.Checker.{Checker, checks}
 use Rattle.theory.proofs.Scoped.{scoped}
@@ -134,28 +135,28 @@ seen-declared T s [] h = rw (append-nil (s .classes), append-nil (s .types))
 seen-declared T s (d ∷ ds) h =
     rw (declared-next T s d (h .0), seen-declared T (declared s d) ds (h .1), append-assoc (s .classes) (classOf d ∷ []) (classesOf ds), append-assoc (s .types) (typeOf d ∷ []) (declaredTypes ds))
 
-pub room3 : (s : Seen) (d : List ℕ) → rule3 s d ≡ true → length (s .classes) < 64
+pub room3 : (s : Seen) (d : List ℕ) → rule3 s d ≡ true → length (s .classes) < maxVariables
 unfolding rule3
-room3 s d h = ltb-true (length (s .classes)) 64 (and-r (eqb (s .ops) 0 && leb (classOf d) 2 && leb (typeOf d) 1 && (not (eqb (classOf d) 0) || allGlobal (s .classes))) (ltb (length (s .classes)) 64) h)
+room3 s d h = ltb-true (length (s .classes)) maxVariables (and-r (eqb (s .ops) 0 && leb (classOf d) 2 && leb (typeOf d) 1 && (not (eqb (classOf d) 0) || allGlobal (s .classes))) (ltb (length (s .classes)) maxVariables) h)
 
-pub room9 : (s : Seen) (o : List ℕ) → rule9 s o ≡ true → s .ops < 256
+pub room9 : (s : Seen) (o : List ℕ) → rule9 s o ≡ true → s .ops < maxOps
 unfolding rule9
-room9 s o h = ltb-true (s .ops) 256 h
+room9 s o h = ltb-true (s .ops) maxOps h
 
--- at most 64 declarations, and at most 256 ops
-pub few-declared : (T : Table) (s : Seen) (ds : List (List ℕ)) → AllDeclared ds → meet T s ds ≡ true → length (s .classes) ≤ 64 → length (s .classes) + length ds ≤ 64
+-- no more declarations and ops than the limits
+pub few-declared : (T : Table) (s : Seen) (ds : List (List ℕ)) → AllDeclared ds → meet T s ds ≡ true → length (s .classes) ≤ maxVariables → length (s .classes) + length ds ≤ maxVariables
 few-declared T s [] h m l = omega arith
 few-declared T s (d ∷ ds) h m l =
     let m₁ : allMet (rulesOf T s d) ≡ true = and-l (allMet (rulesOf T s d)) (meet T (next T s d) ds) m in
     let m₂ : (rule3 s d && true) ≡ true = rw (h .0) at m₁ in
     let m₃ : meet T (declared s d) ds ≡ true = rw (declared-next T s d (h .0)) at (and-r (allMet (rulesOf T s d)) (meet T (next T s d) ds) m) in
-    let b : length (s .classes) < 64 = room3 s d (and-l (rule3 s d) true m₂) in
+    let b : length (s .classes) < maxVariables = room3 s d (and-l (rule3 s d) true m₂) in
     let e : length (s .classes ++ (classOf d ∷ [])) ≡ length (s .classes) + 1 = length-append (s .classes) (classOf d ∷ []) in
     omega (arith, few-declared T (declared s d) ds (h .1) m₃ (omega arith), e)
 
-pub few-ops : (D : Dialect) (s : Seen) (os : List (List ℕ)) → checks (tcg D) (checker D) s os ≡ true → s .ops ≤ 256 → s .ops + length os ≤ 256
+pub few-ops : (D : Dialect) (s : Seen) (os : List (List ℕ)) → checks (tcg D) (checker D) s os ≡ true → s .ops ≤ maxOps → s .ops + length os ≤ maxOps
 few-ops D s [] h l = omega arith
 few-ops D s (o ∷ os) h l =
     let ok : opOk (D .rows) s o ≡ true = and-l (opOk (D .rows) s o) (checks (tcg D) (checker D) (passed (D .rows) s o) os) h in
-    let b : s .ops < 256 = room9 s o (and-l (rule9 s o) _ (and-r (not (isDeclaration o)) _ (and-r (whole (D .rows) o) _ ok))) in
+    let b : s .ops < maxOps = room9 s o (and-l (rule9 s o) _ (and-r (not (isDeclaration o)) _ (and-r (whole (D .rows) o) _ ok))) in
     omega (arith, few-ops D (passed (D .rows) s o) os (and-r (opOk (D .rows) s o) (checks (tcg D) (checker D) (passed (D .rows) s o) os) h) (omega arith))

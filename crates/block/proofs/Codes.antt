@@ -12,11 +12,10 @@ use lib.Seq.{getD-set-same, getD-set-other}
 use borrow.Author.Tests.{eqb-true, eqb-false, ltb-true, ltb-false, lt-ltb, le-ltb, eq-eqb, ne-eqb}
 use Rattle.theory.specs.Sets.{Vars, empty, has, plus, allIn}
 use Rattle.theory.proofs.Sets.{tell, and-l, and-r}
-use Rattle.ops.specs.Limits.{maxVariables}
 use Rattle.ops.specs.Rows.{Row, isClosing, typesOf}
 use Rattle.ops.proofs.Ranges.{everyFrom, ranged, beq-same}
 use Rattle.block.specs.Rules.{keptIn, allBelow, haveTypes, wroteBy}
-use Rattle.block.specs.Scan.{SetAt, SameBeyond, codesIn, against, codeOf, Coded, fitsAs, operandsFit, opened, openAll, codesBy, codeFor}
+use Rattle.block.specs.Scan.{SetAt, codesIn, against, codeOf, Coded, fitsAs, operandsFit, opened, openAll, codesBy, codeFor}
 
 -- what holds of each type below 4 by computation
 typed : (f : ℕ → Bool) → everyFrom f 0 4 ≡ true → (x : ℕ) → x < 4 → f x ≡ true
@@ -109,32 +108,6 @@ code-at vars v h e = e ∙ go vars v h
     go [] v h = absurd (omega arith)
     go (x ∷ xs) zero h = refl
     go (x ∷ xs) (suc v) h = go xs v (omega arith)
-
--- an extended basic block starts: the bytes of base one after the other, and beyond those of variables none has changed
-pub record Restarting (base vars : List ℕ) (i : ℕ) : Type 0 where
-  pub agree : (v : ℕ) → (v < i) ⊎ (maxVariables ≤ v) → codesIn vars v ≡ codesIn base v
-
-pub restart-start : {base vars : List ℕ} → SameBeyond base vars → Restarting base vars 0
-restart-start {base} {vars} s = record { agree = go }
-  where
-    go : (v : ℕ) → (v < 0) ⊎ (maxVariables ≤ v) → codesIn vars v ≡ codesIn base v
-    go v (inl h) = absurd (omega arith)
-    go v (inr h) = s .beyond v h
-
-pub restart-next : {base vars vars′ : List ℕ} {i x : ℕ} → Restarting base vars i → x ≡ codesIn base i → SetAt vars i x vars′ → Restarting base vars′ (i + 1)
-restart-next {base} {vars} {vars′} {i} {x} r e s = record { agree = λ v h. ap (λ (xs : List ℕ). codesIn xs v) (s .becomes) ∙ getD-set vars i x v 15 (s .inside) ∙ go v h (tell (eqb v i)) }
-  where
-    go : (v : ℕ) → (v < i + 1) ⊎ (maxVariables ≤ v) → (eqb v i ≡ true) ⊎ (eqb v i ≡ false) → cond (eqb v i) x (codesIn vars v) ≡ codesIn base v
-    go v h (inl t) = rw t (e ∙ ap (codesIn base) (sym (eqb-true v i t)))
-    go v (inl h) (inr t) = rw t (r .agree v (inl (omega (arith, h, eqb-false v i t))))
-    go v (inr h) (inr t) = rw t (r .agree v (inr h))
-
-pub restart-end : {base vars : List ℕ} {i : ℕ} → Restarting base vars i → maxVariables ≤ i → codesIn vars ≡ codesIn base
-restart-end {base} {vars} {i} r h = fun-ext (λ v. r .agree v (go v (tell (ltb v i))))
-  where
-    go : (v : ℕ) → (ltb v i ≡ true) ⊎ (ltb v i ≡ false) → (v < i) ⊎ (maxVariables ≤ v)
-    go v (inl t) = inl (ltb-true v i t)
-    go v (inr t) = inr (omega (arith, h, ltb-false v i t))
 
 -- one more declaration
 getD-append : (xs : List ℕ) (x v d : ℕ) → getD (xs ++ (x ∷ [])) v d ≡ cond (eqb v (length xs)) x (getD xs v d)

@@ -10,6 +10,7 @@ use lib.ListN.{length, getD, drop, set, replicate, length-set, length-append}
 use borrow.Author.Tests.{ltb-true, ltb-false, lt-ltb, leb-true, leb-false, le-ltb, eqb-true, eqb-false, eq-eqb, ne-eqb}
 use native.Mathlib.Numerals.{add-one}
 use native.Mathlib.Nat.{add-zero, zero-add}
+use Rattle.ops.specs.Limits.{maxVariables}
 use Rattle.theory.specs.Prune.{before}
 use Rattle.theory.specs.Sets.{empty}
 use Rattle.theory.proofs.Sets.{and-l, and-r, tell, clash}
@@ -172,17 +173,17 @@ module _ {T : Table} (law : LawfulTable T) {b vars₀ vars : List ℕ} {p n glob
     declaring-refused t = rw t at turn
 
     module _ (t : met ≡ true) where
-      few-more : n < 64
+      few-more : n < maxVariables
       unfolding declarationOk
       few-more =
-          ltb-true n 64
-          (and-r (leb (getD b (p + 1) 0) 2 && leb (getD b (p + 2) 0) 1 && (not (eqb (getD b (p + 1) 0) 0) || eqb globals n)) (ltb n 64) t)
+          ltb-true n maxVariables
+          (and-r (leb (getD b (p + 1) 0) 2 && leb (getD b (p + 2) 0) 1 && (not (eqb (getD b (p + 1) 0) 0) || eqb globals n)) (ltb n maxVariables) t)
 
       global-test : (not (eqb (getD b (p + 1) 0) 0) || eqb globals n) ≡ true
       unfolding declarationOk
       global-test =
           and-r (leb (getD b (p + 1) 0) 2 && leb (getD b (p + 2) 0) 1) (not (eqb (getD b (p + 1) 0) 0) || eqb globals n)
-          (and-l (leb (getD b (p + 1) 0) 2 && leb (getD b (p + 2) 0) 1 && (not (eqb (getD b (p + 1) 0) 0) || eqb globals n)) (ltb n 64) t)
+          (and-l (leb (getD b (p + 1) 0) 2 && leb (getD b (p + 2) 0) 1 && (not (eqb (getD b (p + 1) 0) 0) || eqb globals n)) (ltb n maxVariables) t)
 
       pub type-low : getD b (p + 2) 0 < 2
       unfolding declarationOk
@@ -190,7 +191,7 @@ module _ {T : Table} (law : LawfulTable T) {b vars₀ vars : List ℕ} {p n glob
           let e : leb (getD b (p + 2) 0) 1 ≡ true =
           and-r (leb (getD b (p + 1) 0) 2) (leb (getD b (p + 2) 0) 1)
           (and-l (leb (getD b (p + 1) 0) 2 && leb (getD b (p + 2) 0) 1) (not (eqb (getD b (p + 1) 0) 0) || eqb globals n)
-          (and-l (leb (getD b (p + 1) 0) 2 && leb (getD b (p + 2) 0) 1 && (not (eqb (getD b (p + 1) 0) 0) || eqb globals n)) (ltb n 64) t)) in
+          (and-l (leb (getD b (p + 1) 0) 2 && leb (getD b (p + 2) 0) 1 && (not (eqb (getD b (p + 1) 0) 0) || eqb globals n)) (ltb n maxVariables) t)) in
           omega (arith, leb-true (getD b (p + 2) 0) 1 e)
 
       abbrev more-before : List (List ℕ)
@@ -252,10 +253,10 @@ module _ {T : Table} (law : LawfulTable T) {b vars₀ vars : List ℕ} {p n glob
       pub declaring-other : (getD b (p + 1) 0 ≡ 0 → ⊥) → Declaring T b vars₀ (set vars n code) (p + 3) (n + 1) globals
       declaring-other z = more globals (d .globals-are ∙ sym (count-other classes (getD b (p + 1) 0) (ne-eqb (getD b (p + 1) 0) 0 z)))
 
--- no room for one more: fewer than three bytes are left, or there are 64 variables
-pub no-room : (b : List ℕ) (p n globals : ℕ) → p ≡ 3 * n → (64 ≤ n) ⊎ (length b / 3 ≤ n) → Stopped b p n globals
+-- no room for one more: fewer than three bytes are left, or there are maxVariables variables
+pub no-room : (b : List ℕ) (p n globals : ℕ) → p ≡ 3 * n → (maxVariables ≤ n) ⊎ (length b / 3 ≤ n) → Stopped b p n globals
 unfolding declarationOk
-no-room b p n globals e (inl l) h k w = rw (le-ltb n 64 l) (sym (last-false (leb (getD b (p + 1) 0) 2 && leb (getD b (p + 2) 0) 1 && (not (eqb (getD b (p + 1) 0) 0) || eqb globals n)) false refl))
+no-room b p n globals e (inl l) h k w = rw (le-ltb n maxVariables l) (sym (last-false (leb (getD b (p + 1) 0) 2 && leb (getD b (p + 2) 0) 1 && (not (eqb (getD b (p + 1) 0) 0) || eqb globals n)) false refl))
 no-room b p n globals e (inr l) h k w = absurd (omega arith)
 
 -- the answer at the place where they end
@@ -298,20 +299,20 @@ module _ {T : Table} (law : LawfulTable T) {b vars₀ vars : List ℕ} {n global
   again-other c z q = rw (q, c) (next-place (declaring-other law d (omega arith) k (omega arith) (sym e ∙ t) z))
 
 -- a good declaration, by the tests of the two loops
-module _ (kind class type n : ℕ) (few : n < 64) where
+module _ (kind class type n : ℕ) (few : n < maxVariables) where
   global-ok : declaresGlobal kind class type ≡ true → declarationOk class type n n ≡ true
   unfolding declarationOk
   global-ok t =
       let a = and-l (eqb kind 1 && eqb class 0) (leb type 1) t in
       let z = eqb-true class 0 (and-r (eqb kind 1) (eqb class 0) a) in
-      rw (z, and-r (eqb kind 1 && eqb class 0) (leb type 1) t, eq-eqb n n refl, lt-ltb n 64 few)
+      rw (z, and-r (eqb kind 1 && eqb class 0) (leb type 1) t, eq-eqb n n refl, lt-ltb n maxVariables few)
 
   other-ok : (globals : ℕ) → declaresOther kind class type ≡ true → declarationOk class type globals n ≡ true
   unfolding declarationOk
   other-ok globals t =
       let a = and-l (eqb kind 1 && not (eqb class 0) && leb class 2) (leb type 1) t in
       let b = and-l (eqb kind 1 && not (eqb class 0)) (leb class 2) a in
-      rw (and-r (eqb kind 1 && not (eqb class 0)) (leb class 2) a, and-r (eqb kind 1 && not (eqb class 0) && leb class 2) (leb type 1) t, and-r (eqb kind 1) (not (eqb class 0)) b, lt-ltb n 64 few)
+      rw (and-r (eqb kind 1 && not (eqb class 0)) (leb class 2) a, and-r (eqb kind 1 && not (eqb class 0) && leb class 2) (leb type 1) t, and-r (eqb kind 1) (not (eqb class 0)) b, lt-ltb n maxVariables few)
 
 pub global-kind : (kind class type : ℕ) → declaresGlobal kind class type ≡ true → (kind ≡ 1) × (class ≡ 0) × (type < 2)
 global-kind kind class type t =
@@ -325,13 +326,13 @@ other-kind kind class type t =
     (eqb-true kind 1 (and-l (eqb kind 1) (not (eqb class 0)) b), eqb-false class 0 (not-so (eqb class 0) (and-r (eqb kind 1) (not (eqb class 0)) b)), omega (arith, leb-true type 1 (and-r (eqb kind 1 && not (eqb class 0) && leb class 2) (leb type 1) t)))
 
 -- one turn of each loop
-pub next-global : {T : Table} (law : LawfulTable T) {b vars₀ vars : List ℕ} {n x : ℕ} {r : Bool} → Declaring T b vars₀ vars (3 * n) n n → n < length b / 3 → n < 64
+pub next-global : {T : Table} (law : LawfulTable T) {b vars₀ vars : List ℕ} {n x : ℕ} {r : Bool} → Declaring T b vars₀ vars (3 * n) n n → n < length b / 3 → n < maxVariables
     → r ≡ declaresGlobal (getD b (3 * n) 0) (getD b (3 * n + 1) 0) (getD b (3 * n + 2) 0) → r ≡ true → x ≡ codeFor 0 (getD b (3 * n + 2) 0) → Declaring T b vars₀ (set vars n x) (3 * (n + 1)) (n + 1) (n + 1)
 next-global law {b} {n = n} d h l e t c =
     let k = global-kind (getD b (3 * n) 0) (getD b (3 * n + 1) 0) (getD b (3 * n + 2) 0) (sym e ∙ t) in
     again-global law d h (k .0) refl (global-ok (getD b (3 * n) 0) (getD b (3 * n + 1) 0) (getD b (3 * n + 2) 0) n l (sym e ∙ t)) (c ∙ ap (λ (z : ℕ). codeFor z (getD b (3 * n + 2) 0)) (sym (k .1))) (k .1) refl
 
-pub next-other : {T : Table} (law : LawfulTable T) {b vars₀ vars : List ℕ} {n globals x : ℕ} {r : Bool} → Declaring T b vars₀ vars (3 * n) n globals → n < length b / 3 → n < 64
+pub next-other : {T : Table} (law : LawfulTable T) {b vars₀ vars : List ℕ} {n globals x : ℕ} {r : Bool} → Declaring T b vars₀ vars (3 * n) n globals → n < length b / 3 → n < maxVariables
     → r ≡ declaresOther (getD b (3 * n) 0) (getD b (3 * n + 1) 0) (getD b (3 * n + 2) 0) → r ≡ true → x ≡ codeFor (getD b (3 * n + 1) 0) (getD b (3 * n + 2) 0)
     → Declaring T b vars₀ (set vars n x) (3 * (n + 1)) (n + 1) globals
 next-other law {b} {n = n} {globals = globals} d h l e t c =
@@ -355,16 +356,16 @@ stops-at b n globals {r} e t g h k l = go (tell (eqb class 0)) (tell (leb class 
 
     go : (eqb (getD b (3 * n + 1) 0) 0 ≡ true) ⊎ (eqb (getD b (3 * n + 1) 0) 0 ≡ false) → (leb (getD b (3 * n + 1) 0) 2 ≡ true) ⊎ (leb (getD b (3 * n + 1) 0) 2 ≡ false)
         → (leb (getD b (3 * n + 2) 0) 1 ≡ true) ⊎ (leb (getD b (3 * n + 2) 0) 1 ≡ false) → (eqb globals n ≡ true) ⊎ (eqb globals n ≡ false)
-        → (leb (getD b (3 * n + 1) 0) 2 && leb (getD b (3 * n + 2) 0) 1 && (not (eqb (getD b (3 * n + 1) 0) 0) || eqb globals n) && ltb n 64) ≡ false
+        → (leb (getD b (3 * n + 1) 0) 2 && leb (getD b (3 * n + 2) 0) 1 && (not (eqb (getD b (3 * n + 1) 0) 0) || eqb globals n) && ltb n maxVariables) ≡ false
     go x (inr y) z w = rw y
     go x (inl y) (inr z) w = rw (y, z)
     go (inl x) (inl y) (inl z) (inr w) = rw (y, z, x, w)
     go (inr x) (inl y) (inl z) w = absurd (clash _ (rw (eq-eqb (getD b (3 * n) 0) 1 k, x, y, z) refl) other)
     go (inl x) (inl y) (inl z) (inl w) = absurd (clash _ (rw (eq-eqb (getD b (3 * n) 0) 1 k, x, z) refl) (g (sym (eqb-true globals n w))))
 
-pub no-more-room : (b : List ℕ) (n globals : ℕ) {limit : ℕ} → limit ≡ min (length b / 3) 64 → limit ≤ n → Stopped b (3 * n) n globals
-no-more-room b n globals e l = go (tell (leb 64 n))
+pub no-more-room : (b : List ℕ) (n globals : ℕ) {limit : ℕ} → limit ≡ min (length b / 3) maxVariables → limit ≤ n → Stopped b (3 * n) n globals
+no-more-room b n globals e l = go (tell (leb maxVariables n))
   where
-    go : (leb 64 n ≡ true) ⊎ (leb 64 n ≡ false) → Stopped b (3 * n) n globals
-    go (inl x) = no-room b (3 * n) n globals refl (inl (leb-true 64 n x))
-    go (inr x) = no-room b (3 * n) n globals refl (inr (omega (arith, leb-false 64 n x, e, l)))
+    go : (leb maxVariables n ≡ true) ⊎ (leb maxVariables n ≡ false) → Stopped b (3 * n) n globals
+    go (inl x) = no-room b (3 * n) n globals refl (inl (leb-true maxVariables n x))
+    go (inr x) = no-room b (3 * n) n globals refl (inr (omega (arith, leb-false maxVariables n x, e, l)))

@@ -8,6 +8,7 @@ use lib.Dec.{eqb, ltb}
 use lib.ListN.{length, getD}
 use borrow.Author.Tests.{ltb-true, eqb-true, ne-eqb, lt-ltb, eq-eqb}
 use native.Mathlib.Nat.{le-trans, le-refl}
+use Rattle.ops.specs.Limits.{maxOps}
 use Rattle.theory.specs.Fold.{Known, Rewrite, baseRule}
 use Rattle.theory.specs.Machine.{headOr, pure}
 use Rattle.theory.proofs.Views.{computes-calc}
@@ -44,7 +45,7 @@ rules-le : (T : Table) (x y : Seen) (o : List ℕ) → Le x y → (rule9 x o && 
     → (rule9 y o && (rule4 T y o && (rule5 T y o && (rule6 T y o && rule7 T y o)))) ≡ true
 unfolding rule9 rule4 rule5 rule6 rule7
 rules-le T x y o l h =
-    and-i (rule9 y o) _ (lt-ltb (y .ops) 256 (omega (arith, l .ops, ltb-true (x .ops) 256 (and-l (rule9 x o) _ h))))
+    and-i (rule9 y o) _ (lt-ltb (y .ops) maxOps (omega (arith, l .ops, ltb-true (x .ops) maxOps (and-l (rule9 x o) _ h))))
     (rw (l .classes, l .types, l .labels) (and-r (rule9 x o) (rule4 T x o && (rule5 T x o && (rule6 T x o && rule7 T x o))) h))
 
 ok-le : (T : Table) (x y : Seen) (o : List ℕ) → Le x y → opOk T x o ≡ true → opOk T y o ≡ true

@@ -3,8 +3,9 @@ use mathlib.Core.Path.{_≡_, refl, sym, ap, ap₂, _∙_, subst, fun-ext}
 use mathlib.Core.Bool.{Bool, true, false, cond, not, _&&_, _||_}
 use mathlib.Core.List.{List, [], _∷_}
 use mathlib.Core.Logic.{_⊎_, inl, inr}
-use Prim.Native.Nat.{ℕ, zero, suc, _-_, _≤_, _<_}
+use Prim.Native.Nat.{ℕ, zero, suc, _+_, _≤_, _<_}
 use native.Mathlib.Omega.{arith}
+use native.Mathlib.Numerals.{add-one}
 use lib.Dec.{eqb}
 use lib.ListN.{length, getD, set, replicate}
 use lib.Seq.{getD-set-same, getD-set-other}
@@ -59,25 +60,10 @@ beyond-none [] l h = refl
 beyond-none (x ∷ xs) zero h = absurd (omega arith)
 beyond-none (x ∷ xs) (suc l) h = beyond-none xs l (omega arith)
 
--- rule 7 at the end: what is left to test below i decides the whole
-pub record SetBelow (targets labels : List ℕ) (n i : ℕ) : Type 0 where
-  pub left : allSet (marked targets) (numbered labels) i ≡ allSet (marked targets) (numbered labels) n
-
-pub set-start : (targets labels : List ℕ) (n : ℕ) → SetBelow targets labels n n
-set-start targets labels n = record { left = refl }
-
-module _ {targets labels : List ℕ} {n i : ℕ} (l : SetBelow targets labels n i) (h : 0 < i) where
-  turn : ((not (marked targets (i - 1)) || numbered labels (i - 1)) && allSet (marked targets) (numbered labels) (i - 1)) ≡ allSet (marked targets) (numbered labels) n
-  turn = let e : i ≡ suc (i - 1) = omega arith in rw e at (l .left)
-
-  pub set-next : (not (marked targets (i - 1)) || numbered labels (i - 1)) ≡ true → SetBelow targets labels n (i - 1)
-  set-next t = record { left = rw t at turn }
-
-  pub set-stops : (not (marked targets (i - 1)) || numbered labels (i - 1)) ≡ false → false ≡ allSet (marked targets) (numbered labels) n
-  set-stops t = rw t at turn
-
-pub set-ends : {targets labels : List ℕ} {n i : ℕ} → SetBelow targets labels n i → i ≤ 0 → true ≡ allSet (marked targets) (numbered labels) n
-set-ends {i = i} l h = let e : i ≡ 0 = omega arith in rw e at (l .left)
+-- the labels below i that are jumped to are set, and one more
+pub set-next : (targets labels : List ℕ) (i : ℕ) {all one : Bool} → all ≡ allSet (marked targets) (numbered labels) i → one ≡ (not (marked targets i) || numbered labels i)
+    → (one && all) ≡ allSet (marked targets) (numbered labels) (i + 1)
+set-next targets labels i e q = ap₂ (λ (a b : Bool). a && b) q e ∙ ap (allSet (marked targets) (numbered labels)) (sym (add-one i))
 
 -- rule 7, by the columns of the role
 module _ (row : Row) (labels : Vars) {s j : Bool} (es : s ≡ isSetting (row .role)) (ej : j ≡ isJumping (row .role)) where

@@ -10,7 +10,7 @@ use native.Mathlib.Nat.{mod-eq-of-lt}
 use lib.ListN.{length, getD, set}
 use borrow.Author.Tests.{eqb-true, leb-false, lt-leb, ne-eqb}
 use Rattle.theory.proofs.Sets.{tell, clash}
-use Rattle.ops.specs.Rows.{outsIn, insIn, restIn, roleIn, roleNo, isClosing}
+use Rattle.ops.specs.Rows.{bodyLength, outsIn, insIn, restIn, roleIn, roleNo, isClosing}
 use Rattle.ops.specs.Table.{kindTable, rowOf}
 use Rattle.ops.specs.Fields.{bytesAt}
 use Rattle.ops.specs.Plans.{noOp, lengthBy, lengthIn, planOf, rankOf, planAt, flowRank, exitRank, settingRank, hasLabel}
@@ -66,6 +66,9 @@ module _ {b : List ℕ} {p k : ℕ} (st : Stands rowOf b p k) (n : noOp (getD ki
 
   pub length-here : lengthBy e ≡ 1 + (outsIn e + insIn e + restIn e)
   length-here = rw n
+
+  pub has-body : 1 ≤ bodyLength rowOf k
+  has-body = omega (arith, d .body, op .has-byte)
 
   pub operand-here : p + 1 < length b
   operand-here = omega (arith, st .whole, d .body, op .has-byte)

@@ -93,7 +93,7 @@ module _ (q : Op) where
 
   -- the tests passed, in their order
   pub record Met4 : Type 0 where
-    pub few : q .ops < 256
+    pub few : q .ops < maxOps
     pub declared : declaredAll (q .vars) named ≡ true
 
   pub record Met5 : Type 0 where
@@ -104,11 +104,11 @@ module _ (q : Op) where
     pub before : Met5
     pub rest-so : restOk ≡ true
 
-pub is-9 : (q : Op) → 256 ≤ q .ops → First q 9
+pub is-9 : (q : Op) → maxOps ≤ q .ops → First q 9
 unfolding firstBroken
 is-9 q l = rw (le-ltb (q .ops) maxOps l)
 
-pub is-4 : (q : Op) → q .ops < 256 → declaredAll (q .vars) (named q) ≡ false → First q 4
+pub is-4 : (q : Op) → q .ops < maxOps → declaredAll (q .vars) (named q) ≡ false → First q 4
 unfolding firstBroken
 is-4 q few t = rw (lt-ltb (q .ops) maxOps few, t)
 

@@ -102,3 +102,9 @@ labels-more T (x ∷ os) o i L =
     let e : suc i + length os ≡ i + suc (length os) = omega arith in
     labels-more T os o (suc i) (labelledBy (rowAt T x) (labelBy (rowAt T x) x) i L)
     ∙ ap (λ (n : ℕ). labelledBy (rowAt T o) (labelBy (rowAt T o) o) n (labelsFrom T (suc i) (labelledBy (rowAt T x) (labelBy (rowAt T x) x) i L) os)) e
+
+-- no place is added
+pub places-long : (os : List (List ℕ)) (p i : ℕ) (P : List ℕ) → length (placesFrom p i P os) ≡ length P
+unfolding placesFrom
+places-long [] p i P = refl
+places-long (o ∷ os) p i P = places-long os (p + length o) (suc i) (set P i (p % 65536)) ∙ length-set P i (p % 65536)

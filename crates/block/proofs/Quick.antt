@@ -384,7 +384,7 @@ module _ (b : List ℕ) (p ops : ℕ) (vars labels : List ℕ) (k : ℕ) {e h : 
       go (inl n) = rw (none-stands n)
       go (inr n) = rw (le-leb (length b - p) (outsIn e + insIn e + restIn e) (omega (arith, l, length-so n))) (sym (ap (λ (x : Bool). x && not (eqb (getD b p 0) 1) && opOk e b p ops vars labels) (and-none (isKnown (roleNo (roleIn e))))))
 
-  pub fails-late : 256 ≤ ops → false ≡ passes
+  pub fails-late : maxOps ≤ ops → false ≡ passes
   fails-late l = rw (le-ltb ops maxOps l) (sym (and-none (opStands e b p)))
 
   -- an op stands there, whole
@@ -463,7 +463,7 @@ module _ (b : List ℕ) (p ops : ℕ) (vars labels : List ℕ) (k : ℕ) {e h : 
           few = few-asked (op .sort);
         }
 
-    alike : ops < 256 → (threeFit h b p vars && byteOk (byteTestBy e) (getD b (p + byteAtIn h) 0) && moreOk h b p vars labels) ≡ passes
+    alike : ops < maxOps → (threeFit h b p vars && byteOk (byteTestBy e) (getD b (p + byteAtIn h) 0) && moreOk h b p vars labels) ≡ passes
     alike few = quick-so b p vars labels its-plan (asks-few k q) is-op (op .few-outs) (length-so is-op) (op .sort) ∙ sym (rw (stands-here, lt-ltb ops maxOps few))
 
   -- no op: no byte passes its test
@@ -529,7 +529,7 @@ module _ (b : List ℕ) (p ops : ℕ) (vars labels : List ℕ) (k : ℕ) {e h : 
     passes-straight t y = passes-so t (rw (its-plan .more-so ∙ y))
 
     -- an op that passes reads its first operand, if that is not its output: its byte does not speak against it
-    pub first-met : (n : noOp e ≡ false) → ops < 256 → passes ≡ true → isClosing (roleNo (roleIn e)) ≡ false → outsIn e ≡ 0 → codeAt b vars (p + 1) % 32 < 16
+    pub first-met : (n : noOp e ≡ false) → ops < maxOps → passes ≡ true → isClosing (roleNo (roleIn e)) ≡ false → outsIn e ≡ 0 → codeAt b vars (p + 1) % 32 < 16
     first-met n few y c o =
         let (at-first, asked) = first-read k q z n c o in
         let fit = and-l (threeFit h b p vars) tested-byte (and-l (threeFit h b p vars && tested-byte) (moreOk h b p vars labels) (alike l here n few ∙ y)) in
@@ -538,7 +538,7 @@ module _ (b : List ℕ) (p ops : ℕ) (vars labels : List ℕ) (k : ℕ) {e h : 
         (ap (λ (i : ℕ). meets (firstAskIn h) (codeAt b vars (p + i))) (sym at-first) ∙ met)
 
     -- its label, if it has one, is below the limit
-    pub label-met : (n : noOp e ≡ false) → ops < 256 → passes ≡ true → moreBy e ≡ 2 → getD b (p + lengthIn h - 1) 0 < labelCount
+    pub label-met : (n : noOp e ≡ false) → ops < maxOps → passes ≡ true → moreBy e ≡ 2 → getD b (p + lengthIn h - 1) 0 < labelCount
     unfolding moreOk
     label-met n few y m =
         let all = and-r (threeFit h b p vars && tested-byte) (moreOk h b p vars labels) (alike l here n few ∙ y) in
@@ -590,5 +590,5 @@ module _ (h : ℕ) (b : List ℕ) (p : ℕ) (vars labels : List ℕ) {m : ℕ} (
     unfolding moreOk
     more-4 x y z f = let q : moreIn h ≡ 4 = omega (arith, e) in f ∙ sym (rw q)
 
-pub label-by : (labels b : List ℕ) {i j : ℕ} {r : Bool} → r ≡ numbered labels (getD b i 0) → i ≡ j → (ltb (getD b i 0) labelCount && not r) ≡ labelFits labels (getD b j 0)
-label-by labels b {i} e q = ap (λ (x : Bool). ltb (getD b i 0) labelCount && not x) e ∙ ap (λ (n : ℕ). labelFits labels (getD b n 0)) q
+pub label-by : (labels b : List ℕ) {i j : ℕ} {low r : Bool} → low ≡ ltb (getD b i 0) labelCount → r ≡ numbered labels (getD b i 0) → i ≡ j → (low && not r) ≡ labelFits labels (getD b j 0)
+label-by labels b l e q = ap₂ (λ (x y : Bool). x && not y) l e ∙ ap (λ (n : ℕ). labelFits labels (getD b n 0)) q

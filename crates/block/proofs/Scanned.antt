@@ -3,7 +3,9 @@ use mathlib.Core.Path.{_≡_, refl, sym, ap, _∙_, subst}
 use mathlib.Core.Bool.{true, not}
 use mathlib.Core.List.{List, [], _∷_, _++_, append-assoc, append-nil}
 use Prim.Native.Nat.{ℕ, _+_, _<_}
+use native.Mathlib.Omega.{arith}
 use lib.ListN.{length, getD, replicate}
+use Rattle.ops.specs.Limits.{labelCount}
 use borrow.Author.Tests.{eq-eqb, ne-eqb}
 use Rattle.theory.specs.Sets.{empty}
 use Rattle.ops.specs.Fields.{kindOf}
@@ -37,7 +39,7 @@ begins-by {T = T} {b = b} {vars = vars} {p = p} {n = n} {globals = globals} d z 
     record { n = n; globals = globals; after = subst (λ (v : List ℕ). Declaring T b v vars p n globals) z (d .declaring); no-more = d .no-more e }
 
 -- a declaration is refused: no op has been read
-pub scan-refused : {T : Table} {b vars₀ vars : List ℕ} {rule p n globals : ℕ} (places labels : List ℕ) → DeclaredBy T b vars₀ vars rule p n globals → vars₀ ≡ replicate 256 15 → (rule ≡ 0 → ⊥) → labels ≡ replicate 32 0
+pub scan-refused : {T : Table} {b vars₀ vars : List ℕ} {rule p n globals : ℕ} (places labels : List ℕ) → DeclaredBy T b vars₀ vars rule p n globals → vars₀ ≡ replicate 256 15 → (rule ≡ 0 → ⊥) → labels ≡ replicate labelCount 0
     → Scanned T b places vars places labels rule p p n globals 0
 unfolding placesFrom labelsFrom
 scan-refused {T = T} {b = b} {rule = rule} {p = p} places labels s f k z =
@@ -57,8 +59,9 @@ scan-refused {T = T} {b = b} {rule = rule} {p = p} places labels s f k z =
       start-is = d .place-is;
       ops-at = ap (λ (x : List (List ℕ)). x ++ recordsAt T b p) (sym (q .1));
       count-is = ap length (sym (q .1));
+      held = omega arith;
       places-are = ap (placesFrom p 0 places) (sym (q .1));
-      labels-are = z ∙ ap (labelsFrom T 0 (replicate 32 0)) (sym (q .1));
+      labels-are = z ∙ ap (labelsFrom T 0 (replicate labelCount 0)) (sym (q .1));
     }
 
 -- the declarations have been read, and then ops
@@ -83,8 +86,9 @@ scan-done {T = T} {b = b} {places₀ = places₀} {p = p} {place = place} s f e 
       start-is = d .place-is;
       ops-at = u .records-are ∙ ap (λ (x : List (List ℕ)). x ++ recordsAt T b place) (sym (q .1));
       count-is = sym (u .count) ∙ ap length (sym (q .1));
+      held = u .held;
       places-are = u .places-are ∙ ap (placesFrom p 0 places₀) (sym (q .1));
-      labels-are = u .labels-are ∙ ap (labelsFrom T 0 (replicate 32 0)) (sym (q .1));
+      labels-are = u .labels-are ∙ ap (labelsFrom T 0 (replicate labelCount 0)) (sym (q .1));
     }
 
 module _ {T : Table} {b places₀ base places labels : List ℕ} {rule place start n globals ops : ℕ} (s : Scanned T b places₀ base places labels rule place start n globals ops) where
@@ -109,6 +113,7 @@ module _ {T : Table} {b places₀ base places labels : List ℕ} {rule place sta
         start-is = s .start-is;
         ops-are = s .ops-at ∙ ap (λ (x : List (List ℕ)). opsFrom (s .before) ++ x) (s .all-read e) ∙ append-nil (opsFrom (s .before)) ∙ ap opsFrom all;
         count-is = s .count-is ∙ ap (λ (x : List (List ℕ)). length (opsFrom x)) all;
+        held = s .held;
         places-are = s .places-are ∙ ap (λ (x : List (List ℕ)). placesFrom start 0 places₀ (opsFrom x)) all;
-        labels-are = s .labels-are ∙ ap (λ (x : List (List ℕ)). labelsFrom T 0 (replicate 32 0) (opsFrom x)) all;
+        labels-are = s .labels-are ∙ ap (λ (x : List (List ℕ)). labelsFrom T 0 (replicate labelCount 0) (opsFrom x)) all;
       }

@@ -10,6 +10,7 @@ use lib.ListN.{length, getD, drop, set, replicate, length-append}
 use borrow.Author.Tests.{ltb-true, ltb-false, eqb-true, eqb-false, eq-eqb, ne-eqb, leb-false, le-leb, lt-leb, not-true}
 use native.Mathlib.Nat.{zero-add, add-zero}
 use native.Mathlib.Numerals.{add-one}
+use Rattle.ops.specs.Limits.{maxVariables, maxOps, labelCount}
 use Rattle.theory.specs.Sets.{Vars}
 use Rattle.theory.proofs.Sets.{tell, and-l, and-r}
 use Rattle.ops.specs.Rows.{known, bodyLength, Table}
@@ -19,7 +20,6 @@ use Rattle.ops.specs.Plans.{exitRank}
 use Rattle.ops.proofs.Entry.{Digits}
 use Rattle.block.proofs.Codes.{coded-next}
 use Rattle.block.proofs.Cut.{bytes-more}
-use Rattle.block.proofs.Declaring.{classes-length}
 use Rattle.block.proofs.OpRules.{Op, tests-alike, stopped-not, no-op, no-fit, op-fits}
 use Rattle.block.proofs.Views.{row-at, output-bytes, label-byte}
 use Rattle.block.specs.Checks.{asks, firstBroken, opRules, rulesOf, endRules, refusedOr, checkBy}
@@ -85,16 +85,16 @@ late-rule s r h =
     (and-l (eqb (s .ops) 0) (leb (classOf r) 2)
     (and-l (eqb (s .ops) 0 && leb (classOf r) 2) (leb (typeOf r) 1)
     (and-l (eqb (s .ops) 0 && leb (classOf r) 2 && leb (typeOf r) 1) (not (eqb (classOf r) 0) || allGlobal (s .classes))
-    (and-l (eqb (s .ops) 0 && leb (classOf r) 2 && leb (typeOf r) 1 && (not (eqb (classOf r) 0) || allGlobal (s .classes))) (ltb (length (s .classes)) 64) h))))
+    (and-l (eqb (s .ops) 0 && leb (classOf r) 2 && leb (typeOf r) 1 && (not (eqb (classOf r) 0) || allGlobal (s .classes))) (ltb (length (s .classes)) maxVariables) h))))
 
-few-rule : (s : Seen) (r : List ℕ) → rule9 s r ≡ true → s .ops < 256
+few-rule : (s : Seen) (r : List ℕ) → rule9 s r ≡ true → s .ops < maxOps
 unfolding rule9
-few-rule s r h = ltb-true (s .ops) 256 h
+few-rule s r h = ltb-true (s .ops) maxOps h
 
 -- the record breaks no rule: it is an op of declared variables, and not one too many
 pub record SoundOp (T : Table) (s : Seen) (b : List ℕ) (p : ℕ) : Type 0 where
   pub is-op : getD b p 0 ≡ 1 → ⊥
-  pub few : s .ops < 256
+  pub few : s .ops < maxOps
   pub declared : rule4 T s (recordAt T b p) ≡ true
 
 op-here : (T : Table) (s : Seen) (b : List ℕ) (p : ℕ) → recordRule T s b p ≡ 0 → (getD b p 0 ≡ 1 → s .ops ≡ 0 → ⊥) → SoundOp T s b p
@@ -205,7 +205,7 @@ module _ {T : Table} {b : List ℕ} {start : ℕ} {places₀ base vars labels ta
   its-op : SoundOp T (s .seen) b p
   its-op = op-here T (s .seen) b p (k .sound) (λ d q. s .first-op (sym (s .ops-so) ∙ q) (k .here) d)
 
-  pub few-ops-here : ops < 256
+  pub few-ops-here : ops < maxOps
   few-ops-here = omega (arith, its-op .few, s .ops-so)
 
   whole-here : WholeAt T b p
@@ -231,10 +231,10 @@ module _ {T : Table} {b : List ℕ} {start : ℕ} {places₀ base vars labels ta
   unfolding rule4
   outs-below = below-left (length (s .seen .classes)) (outsBy (rowAt T (recordAt T b p)) (recordAt T b p)) (insBy (rowAt T (recordAt T b p)) (recordAt T b p)) (its-op .declared)
 
-  pub again-at : {m n : ℕ} → m ≡ bodyLength T (getD b p 0) → eqb n exitRank ≡ eqb (getD b p 0) 0x04 → (vars′ labels′ targets′ : List ℕ)
+  pub again-at : {m n : ℕ} → m ≡ bodyLength T (getD b p 0) → 1 ≤ m → ops < length places₀ → eqb n exitRank ≡ eqb (getD b p 0) 0x04 → (vars′ labels′ targets′ : List ℕ)
       → Marks T (recordAt T b p) ops base vars vars′ labels labels′ targets targets′
       → Reading T b start places₀ base vars′ labels′ targets′ (set places ops (p % 65536)) (p + (1 + m)) (ops + 1) n
-  again-at {m} z exits vars′ labels′ targets′ w =
+  again-at {m} z long room exits vars′ labels′ targets′ w =
       let q : p + (1 + m) ≡ p + suc (bodyLength T (getD b p 0)) = omega (arith, z) in
       let row = rowAt T (recordAt T b p) in
       rw q
@@ -246,7 +246,6 @@ module _ {T : Table} {b : List ℕ} {start : ℕ} {places₀ base vars labels ta
             ∙ sym (at-place T (s .seen) b p (k .here)) ∙ s .goes-on;
         coded = coded-next (s .based) (s .coded) row vars′ (outsBy row (recordAt T b p)) (w .codes-so) outs-below;
         based = s .based;
-        declared = s .declared;
         labels-so = ap (λ (ls : Vars). markedBy (isSetting (row .role)) ls (labelBy row (recordAt T b p))) (s .labels-so) ∙ sym (w .labelled .labels-so);
         targets-so = ap (λ (ts : Vars). markedBy (isJumping (row .role)) ts (labelBy row (recordAt T b p))) (s .targets-so) ∙ sym (w .targets-so);
         ops-so = ap suc (s .ops-so) ∙ sym (add-one ops);
@@ -264,6 +263,8 @@ module _ {T : Table} {b : List ℕ} {start : ℕ} {places₀ base vars labels ta
                 s .up-to .records-are ∙ ap (λ (c : Cut). s .up-to .read ++ c .records) cut-here
                 ∙ sym (append-assoc (s .up-to .read) (recordAt T b p ∷ []) (recordsAt T b (p + suc (bodyLength T (getD b p 0)))));
             spans = omega (arith, bytes-more (s .up-to .read) (recordAt T b p), s .up-to .spans, long-here);
+            least = omega (arith, s .up-to .least, z, long);
+            held = omega (arith, room);
             count = length-append (s .up-to .read) (recordAt T b p ∷ []) ∙ ap (λ (n : ℕ). n + 1) (s .up-to .count);
             places-are =
                 ap₂ (λ (P : List ℕ) (n : ℕ). set P n (p % 65536)) (s .up-to .places-are) (sym (zero-add (length (s .up-to .read)) ∙ s .up-to .count))
@@ -272,7 +273,7 @@ module _ {T : Table} {b : List ℕ} {start : ℕ} {places₀ base vars labels ta
             labels-are =
                 w .labelled .numbers-so
                 ∙ ap₂ (λ (n : ℕ) (ls : List ℕ). labelledBy (rowAt T (recordAt T b p)) (labelBy (rowAt T (recordAt T b p)) (recordAt T b p)) n ls) (sym (zero-add (length (s .up-to .read)) ∙ s .up-to .count)) (s .up-to .labels-are)
-                ∙ sym (labels-more T (s .up-to .read) (recordAt T b p) 0 (replicate 32 0));
+                ∙ sym (labels-more T (s .up-to .read) (recordAt T b p) 0 (replicate labelCount 0));
           }
 
 -- the end
@@ -288,7 +289,7 @@ module _ {T : Table} {b : List ℕ} {start : ℕ} {places₀ base vars labels ta
   unfolding firstBroken rule10
   scanning-10 q = record { answers = rw (sym (s .last-so) ∙ q) at end-answer; up-to = s .up-to; all-read = λ z. rest }
 
-  module _ {r : Bool} (q : eqb last exitRank ≡ true) (e : r ≡ allSet (marked targets) (numbered labels) 32) where
+  module _ {r : Bool} (q : eqb last exitRank ≡ true) (e : r ≡ allSet (marked targets) (numbered labels) labelCount) where
     pub scanning-7 : r ≡ false → ScannedBy T b start places₀ places labels 7 p ops
     unfolding firstBroken rule10 rule7end
     scanning-7 t = record { answers = rw (sym (s .last-so) ∙ q, s .targets-so, s .labels-so, sym e ∙ t) at end-answer; up-to = s .up-to; all-read = λ z. rest }
@@ -298,8 +299,8 @@ module _ {T : Table} {b : List ℕ} {start : ℕ} {places₀ base vars labels ta
     scanning-0 t = record { answers = rw (sym (s .last-so) ∙ q, s .targets-so, s .labels-so, sym e ∙ t) at end-answer; up-to = s .up-to; all-read = λ z. rest }
 
 -- the start, after the declarations
-pub begins-start : {T : Table} {b base labels : List ℕ} {p : ℕ} (places₀ : List ℕ) → Begins T b base p → labels ≡ replicate 32 0
-    → Reading T b p places₀ base base labels (replicate 32 0) places₀ p 0 0
+pub begins-start : {T : Table} {b base labels : List ℕ} {p : ℕ} (places₀ : List ℕ) → Begins T b base p → labels ≡ replicate labelCount 0
+    → Reading T b p places₀ base base labels (replicate labelCount 0) places₀ p 0 0
 unfolding placesFrom labelsFrom
 begins-start {T = T} {b = b} {labels = labels} {p = p} places₀ g z =
     record {
@@ -307,9 +308,8 @@ begins-start {T = T} {b = b} {labels = labels} {p = p} places₀ g z =
       goes-on = g .after .goes-on;
       coded = g .after .coded refl;
       based = g .after .coded refl;
-      declared = omega (arith, classes-length (g .after .before), g .after .count, g .after .few);
-      labels-so = sym (numbered-none 32 z);
-      targets-so = sym (marked-none 32 refl);
+      labels-so = sym (numbered-none labelCount z);
+      targets-so = sym (marked-none labelCount refl);
       ops-so = refl;
       last-so = refl;
       up-to = at-first;
@@ -318,7 +318,7 @@ begins-start {T = T} {b = b} {labels = labels} {p = p} places₀ g z =
     }
   where
     at-first : UpTo T b p places₀ places₀ labels p 0
-    at-first = record { read = []; records-are = refl; spans = add-zero p; count = refl; places-are = refl; labels-are = z }
+    at-first = record { read = []; records-are = refl; spans = add-zero p; count = refl; least = omega arith; held = omega arith; places-are = refl; labels-are = z }
 
 pub begins-inside : {T : Table} {b base : List ℕ} {p : ℕ} → Begins T b base p → p ≤ length b
 begins-inside g = g .after .reached

@@ -5,30 +5,22 @@ use mathlib.Core.Bool.{Bool, true, false}
 use mathlib.Core.List.{List}
 use Prim.Native.Nat.{ℕ, _+_, _-_, _%_, _≤_, _<_}
 use native.Mathlib.Omega.{arith}
-use lib.Dec.{eqb, ltb}
+use lib.Dec.{eqb}
 use lib.ListN.{length, getD, set}
-use borrow.Author.Tests.{eqb-true, le-ltb}
+use borrow.Author.Tests.{eqb-true}
 use Rattle.theory.proofs.Sets.{tell, and-l, and-r, clash}
-use Rattle.theory.specs.Sets.{empty}
-use Rattle.ops.specs.Limits.{maxVariables, labelCount}
+use Rattle.ops.specs.Limits.{labelCount}
 use Rattle.ops.specs.Rows.{bodyLength, outsIn, insIn, restIn}
 use Rattle.ops.specs.Table.{kindTable, rowOf}
 use Rattle.ops.specs.Plans.{noOp, lengthBy, moreBy, lengthIn, planOf, rankOf, planAt, exitRank}
 use Rattle.ops.proofs.Entry.{digits}
 use Rattle.ops.proofs.Plans.{plan, plan-at, ranked-op}
-use Rattle.block.specs.Scan.{recordAt, codeOf, SameBeyond, opStands, opOk, opPasses, entryRule, endRule, marked, numbered, ScannedBy, Marks, FirstReady, LabelLow, Reading}
+use Rattle.block.specs.Scan.{recordAt, RoomFor, opStands, opOk, opPasses, entryRule, endRule, marked, numbered, ScannedBy, Marks, FirstReady, LabelLow, Reading}
 use Rattle.block.specs.Rules.{allSet}
 use Rattle.block.proofs.Codes.{code-small}
 use Rattle.block.proofs.Quick.{some-op, first-met, label-met}
-use Rattle.block.proofs.Marking.{length-here}
+use Rattle.block.proofs.Marking.{length-here, has-body}
 use Rattle.block.proofs.Scanning.{Sound, stopped-at, unfit-at, sound-at, few-ops-here, stands-at, again-at, whole-op, scanning-10, scanning-7, scanning-0}
-
--- beyond the variables' bytes none changes
-pub same-beyond : {b : List ℕ} {start : ℕ} {places₀ base vars labels targets places : List ℕ} {p ops last : ℕ} → Reading rowOf b start places₀ base vars labels targets places p ops last → SameBeyond base vars
-same-beyond {base = base} {vars = vars} s = record { beyond = λ v h. ap (λ (f : ℕ → ℕ). f v) (s .coded .codes-are) ∙ none v h ∙ sym (ap (λ (f : ℕ → ℕ). f v) (s .based .codes-are)) }
-  where
-    none : (v : ℕ) → maxVariables ≤ v → codeOf (s .seen .classes) (s .seen .types) (s .seen .written) v ≡ codeOf (s .seen .classes) (s .seen .types) empty v
-    none v h = let l : ltb v (length (s .seen .classes)) ≡ false = le-ltb v (length (s .seen .classes)) (omega (arith, s .declared, h)) in rw l
 
 module _ {b : List ℕ} {start : ℕ} {places₀ base vars labels targets places : List ℕ} {p ops last : ℕ}
     (s : Reading rowOf b start places₀ base vars labels targets places p ops last) (here : p < length b) {r : Bool} (t : r ≡ opPasses (getD kindTable (getD b p 0) 0) b p ops vars labels) where
@@ -62,14 +54,21 @@ module _ {b : List ℕ} {start : ℕ} {places₀ base vars labels targets places
       pub inside : p + n ≤ length b
       inside = omega (arith, long, whole-op sound)
 
+      body : 1 ≤ bodyLength rowOf (getD b p 0)
+      body = has-body (stands-at sound) is-op
+
       pub further : 0 < n
       further = omega (arith, long)
 
-      pub again : (vars′ labels′ targets′ : List ℕ) → Marks rowOf (recordAt rowOf b p) ops base vars vars′ labels labels′ targets targets′
+      -- there is room for its place
+      pub room : RoomFor b places₀ → ops < length places₀
+      room h = omega (arith, long, body, inside, s .up-to .least, few-ops-here sound, h)
+
+      pub again : RoomFor b places₀ → (vars′ labels′ targets′ : List ℕ) → Marks rowOf (recordAt rowOf b p) ops base vars vars′ labels labels′ targets targets′
           → Reading rowOf b start places₀ base vars′ labels′ targets′ (set places ops (p % 65536)) (p + n) (ops + 1) r′
-      again vars′ labels′ targets′ m =
+      again h vars′ labels′ targets′ m =
           subst (λ (i : ℕ). Reading rowOf b start places₀ base vars′ labels′ targets′ (set places ops (p % 65536)) i (ops + 1) r′) (ap (λ (i : ℕ). p + i) (sym long))
-          (again-at sound refl (ranked-op (getD b p 0) refl z is-op .exits) vars′ labels′ targets′ m)
+          (again-at sound refl body (room h) (ranked-op (getD b p 0) refl z is-op .exits) vars′ labels′ targets′ m)
 
     whole-length : lengthIn (planOf e) ≤ length b - p
     whole-length =
@@ -94,9 +93,9 @@ module _ {b : List ℕ} {start : ℕ} {places₀ base vars labels targets places
 -- the end
 pub ends-at : {b : List ℕ} {start : ℕ} {places₀ base vars labels targets places : List ℕ} {p ops last rule : ℕ} → Reading rowOf b start places₀ base vars labels targets places p ops last
     → length b ≤ p → rule ≡ endRule (eqb last exitRank) targets labels → ScannedBy rowOf b start places₀ places labels rule p ops
-ends-at {b} {start} {places₀} {labels = labels} {targets = targets} {places = places} {p = p} {ops = ops} {last = last} {rule = rule} s h e = go (tell (eqb last exitRank)) (tell (allSet (marked targets) (numbered labels) 32))
+ends-at {b} {start} {places₀} {labels = labels} {targets = targets} {places = places} {p = p} {ops = ops} {last = last} {rule = rule} s h e = go (tell (eqb last exitRank)) (tell (allSet (marked targets) (numbered labels) labelCount))
   where
-    go : (eqb last exitRank ≡ true) ⊎ (eqb last exitRank ≡ false) → (allSet (marked targets) (numbered labels) 32 ≡ true) ⊎ (allSet (marked targets) (numbered labels) 32 ≡ false) → ScannedBy rowOf b start places₀ places labels rule p ops
+    go : (eqb last exitRank ≡ true) ⊎ (eqb last exitRank ≡ false) → (allSet (marked targets) (numbered labels) labelCount ≡ true) ⊎ (allSet (marked targets) (numbered labels) labelCount ≡ false) → ScannedBy rowOf b start places₀ places labels rule p ops
     go (inr x) y = let q : rule ≡ 10 = e ∙ rw x in rw q (scanning-10 s h x)
     go (inl x) (inr y) = let q : rule ≡ 7 = e ∙ rw (x, y) in rw q (scanning-7 s h x refl y)
     go (inl x) (inl y) = let q : rule ≡ 0 = e ∙ rw (x, y) in rw q (scanning-0 s h x refl y)

@@ -35,7 +35,7 @@ abbrev pub allGlobal : List ℕ → Bool
 allGlobal [] = true
 allGlobal (c ∷ cs) = eqb c 0 && allGlobal cs
 
--- 3: "declaration after an op, bad class or type, global after a temporary of either class, 65th variable"
+-- 3: "declaration after an op, bad class or type, global after a temporary of either class", a variable beyond the limit
 unfoldable pub rule3 : Seen → List ℕ → Bool
 rule3 s r = eqb (s .ops) 0 && leb (classOf r) 2 && leb (typeOf r) 1 && (not (eqb (classOf r) 0) || allGlobal (s .classes)) && ltb (length (s .classes)) maxVariables
 
@@ -59,7 +59,7 @@ haveTypes types (v ∷ vs) (t ∷ ts) = eqb (getD types v 0) t && haveTypes type
 unfoldable pub rule5 : Table → Seen → List ℕ → Bool
 rule5 T s r = haveTypes (s .types) (operandsOf T r) ((rowAt T r) .outs ++ (rowAt T r) .ins)
 
--- 6: "cond above 9, bad flags, label above 31, 32-bit movi of 2^32 or more"; and of fields and swaps: "Breaches get refusal 6."
+-- 6: "cond above 9, bad flags", a label beyond the limit, "32-bit movi of 2^32 or more"; and of fields and swaps: "Breaches get refusal 6."
 unfoldable pub rule6 : Table → Seen → List ℕ → Bool
 rule6 T s r = testOk ((rowAt T r) .test) (restBy (rowAt T r) r)
 
@@ -74,7 +74,7 @@ rule7 T s r = labelFree (rowAt T r) (s .labels) (labelBy (rowAt T r) r)
 unfoldable pub rule8 : Table → Seen → List ℕ → Bool
 rule8 T s r = allIn (keptIn (s .classes)) (insBy (rowAt T r) r) (s .written)
 
--- 9: "257th op"
+-- 9: an op beyond the limit
 unfoldable pub rule9 : Seen → List ℕ → Bool
 rule9 s r = ltb (s .ops) maxOps
 

@@ -2,7 +2,7 @@
 use mathlib.Core.Path.{_≡_}
 use mathlib.Core.Bool.{Bool, true, false, cond, not, _&&_, _||_}
 use mathlib.Core.List.{List, [], _∷_, _++_}
-use Prim.Native.Nat.{ℕ, zero, suc, _+_, _-_, _*_, _/_, _%_, _^_, _≤_, _<_}
+use Prim.Native.Nat.{ℕ, zero, suc, _+_, _-_, _*_, _/_, _%_, _^_, _≤_, _<_, min}
 use lib.Bits.{bitAnd}
 use lib.Dec.{eqb, ltb, leb}
 use lib.ListN.{length, getD, take, drop, set, replicate}
@@ -146,14 +146,14 @@ pub record Declaring (T : Table) (block vars₀ vars : List ℕ) (place n global
   pub place-is : place ≡ 3 * n
   pub spans : length (recordBytes before) ≡ place
   pub reached : place ≤ length block
-  pub few : n ≤ 64
+  pub few : n ≤ maxVariables
   pub vars-are : vars ≡ codesFrom 0 vars₀ before
   pub coded : vars₀ ≡ replicate 256 15 → Coded vars (classesOf before) (declaredTypes before) empty
   pub long-vars : length vars ≡ length vars₀
 
 -- rule 3 of the n-th variable's declaration, where so many are globals
 unfoldable pub declarationOk : ℕ → ℕ → ℕ → ℕ → Bool
-declarationOk class type globals n = leb class 2 && leb type 1 && (not (eqb class 0) || eqb globals n) && ltb n 64
+declarationOk class type globals n = leb class 2 && leb type 1 && (not (eqb class 0) || eqb globals n) && ltb n maxVariables
 
 -- three bytes declare a global; or another variable
 abbrev pub declaresGlobal : ℕ → ℕ → ℕ → Bool
@@ -283,12 +283,18 @@ labelsFrom T i labels (o ∷ os) = labelsFrom T (suc i) (labelledBy (rowAt T o) 
 abbrev pub recordsAt : Table → List ℕ → ℕ → List (List ℕ)
 recordsAt T block place = (cutOf T (drop place block)) .records
 
--- the ops from start up to a place: how many there are, and that the arrays hold where each of them and each label is
+-- an array has room for a number for each op that a block can have: an op has at least two bytes
+abbrev pub RoomFor : List ℕ → List ℕ → Type 0
+RoomFor block places = min (length block / 2) maxOps ≤ length places
+
+-- the ops from start up to a place: how many there are, each of at least two bytes, and that the arrays hold where each of them and each label is
 pub record UpTo (T : Table) (block : List ℕ) (start : ℕ) (places₀ places labels : List ℕ) (place ops : ℕ) : Type 0 where
   pub read : List (List ℕ)
   pub records-are : recordsAt T block start ≡ read ++ recordsAt T block place
   pub spans : start + length (recordBytes read) ≡ place
   pub count : length read ≡ ops
+  pub least : 2 * ops ≤ place
+  pub held : ops ≤ length places₀
   pub places-are : places ≡ placesFrom start 0 places₀ read
   pub labels-are : labels ≡ labelsFrom T 0 (replicate labelCount 0) read
 
@@ -301,10 +307,6 @@ pub record ScannedBy (T : Table) (block : List ℕ) (start : ℕ) (places₀ pla
 -- the rule that is broken at the end, after an op that is exit_tb or not; 0 if none
 abbrev pub endRule : Bool → List ℕ → List ℕ → ℕ
 endRule exits targets labels = cond (not exits) 10 (cond (allSet (marked targets) (numbered labels) labelCount) 0 7)
-
--- no byte beyond those of the variables that can be declared has changed
-pub record SameBeyond (base vars : List ℕ) : Type 0 where
-  pub beyond : (v : ℕ) → maxVariables ≤ v → codesIn vars v ≡ codesIn base v
 
 -- the variables' bytes after an op, from those at the start of an extended basic block
 abbrev pub codesBy : Row → (ℕ → ℕ) → (ℕ → ℕ) → List ℕ → ℕ → ℕ
@@ -330,14 +332,13 @@ pub record Reading (T : Table) (b : List ℕ) (start : ℕ) (places₀ base vars
   pub goes-on : checkAt T seen b p ≡ checkBy T b
   pub coded : Coded vars (seen .classes) (seen .types) (seen .written)
   pub based : Coded base (seen .classes) (seen .types) empty
-  pub declared : length (seen .classes) ≤ maxVariables
   pub labels-so : seen .labels ≡ numbered labels
   pub targets-so : seen .targets ≡ marked targets
   pub ops-so : seen .ops ≡ ops
   pub last-so : eqb last exitRank ≡ eqb (seen .last) 0x04
   pub up-to : UpTo T b start places₀ places labels p ops
   pub first-op : ops ≡ 0 → p < length b → getD b p 0 ≡ 1 → ⊥
-  pub few : ops ≤ 256
+  pub few : ops ≤ maxOps
 
 -- what the scan tells of an accepted block, with the declarations and ops as the definitions have them
 pub record Approved (T : Table) (block places₀ base places labels : List ℕ) (start n globals ops : ℕ) : Type 0 where
@@ -346,10 +347,11 @@ pub record Approved (T : Table) (block places₀ base places labels : List ℕ) 
   pub coded : Coded base (classesOf (declarations (recordsOf T block))) (declaredTypes (declarations (recordsOf T block))) empty
   pub long-base : length base ≡ 256
   pub globals-are : globals ≡ globalCount (classesOf (declarations (recordsOf T block)))
-  pub few : n ≤ 64
+  pub few : n ≤ maxVariables
   pub start-is : start ≡ 3 * n
   pub ops-are : recordsAt T block start ≡ opsFrom (recordsOf T block)
   pub count-is : ops ≡ length (opsFrom (recordsOf T block))
+  pub held : ops ≤ length places₀
   pub places-are : places ≡ placesFrom start 0 places₀ (opsFrom (recordsOf T block))
   pub labels-are : labels ≡ labelsFrom T 0 (replicate labelCount 0) (opsFrom (recordsOf T block))
 
@@ -364,9 +366,10 @@ pub record Scanned (T : Table) (block places₀ base places labels : List ℕ) (
   pub coded : Coded base (classesOf (declarations before)) (declaredTypes (declarations before)) empty
   pub long-base : length base ≡ 256
   pub globals-are : globals ≡ globalCount (classesOf (declarations before))
-  pub few : n ≤ 64
+  pub few : n ≤ maxVariables
   pub start-is : start ≡ 3 * n
   pub ops-at : recordsAt T block start ≡ opsFrom before ++ recordsAt T block place
   pub count-is : ops ≡ length (opsFrom before)
+  pub held : ops ≤ length places₀
   pub places-are : places ≡ placesFrom start 0 places₀ (opsFrom before)
   pub labels-are : labels ≡ labelsFrom T 0 (replicate labelCount 0) (opsFrom before)

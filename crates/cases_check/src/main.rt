@@ -54,7 +54,7 @@ fn repeat(bytes: &mut [u8], start: usize, count: usize, x: u8, y: u8, z: u8) -> 
     at
 }
 
-// "64 variables pass, the 65th gets 3": so many 64-bit globals, and exit_tb.
+// Case 11 as request 05 moves it, 200 variables pass, the 201st gets 3: so many 64-bit globals, and exit_tb.
 fn variables(name: &[u8], bytes: &mut [u8], count: usize) {
     let at = repeat(bytes, 0, count, 0x01, 0, 1);
     let after = put(bytes, at, 0x04);
@@ -62,7 +62,7 @@ fn variables(name: &[u8], bytes: &mut [u8], count: usize) {
     run(name, bytes);
 }
 
-// "256 ops pass, the 257th gets 9": a 64-bit global, so many mov_i64 before exit_tb.
+// 1,024 ops pass, the 1,025th gets 9: a 64-bit global, so many mov_i64 before exit_tb.
 fn moves(name: &[u8], bytes: &mut [u8], count: usize) {
     let start = repeat(bytes, 0, 1, 0x01, 0, 1);
     let at = repeat(bytes, start, count, 0x91, 0, 0);
@@ -72,14 +72,14 @@ fn moves(name: &[u8], bytes: &mut [u8], count: usize) {
 }
 
 fn case_11() {
-    let mut few = [0u8; 194];
-    variables(b"case 11: 64 variables", &mut few, 64);
-    let mut more = [0u8; 197];
-    variables(b"case 11: 65 variables", &mut more, 65);
-    let mut most = [0u8; 770];
-    moves(b"case 11: 256 ops", &mut most, 255);
-    let mut over = [0u8; 773];
-    moves(b"case 11: 257 ops", &mut over, 256);
+    let mut few = [0u8; 602];
+    variables(b"case 11: 200 variables", &mut few, 200);
+    let mut more = [0u8; 605];
+    variables(b"case 11: 201 variables", &mut more, 201);
+    let mut most = [0u8; 3074];
+    moves(b"case 11: 1,024 ops", &mut most, 1023);
+    let mut over = [0u8; 3077];
+    moves(b"case 11: 1,025 ops", &mut over, 1024);
 }
 
 fn case_1() {
@@ -100,7 +100,8 @@ fn refusals_to_6() {
     );
     run(b"variable not declared", b"\x01\x00\x01\x04\x01");
     run(b"wrong width", b"\x01\x00\x00\x04\x00");
-    run(b"label above 31", b"\x01\x00\x01\x02\x20\x04\x00");
+    run(b"label 127", b"\x01\x00\x01\x02\x7F\x04\x00");
+    run(b"label above 127", b"\x01\x00\x01\x02\x80\x04\x00");
 }
 
 fn refusals_from_7() {

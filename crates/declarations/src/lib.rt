@@ -3,10 +3,11 @@ ghost use mathlib.Core.Path.{_≡_};
 ghost use mathlib.Core.List.{List};
 ghost use Prim.Native.Nat.{ℕ, _*_, _/_, _≤_, _<_, min};
 ghost use lib.ListN.{length};
+ghost use Rattle.ops.specs.Limits.{maxVariables};
 ghost use Rattle.ops.specs.Rows.{Table};
 ghost use Rattle.ops.specs.Lawful.{LawfulTable};
 ghost use Rattle.block.specs.Scan.{codeFor, declaresGlobal, declaresOther, declaredRule, Declaring, NoGlobal, Stopped, DeclaredBy};
-use ops::MAX_VARIABLES;
+use limits::most_variables;
 
 // The byte of a variable: it has no other type, and may not be read unless it outlives an extended basic block.
 fn code(class: u8, ty: u8) -> u8
@@ -14,14 +15,6 @@ fn code(class: u8, ty: u8) -> u8
     ensures { λ r. ⌜ r ≡ codeFor class ty ⌝ }
 {
     if class < 2 { 14 - ty } else { 30 - ty }
-}
-
-// How many declarations there can be at most in so many bytes.
-fn most(length: usize) -> usize
-    ensures { λ r. ⌜ r ≡ min (length / 3) 64 ⌝ }
-{
-    let n = length / 3;
-    if n < MAX_VARIABLES { n } else { MAX_VARIABLES }
 }
 
 // Whether these three bytes declare a global; or another variable.
@@ -39,7 +32,7 @@ fn declares_other(kind: u8, class: u8, ty: u8) -> bool
 
 // Reads declarations of globals, up to the first record that is none; how many there are.
 fn count_globals(block: &[u8], limit: usize, vars: &mut [u8; 256]) -> usize
-    requires { ⌜ limit ≡ min (length (now block) / 3) 64 ⌝ }
+    requires { ⌜ limit ≡ min (length (now block) / 3) maxVariables ⌝ }
     ensures { λ r. ⌜ ((T : Table) → LawfulTable T → Declaring T (now (block .entry)) (now (vars .entry)) (now (vars .exit)) (3 * r) r r) × (r ≤ limit) × NoGlobal (now (block .entry)) limit r ⌝ }
 {
     let mut n: usize = 0;
@@ -57,8 +50,8 @@ fn count_globals(block: &[u8], limit: usize, vars: &mut [u8; 256]) -> usize
 
 // Reads declarations after the globals, up to the first record that is no good one; how many variables there are.
 fn count_others(block: &[u8], limit: usize, globals: usize, vars: &mut [u8; 256]) -> usize
-    requires { ⌜ (globals ≤ limit) × NoGlobal (now block) limit globals × (limit ≡ min (length (now block) / 3) 64) ⌝ }
-    ensures { λ r. ⌜ ((T : Table) → LawfulTable T → (vars₀ : List ℕ) → Declaring T (now (block .entry)) vars₀ (now (vars .entry)) (3 * globals) globals globals → Declaring T (now (block .entry)) vars₀ (now (vars .exit)) (3 * r) r globals) × Stopped (now (block .entry)) (3 * r) r globals × (r ≤ 64) ⌝ }
+    requires { ⌜ (globals ≤ limit) × NoGlobal (now block) limit globals × (limit ≡ min (length (now block) / 3) maxVariables) ⌝ }
+    ensures { λ r. ⌜ ((T : Table) → LawfulTable T → (vars₀ : List ℕ) → Declaring T (now (block .entry)) vars₀ (now (vars .entry)) (3 * globals) globals globals → Declaring T (now (block .entry)) vars₀ (now (vars .exit)) (3 * r) r globals) × Stopped (now (block .entry)) (3 * r) r globals × (r ≤ maxVariables) ⌝ }
 {
     let mut n = globals;
     while n < limit {
@@ -102,7 +95,7 @@ fn rule_at(block: &[u8], at: usize) -> u8
 pub fn scan_declarations(block: &[u8], vars: &mut [u8; 256]) -> Declared
     ensures { λ r. ⌜ ((T : Table) → LawfulTable T → DeclaredBy T (now (block .entry)) (now (vars .entry)) (now (vars .exit)) (r .rule) (r .place) (r .variables) (r .globals)) ⌝ }
 {
-    let limit = most(block.len());
+    let limit = most_variables(block.len() / 3);
     let globals = count_globals(block, limit, vars);
     let n = count_others(block, limit, globals, vars);
     let at = 3 * n;

@@ -1,12 +1,14 @@
 // The loop over the ops of an accepted block.
 ghost use mathlib.Core.Path.{_≡_};
 ghost use Prim.Native.Nat.{_+_, _<_};
-ghost use lib.ListN.{getD};
+ghost use lib.ListN.{length, getD};
 ghost use Rattle.theory.specs.Machine.{cost};
+ghost use Rattle.ops.specs.Limits.{maxOps, labelCount};
 ghost use Rattle.ops.specs.Table.{kindTable};
 ghost use Rattle.runs.specs.Runs.{answerOf};
 ghost use Rattle.runs.specs.Steps.{endOf, stateOf, ReadyToRun, Executed};
 use dispatch::step;
+use limits::LABELS;
 use marks::index;
 use runs::Ending;
 use runs::Outcome;
@@ -19,16 +21,16 @@ fn wide(x: u16) -> usize
 }
 
 // The place of the i-th op.
-fn place_of(places: &[u16; 256], i: usize) -> usize
-    requires { ⌜ i < 256 ⌝ }
+fn place_of(places: &[u16], i: usize) -> usize
+    requires { ⌜ i < length (now places) ⌝ }
     ensures { λ r. ⌜ r ≡ getD (now (places .entry)) i 0 ⌝ }
 {
     wide(places[i])
 }
 
 // The number of a label.
-fn number_of(labels: &[u16; 32], l: usize) -> usize
-    requires { ⌜ l < 32 ⌝ }
+fn number_of(labels: &[u16; LABELS], l: usize) -> usize
+    requires { ⌜ l < labelCount ⌝ }
     ensures { λ r. ⌜ r ≡ getD (now (labels .entry)) l 0 ⌝ }
 {
     wide(labels[l])
@@ -36,7 +38,7 @@ fn number_of(labels: &[u16; 32], l: usize) -> usize
 
 // The answer of a run that the op-th op ends, after so many: it counts where it exits or faults.
 fn ended(stop: Stop, op: usize, count: u64) -> Ending
-    requires { ⌜ count < 256 ⌝ }
+    requires { ⌜ count < maxOps ⌝ }
     ensures { λ r. ⌜ r ≡ answerOf (endOf stop) op (count + cost (endOf stop)) ⌝ }
 {
     match stop {
@@ -70,8 +72,8 @@ pub fn execute(
     block: &[u8],
     start: usize,
     ops: usize,
-    places: &[u16; 256],
-    labels: &[u16; 32],
+    places: &[u16],
+    labels: &[u16; LABELS],
     globals: &mut [u64],
     temps: &mut [u64; 256],
     memory: &mut [u8],

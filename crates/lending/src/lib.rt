@@ -1,7 +1,7 @@
 // Rule 11: the lent globals and memory.
 ghost use mathlib.Core.Path.{_≡_};
 ghost use Rattle.runs.specs.Steps.{codeFits, codesFit, lentOk};
-use ops::MAX_MEMORY;
+use limits::memory_fits;
 
 // A global of a variable with this byte, of which bit 0 is clear for 32 bits, is within its width.
 fn fits_type(code: u8, x: u64) -> bool
@@ -24,7 +24,7 @@ fn globals_fit(base: &[u8], globals: &[u64]) -> bool
     true
 }
 
-// Rule 11: as many globals as are declared, each within its width, and at most 65,536 bytes of memory.
+// Rule 11: as many globals as are declared, each within its width, and no more memory than the limit.
 pub fn lent_ok(base: &[u8; 256], declared: usize, globals: &[u64], memory: &[u8]) -> bool
     ensures { λ r. ⌜ r ≡ lentOk (now (base .entry)) declared (now (globals .entry)) (now (memory .entry)) ⌝ }
 {
@@ -34,5 +34,5 @@ pub fn lent_ok(base: &[u8; 256], declared: usize, globals: &[u64], memory: &[u8]
     if !globals_fit(base, globals) {
         return false;
     }
-    memory.len() <= MAX_MEMORY
+    memory_fits(memory.len())
 }

@@ -1,9 +1,9 @@
-// Arrays of 256 entries, one for each byte, and of 32, one for each label: what is known of variables and labels.
+// Arrays of 256 entries, one for each byte, and of LABELS, one for each label: what is known of variables and labels.
 ghost use mathlib.Core.Path.{_≡_};
 ghost use lib.ListN.{length, set};
 ghost use Prim.Native.Nat.{_<_};
 ghost use Rattle.block.specs.Scan.{SetAt, SetLabelAt};
-use ops::LABELS;
+use limits::LABELS;
 
 // A byte as an index.
 pub fn index(x: u8) -> usize
@@ -40,20 +40,22 @@ pub fn put_number(a: &mut [u16; 256], i: u8, x: u16)
     store_number(a, index(i), x);
 }
 
-// A label's place holds its number; no byte from 32 on is a label.
-pub fn put_label(a: &mut [u16; 32], l: u8, x: u16)
+// A label's place holds its number; no byte from LABELS on is a label.
+pub fn put_label(a: &mut [u16; LABELS], l: u8, x: u16)
     ensures { λ _. ⌜ SetLabelAt (now (a .entry)) l x (now (a .exit)) ⌝ }
 {
-    if l < LABELS {
-        store_number(a, index(l), x);
+    let i = index(l);
+    if i < LABELS {
+        store_number(a, i, x);
     }
 }
 
 // The same of a byte.
-pub fn put_target(a: &mut [u8; 32], l: u8, x: u8)
+pub fn put_target(a: &mut [u8; LABELS], l: u8, x: u8)
     ensures { λ _. ⌜ SetLabelAt (now (a .entry)) l x (now (a .exit)) ⌝ }
 {
-    if l < LABELS {
-        store(a, index(l), x);
+    let i = index(l);
+    if i < LABELS {
+        store(a, i, x);
     }
 }

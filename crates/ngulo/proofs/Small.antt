@@ -1,21 +1,24 @@
 -- Places and lengths are small, so that the numbers fit. Assumes nothing.
 use mathlib.Core.Path.{_≡_, refl, sym, ap, _∙_, subst}
 use mathlib.Core.Bool.{Bool, true, false, cond}
-use mathlib.Core.List.{List, [], _∷_}
+use mathlib.Core.List.{List, [], _∷_, _++_}
 use Prim.Native.Nat.{ℕ, suc, _+_, _-_, _*_, _≤_}
 use native.Mathlib.Omega.{arith}
 use lib.Dec.{leb}
 use lib.ListN.{length, length-append}
+use borrow.Author.Tests.{eqb-true}
 use Rattle.theory.specs.Machine.{End, exit, fault, unstated, fell, spent, Result}
 use Rattle.memory.specs.declared.Reason.{Reason}
 use Rattle.memory.specs.declared.Reason.the-variants.{Bounds, Alignment}
 use Rattle.memory.specs.Answer.{reasonNumber}
+use Rattle.ops.specs.Limits.{maxVariables, maxOps, maxBytes}
+use Rattle.ops.specs.Rows.{bodyLength}
 use Rattle.ops.specs.Ops.{tcg}
 use Rattle.ops.specs.Fields.{kindOf}
 use Rattle.ops.specs.Kinds.{document01}
 use Rattle.ops.specs.Table.{rowOf}
 use Rattle.ops.proofs.Table.{body-short}
-use Rattle.ops.proofs.Document01.{lawful}
+use Rattle.ops.proofs.Document01.{lawful, table-lawful}
 use Rattle.block.specs.Checks.{asks, opRules, checkOf}
 use Rattle.block.specs.Meaning.{AllMet, EachMeets}
 use Rattle.block.specs.Records.{recordsOf, recordBytes, isDeclaration, declarations, opsFrom, classOf, classesOf}
@@ -38,54 +41,55 @@ next-is : (s : Seen) (r : List ℕ) (b : Bool) → isDeclaration r ≡ b → nex
 unfolding next
 next-is s r b e = ap (λ (t : Bool). cond t (declared s r) (passed rowOf s r)) e
 
-each-short : (rs : List (List ℕ)) (s : Seen) → EachMeets rowOf s rs → length (recordBytes rs) ≤ 10 * length rs
-each-short [] s e = omega arith
-each-short (r ∷ rs) s e =
-    let m = e [] r rs refl in
-    omega (arith, length-append r (recordBytes rs), m .met1, body-short (kindOf r), each-short rs (next rowOf s r) (λ before q after z. e (r ∷ before) q after (ap (λ (l : List (List ℕ)). r ∷ l) z)))
-
-each-few : (rs : List (List ℕ)) (s : Seen) → EachMeets rowOf s rs → length (s .classes) ≤ 64 → s .ops ≤ 256 → length rs + length (s .classes) + s .ops ≤ 320
-each-few [] s e l n = omega arith
-each-few (r ∷ rs) s e l n = go (isDeclaration r) refl (each-few rs (next rowOf s r) (λ before q after z. e (r ∷ before) q after (ap (λ (k : List (List ℕ)). r ∷ k) z)))
+-- records that meet the rules have no more bytes than the limits allow
+each-small : (rs : List (List ℕ)) (s : Seen) → EachMeets rowOf s rs → length (s .classes) ≤ maxVariables → s .ops ≤ maxOps
+    → length (recordBytes rs) + 3 * length (s .classes) + 10 * s .ops ≤ maxBytes
+each-small [] s e l n = omega arith
+each-small (r ∷ rs) s e l n = go (isDeclaration r) refl (each-small rs (next rowOf s r) (λ before q after z. e (r ∷ before) q after (ap (λ (k : List (List ℕ)). r ∷ k) z)))
   where
+    long : length r ≡ suc (bodyLength rowOf (kindOf r))
+    long = (e [] r rs refl) .met1
+
     met : (b : Bool) → isDeclaration r ≡ b → AllMet (cond b (asks 3 (rule3 s r) ∷ []) (opRules rowOf s r))
     met b d = subst (λ (t : Bool). AllMet (cond t (asks 3 (rule3 s r) ∷ []) (opRules rowOf s r))) d ((e [] r rs refl) .rules)
 
-    go : (b : Bool) → isDeclaration r ≡ b → (length ((next rowOf s r) .classes) ≤ 64 → (next rowOf s r) .ops ≤ 256 → length rs + length ((next rowOf s r) .classes) + (next rowOf s r) .ops ≤ 320)
-        → suc (length rs) + length (s .classes) + s .ops ≤ 320
+    go : (b : Bool) → isDeclaration r ≡ b
+        → (length ((next rowOf s r) .classes) ≤ maxVariables → (next rowOf s r) .ops ≤ maxOps → length (recordBytes rs) + 3 * length ((next rowOf s r) .classes) + 10 * (next rowOf s r) .ops ≤ maxBytes)
+        → length (r ++ recordBytes rs) + 3 * length (s .classes) + 10 * s .ops ≤ maxBytes
     go true d ih =
         let q = next-is s r true d in
         let c : length ((next rowOf s r) .classes) ≡ length (s .classes) + 1 = ap (λ (t : Seen). length (t .classes)) q ∙ length-append (s .classes) (classOf r ∷ []) in
         let o : (next rowOf s r) .ops ≡ s .ops = ap (λ (t : Seen). t .ops) q in
         let b = room3 s r ((met true d) .0) in
-        omega (arith, ih (omega arith) (omega arith))
+        let three : length r ≡ 3 = long ∙ ap (λ (k : ℕ). suc (bodyLength rowOf k)) (eqb-true (kindOf r) 0x01 d) ∙ ap suc (table-lawful .declared-body) in
+        omega (arith, length-append r (recordBytes rs), three, ih (omega arith) (omega arith))
     go false d ih =
         let q = next-is s r false d in
         let c : length ((next rowOf s r) .classes) ≡ length (s .classes) = ap (λ (t : Seen). length (t .classes)) q in
         let o : (next rowOf s r) .ops ≡ suc (s .ops) = ap (λ (t : Seen). t .ops) q in
         let b = room9 s r ((met false d) .0) in
-        omega (arith, ih (omega arith) (omega arith))
+        omega (arith, length-append r (recordBytes rs), long, body-short (kindOf r), ih (omega arith) (omega arith))
 
--- a refusal stands at a place of at most 3,200
-pub place-small : (block : List ℕ) (number place : ℕ) → checkOf block ≡ Refused number place → place ≤ 3200
+-- so a refusal stands at no place beyond them
+pub place-small : (block : List ℕ) (number place : ℕ) → checkOf block ≡ Refused number place → place ≤ maxBytes
 place-small block number place e =
     let b = (refused-means rowOf block number place) .refused-broken e in
-    omega (arith, b .place-is, each-short (b .before) start (b .each), each-few (b .before) start (b .each) (omega arith) (omega arith))
+    omega (arith, b .place-is, each-small (b .before) start (b .each) (omega arith) (omega arith))
 
 -- the numbers of an answer fit
 abbrev pub SmallVerdict : Verdict → Type 0
 SmallVerdict Accepted = Unit {0}
-SmallVerdict (Refused number place) = place ≤ 4096
+SmallVerdict (Refused number place) = place ≤ maxBytes
 
 pub verdict-small : (block : List ℕ) (v : Verdict) → v ≡ checkOf block → SmallVerdict v
 verdict-small block Accepted e = tt
 verdict-small block (Refused number place) e = omega (arith, place-small block number place (sym e))
 
 abbrev pub SmallWritten : Written → Type 0
-SmallWritten (PassRefused number place) = place ≤ 4096
-SmallWritten (Length n) = n ≤ 4096
+SmallWritten (PassRefused number place) = place ≤ maxBytes
+SmallWritten (Length n) = n ≤ maxBytes
 
-pub result-small : (block : List ℕ) → checkOf block ≡ Accepted → length (resultOf document01 block) ≤ 2752
+pub result-small : (block : List ℕ) → checkOf block ≡ Accepted → length (resultOf document01 block) ≤ maxBytes
 result-small block h =
     let p = parts lawful block h in
     let e = result-of block (declarations (recordsOf rowOf block)) (opsFrom (recordsOf rowOf block)) p in
@@ -106,7 +110,7 @@ unfolding passBy
 written-small block out w e = subst SmallWritten (sym e) (written-by block out (checkOf block) refl)
 
 abbrev pub SmallEnding : Ending → Type 0
-SmallEnding (RunRefused number place) = place ≤ 4096
+SmallEnding (RunRefused number place) = place ≤ maxBytes
 SmallEnding (Exit value count) = Unit {0}
 SmallEnding (Fault store address flags reason count) = Unit {0}
 SmallEnding (NoResult position count) = Unit {0}
@@ -135,16 +139,16 @@ unfolding runBy
 ending-small block globals memory w e = subst SmallEnding (sym e) (ending-by block globals memory (checkOf block) refl)
 
 -- a refusal's place, as the calls answer it
-pub check-place : (block : List ℕ) {v : Verdict} {number place : ℕ} → v ≡ checkOf block → v ≡ Refused number place → place ≤ 4096
+pub check-place : (block : List ℕ) {v : Verdict} {number place : ℕ} → v ≡ checkOf block → v ≡ Refused number place → place ≤ maxBytes
 check-place block {v} {number} {place} e q = verdict-small block (Refused number place) (sym q ∙ e)
 
-pub pass-place : (block out : List ℕ) {w : Written} {number place : ℕ} → w ≡ (passOf block out) .answer → w ≡ PassRefused number place → place ≤ 4096
+pub pass-place : (block out : List ℕ) {w : Written} {number place : ℕ} → w ≡ (passOf block out) .answer → w ≡ PassRefused number place → place ≤ maxBytes
 pass-place block out {w} {number} {place} e q = written-small block out (PassRefused number place) (sym q ∙ e)
 
-pub pass-length : (block out : List ℕ) {w : Written} {n : ℕ} → w ≡ (passOf block out) .answer → w ≡ Length n → n ≤ 4096
+pub pass-length : (block out : List ℕ) {w : Written} {n : ℕ} → w ≡ (passOf block out) .answer → w ≡ Length n → n ≤ maxBytes
 pass-length block out {w} {n} e q = written-small block out (Length n) (sym q ∙ e)
 
-pub run-place : (block globals memory : List ℕ) {w : Ending} {globals′ memory′ : List ℕ} {number place : ℕ} → ranAs w globals′ memory′ ≡ runOf block globals memory → w ≡ RunRefused number place → place ≤ 4096
+pub run-place : (block globals memory : List ℕ) {w : Ending} {globals′ memory′ : List ℕ} {number place : ℕ} → ranAs w globals′ memory′ ≡ runOf block globals memory → w ≡ RunRefused number place → place ≤ maxBytes
 run-place block globals memory {w} {globals′} {memory′} {number} {place} e q =
     ending-small block globals memory (RunRefused number place) (sym q ∙ ap (λ (r : Ran). r .answer) e)
 

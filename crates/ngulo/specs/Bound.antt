@@ -6,11 +6,12 @@ use lib.ListN.{length}
 use Rattle.block.specs.Checks.{checkOf}
 use Rattle.block.specs.declared.Verdict.the-variants.{Accepted}
 use Rattle.ops.specs.Kinds.{document01}
+use Rattle.ops.specs.Limits.{maxBytes}
 use Rattle.passes.specs.Passes.{resultOf}
 
--- for every accepted block: at most 2,752 bytes, and at most ten for each three of the block
+-- for every accepted block: at most `maxBytes` bytes, and at most ten for each three of the block
 pub record Bounded (block : List ℕ) : Type 0 where
-  pub most : length (resultOf document01 block) ≤ 2752
+  pub most : length (resultOf document01 block) ≤ maxBytes
   pub ten-for-three : 3 * length (resultOf document01 block) ≤ 10 * length block
 
 abbrev pub ResultBound : Type 0

@@ -2,6 +2,7 @@
 ghost use mathlib.Core.Path.{_≡_};
 ghost use mathlib.Core.List.{[], _∷_};
 ghost use Prim.Native.Nat.{_≤_};
+ghost use Rattle.ops.specs.Limits.{maxBytes};
 ghost use Rattle.block.specs.Checks.{checkOf};
 ghost use Rattle.runs.specs.Runs.{runOf};
 ghost use Rattle.passes.specs.Passes.{passOf};
@@ -23,7 +24,7 @@ fn wide(x: u8) -> u64
 
 // A refusal as a number.
 fn refused(number: u8, place: usize) -> u64
-    requires { ⌜ place ≤ 4096 ⌝ }
+    requires { ⌜ place ≤ maxBytes ⌝ }
     ensures { λ r. ⌜ r ≡ refusal number place ⌝ }
 {
     wide(number) + 256 * place as u64
@@ -34,7 +35,7 @@ fn refused(number: u8, place: usize) -> u64
 pub extern "C" fn ngulo_version() -> u64
     ensures { λ r. ⌜ r ≡ version ⌝ }
 {
-    65536 * 0 + 256 * 6 + 0
+    65536 * 0 + 256 * 7 + 0
 }
 
 // 0 if the block is accepted, else number + 256 * place.

@@ -5,13 +5,14 @@ ghost use mathlib.Core.List.{[], _∷_};
 ghost use Prim.Native.Nat.{_+_, _-_, _≤_, _<_};
 ghost use lib.Dec.{leb};
 ghost use lib.ListN.{length, getD};
+ghost use Rattle.ops.specs.Limits.{maxOps};
 ghost use Rattle.ops.specs.Table.{rowOf};
 ghost use Rattle.ops.specs.Plans.{noOp, lengthIn, rankOf, planAt, exitRank, entryAt};
-ghost use Rattle.block.specs.Scan.{SameBeyond, recordAt, Stands, codesIn, openAll, FirstReady, LabelLow, LabelMarks, setsLabel, jumpsTo, Marks};
+ghost use Rattle.block.specs.Scan.{recordAt, Stands, codesIn, openAll, FirstReady, LabelLow, LabelMarks, setsLabel, jumpsTo, Marks};
+use limits::LABELS;
 use marks::put;
 use marks::put_label;
 use marks::put_target;
-use ops::MAX_VARIABLES;
 use plans::closes;
 use plans::directs;
 use plans::labelled;
@@ -35,10 +36,10 @@ fn mark_label(
     block: &[u8],
     at: usize,
     op: usize,
-    labels: &mut [u16; 32],
-    targets: &mut [u8; 32],
+    labels: &mut [u16; LABELS],
+    targets: &mut [u8; LABELS],
 )
-    requires { ⌜ (at + lengthIn (planAt rank) ≤ length (now block)) × (1 < lengthIn (planAt rank)) × LabelLow rank (now block) at × (op < 1024) ⌝ }
+    requires { ⌜ (at + lengthIn (planAt rank) ≤ length (now block)) × (1 < lengthIn (planAt rank)) × LabelLow rank (now block) at × (op < maxOps) ⌝ }
     ensures { λ _. ⌜ LabelMarks (setsLabel rank) (jumpsTo rank) (getD (now (block .entry)) (at + lengthIn (planAt rank) - 1) 0) op (now (labels .entry)) (now (labels .exit)) (now (targets .entry)) (now (targets .exit)) ⌝ }
 {
     if !labelled(rank) {
@@ -52,25 +53,12 @@ fn mark_label(
     put_target(targets, l, 1);
 }
 
-// The variables' bytes are those at the start of an extended basic block.
-fn restart(base: &[u8; 256], vars: &mut [u8; 256])
-    requires { ⌜ SameBeyond (now base) (now vars) ⌝ }
-    ensures { λ _. ⌜ codesIn (now (vars .exit)) ≡ codesIn (now (base .entry)) ⌝ }
-{
-    let mut v: u8 = 0;
-    while (v as usize) < MAX_VARIABLES {
-        put(vars, v, code(base, v));
-        v += 1;
-    }
-}
-
-// The same where an op of this rank ends one.
+// Where an op of this rank ends an extended basic block, the variables' bytes are those at its start.
 fn end_block(rank: u8, base: &[u8; 256], vars: &mut [u8; 256])
-    requires { ⌜ SameBeyond (now base) (now vars) ⌝ }
     ensures { λ _. ⌜ codesIn (now (vars .exit)) ≡ cond (leb exitRank rank) (codesIn (now (base .entry))) (codesIn (now (vars .entry))) ⌝ }
 {
     if closes(rank) {
-        restart(base, vars);
+        *vars = *base;
     }
 }
 
@@ -82,10 +70,10 @@ pub fn mark_op(
     op: usize,
     base: &[u8; 256],
     vars: &mut [u8; 256],
-    labels: &mut [u16; 32],
-    targets: &mut [u8; 32],
+    labels: &mut [u16; LABELS],
+    targets: &mut [u8; LABELS],
 )
-    requires { ⌜ SameBeyond (now base) (now vars) × Stands rowOf (now block) at (getD (now block) at 0) × (op < 1024) × (rank ≡ rankOf (entryAt (now block) at)) × (noOp (entryAt (now block) at) ≡ false) × FirstReady (entryAt (now block) at) (now block) at (now vars) × LabelLow rank (now block) at ⌝ }
+    requires { ⌜ Stands rowOf (now block) at (getD (now block) at 0) × (op < maxOps) × (rank ≡ rankOf (entryAt (now block) at)) × (noOp (entryAt (now block) at) ≡ false) × FirstReady (entryAt (now block) at) (now block) at (now vars) × LabelLow rank (now block) at ⌝ }
     ensures { λ r. ⌜ Marks rowOf (recordAt rowOf (now (block .entry)) at) op (now (base .entry)) (now (vars .entry)) (now (vars .exit)) (now (labels .entry)) (now (labels .exit)) (now (targets .entry)) (now (targets .exit)) ⌝ }
 {
     if !directs(rank) {

@@ -7,9 +7,10 @@ ghost use lib.ListN.{length, getD};
 ghost use Rattle.memory.specs.Bytes.{lowFirst};
 ghost use Rattle.ops.specs.Plans.{lengthBy, lengthIn, firstAskIn, rankOf, entryAt};
 ghost use Rattle.block.specs.Scan.{Placed, codeAt, meets, threeFit, refusalTable, labelFits, bytesPass, moreOk, opPasses};
+use limits::LABELS;
+use limits::is_label;
+use limits::op_fits;
 use memory::from_little_endian;
-use ops::LABELS;
-use ops::MAX_OPS;
 use plans::byte_ask;
 use plans::byte_at;
 use plans::first_ask;
@@ -50,12 +51,12 @@ fn inputs_fit(h: u64, block: &[u8], at: usize, vars: &[u8; 256]) -> bool
 }
 
 // Its label, the last byte, is below the limit and not set yet.
-fn label_ok(h: u64, block: &[u8], at: usize, labels: &[u16; 32]) -> bool
+fn label_ok(h: u64, block: &[u8], at: usize, labels: &[u16; LABELS]) -> bool
     requires { ⌜ (at + lengthIn h ≤ length (now block)) × (1 < lengthIn h) ⌝ }
     ensures { λ r. ⌜ r ≡ labelFits (now (labels .entry)) (getD (now (block .entry)) (at + lengthIn h - 1) 0) ⌝ }
 {
     let l = block[at + length(h) - 1];
-    (l < LABELS) & !is_set(labels, l)
+    is_label(l) & !is_set(labels, l)
 }
 
 // A constant, the eight bytes from a place on, is below 2^32.
@@ -78,7 +79,7 @@ fn bytes_ok(h: u64, block: &[u8], at: usize) -> bool
 }
 
 // What else its plan asks.
-fn more_ok(h: u64, block: &[u8], at: usize, vars: &[u8; 256], labels: &[u16; 32]) -> bool
+fn more_ok(h: u64, block: &[u8], at: usize, vars: &[u8; 256], labels: &[u16; LABELS]) -> bool
     requires { ⌜ Placed h (now block) at ⌝ }
     ensures { λ r. ⌜ r ≡ moreOk h (now (block .entry)) at (now (vars .entry)) (now (labels .entry)) ⌝ }
 {
@@ -107,7 +108,7 @@ pub fn op_ok(
     at: usize,
     op: usize,
     vars: &[u8; 256],
-    labels: &[u16; 32],
+    labels: &[u16; LABELS],
 ) -> bool
     requires { ⌜ (at < length (now block)) × (rank ≡ rankOf (entryAt (now block) at)) × (n ≡ lengthBy (entryAt (now block) at)) × (now refusals ≡ refusalTable) ⌝ }
     ensures { λ r. ⌜ r ≡ opPasses (entryAt (now (block .entry)) at) (now (block .entry)) at op (now (vars .entry)) (now (labels .entry)) ⌝ }
@@ -117,7 +118,7 @@ pub fn op_ok(
         return false;
     }
     let x = block[at + byte_at(h)];
-    if !(three_fit(h, block, at, vars) & byte_ok(refusals, byte_ask(h), x) & (op < MAX_OPS)) {
+    if !(three_fit(h, block, at, vars) & byte_ok(refusals, byte_ask(h), x) & op_fits(op)) {
         return false;
     }
     if straight(rank) {

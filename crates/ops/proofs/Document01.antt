@@ -30,7 +30,7 @@ use Rattle.ops.proofs.Lawful.{Constant, States, Lawful}
 use Rattle.ops.proofs.Folding.{single}
 use Rattle.ops.specs.Folds.{foldableRow, moviKind, moviOf}
 
--- rule 6 asks that a label be below 32
+-- rule 6 asks that a label be below the limit
 module _ (o : List ℕ) where
   abbrev Asked : Row → Type 0
   Asked row = testOk (row .test) (restBy row o) ≡ true → labelBy row o < labelCount

@@ -1,3 +1,4 @@
+pub mod Bounds
 pub mod Lawful
 pub mod Ranges
 pub mod Table

@@ -1,5 +1,6 @@
 pub mod Limits
 pub mod Rows
+pub mod Bounds
 pub mod Fields
 pub mod Table
 pub mod Eval

@@ -137,7 +137,7 @@ pureKind T k = isPure (roleOf T k)
 abbrev pub at : List ℕ → ℕ → ℕ
 at xs i = getD xs i 0
 
--- refused: "cond above 9", "label above 31", a 32-bit value "of 2^32 or more"
+-- refused: "cond above 9", a label beyond the limit, a 32-bit value "of 2^32 or more"
 abbrev pub condOk : ℕ → Bool
 condOk c = leb c 9
 

@@ -5,8 +5,13 @@ ghost use Prim.Native.Nat.{ℕ, _≤_};
 ghost use lib.Dec.{ltb};
 ghost use lib.ListN.{getD};
 ghost use Rattle.ops.specs.Shapes.{shapeTable};
+ghost use Rattle.block.specs.Scan.{RoomFor};
 ghost use Rattle.passes.specs.Passes.{Optimised};
 ghost use Rattle.passes.specs.Ready.{classBy, classIn, ReadyToPass};
+use limits::FEW_OPS;
+use limits::LABELS;
+use limits::MAX_OPS;
+use limits::SHORT_OPS;
 use passes::Written;
 use rewrite::write_result;
 use scan::scan;
@@ -37,21 +42,49 @@ fn classes_of(base: &[u8; 256], globals: usize, n: usize) -> [u8; 256]
     of
 }
 
-// The pass of an accepted block, with room for the marks and the constants of 64 ops.
+// The pass of an accepted block, with room for the marks and the constants of FEW_OPS ops.
 fn write_short(
     shapes: &[u16; 256],
     block: &[u8],
     start: usize,
     ops: usize,
-    places: &[u16; 256],
+    places: &[u16],
     classes: &[u8; 256],
     out: &mut [u8],
 ) -> Written
     requires { ⌜ ReadyToPass (now block) (now places) (now classes) start ops × (ops ≤ 64) × (now shapes ≡ shapeTable) ⌝ }
     ensures { λ r. ⌜ Optimised (now (block .entry)) (now (out .entry)) r (now (out .exit)) ⌝ }
 {
-    let mut marks = [0u8; 64];
-    let mut constants = [0u64; 64];
+    let mut marks = [0u8; FEW_OPS];
+    let mut constants = [0u64; FEW_OPS];
+    write_result(
+        shapes,
+        block,
+        start,
+        ops,
+        places,
+        classes,
+        &mut marks,
+        &mut constants,
+        out,
+    )
+}
+
+// The same, with room for those of SHORT_OPS ops.
+fn write_middle(
+    shapes: &[u16; 256],
+    block: &[u8],
+    start: usize,
+    ops: usize,
+    places: &[u16],
+    classes: &[u8; 256],
+    out: &mut [u8],
+) -> Written
+    requires { ⌜ ReadyToPass (now block) (now places) (now classes) start ops × (ops ≤ 256) × (now shapes ≡ shapeTable) ⌝ }
+    ensures { λ r. ⌜ Optimised (now (block .entry)) (now (out .entry)) r (now (out .exit)) ⌝ }
+{
+    let mut marks = [0u8; SHORT_OPS];
+    let mut constants = [0u64; SHORT_OPS];
     write_result(
         shapes,
         block,
@@ -71,15 +104,15 @@ fn write_long(
     block: &[u8],
     start: usize,
     ops: usize,
-    places: &[u16; 256],
+    places: &[u16],
     classes: &[u8; 256],
     out: &mut [u8],
 ) -> Written
     requires { ⌜ ReadyToPass (now block) (now places) (now classes) start ops × (now shapes ≡ shapeTable) ⌝ }
     ensures { λ r. ⌜ Optimised (now (block .entry)) (now (out .entry)) r (now (out .exit)) ⌝ }
 {
-    let mut marks = [0u8; 256];
-    let mut constants = [0u64; 256];
+    let mut marks = [0u8; MAX_OPS];
+    let mut constants = [0u64; MAX_OPS];
     write_result(
         shapes,
         block,
@@ -93,14 +126,14 @@ fn write_long(
     )
 }
 
-// The pass of a block: its result's length, the result in out; or the rule that is broken.
-pub fn pass(block: &[u8], out: &mut [u8]) -> Written
+// The pass, with room for the places of the ops.
+fn pass_with(block: &[u8], out: &mut [u8], places: &mut [u16]) -> Written
+    requires { ⌜ RoomFor (now block) (now places) ⌝ }
     ensures { λ r. ⌜ Optimised (now (block .entry)) (now (out .entry)) r (now (out .exit)) ⌝ }
 {
     let mut base = [15u8; 256];
-    let mut places = [0u16; 256];
-    let mut labels = [0u16; 32];
-    let s = scan(block, &mut base, &mut places, &mut labels);
+    let mut labels = [0u16; LABELS];
+    let s = scan(block, &mut base, places, &mut labels);
     let rule = s.rule;
     if rule != 0 {
         return Written::Refused {
@@ -110,8 +143,23 @@ pub fn pass(block: &[u8], out: &mut [u8]) -> Written
     }
     let shapes = table();
     let classes = classes_of(&base, s.globals, s.variables);
-    if s.ops <= 64 {
-        return write_short(&shapes, block, s.start, s.ops, &places, &classes, out);
+    if s.ops <= FEW_OPS {
+        return write_short(&shapes, block, s.start, s.ops, places, &classes, out);
     }
-    write_long(&shapes, block, s.start, s.ops, &places, &classes, out)
+    if s.ops <= SHORT_OPS {
+        return write_middle(&shapes, block, s.start, s.ops, places, &classes, out);
+    }
+    write_long(&shapes, block, s.start, s.ops, places, &classes, out)
+}
+
+// The pass of a block: its result's length, the result in out; or the rule that is broken.
+pub fn pass(block: &[u8], out: &mut [u8]) -> Written
+    ensures { λ r. ⌜ Optimised (now (block .entry)) (now (out .entry)) r (now (out .exit)) ⌝ }
+{
+    if block.len() <= 2 * SHORT_OPS {
+        let mut places = [0u16; SHORT_OPS];
+        return pass_with(block, out, &mut places);
+    }
+    let mut places = [0u16; MAX_OPS];
+    pass_with(block, out, &mut places)
 }

@@ -14,6 +14,7 @@ use Rattle.theory.proofs.PruneBy.{Agree}
 use Rattle.theory.proofs.Sets.{and-l, and-r}
 use Rattle.theory.proofs.Simulation.{unspent, stated, definite, notFell, proper, Matches, same-run}
 use Rattle.ops.specs.Ops.{Fault, tcg, Dialect}
+use Rattle.ops.specs.Limits.{maxMemory}
 use Rattle.block.specs.Records.{classesOf, declaredTypes, globalCount}
 use Rattle.block.proofs.Parts.{Parts}
 use Rattle.runs.specs.Runs.{globalsFit, fits, entry, valuesFrom, Ran, answerOf, ranOf, opsRun, runOps, runChecked, runBy}
@@ -77,7 +78,7 @@ fit-count : (ds : List (List ℕ)) (globals memory : List ℕ) → fits ds globa
 unfolding fits
 fit-count ds globals memory f =
     let a : (eqb (length globals) (globalCount (classesOf ds)) && globalsFit (declaredTypes ds) globals) ≡ true =
-    and-l (eqb (length globals) (globalCount (classesOf ds)) && globalsFit (declaredTypes ds) globals) (leb (length memory) 65536) f in
+    and-l (eqb (length globals) (globalCount (classesOf ds)) && globalsFit (declaredTypes ds) globals) (leb (length memory) maxMemory) f in
     eqb-true (length globals) (globalCount (classesOf ds)) (and-l (eqb (length globals) (globalCount (classesOf ds))) (globalsFit (declaredTypes ds) globals) a)
 
 -- neither run is out of steps: that of the result is the same with the block's limit as with its own

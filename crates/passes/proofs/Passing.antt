@@ -18,6 +18,9 @@ use Rattle.block.specs.Checks.{checkOf, checkBy}
 use Rattle.block.specs.Records.{cutOf, recordsOf, recordBytes, declarations, opsFrom, classesOf}
 use Rattle.block.specs.Rules.{start as unread, globalsIn, keptIn}
 use Rattle.block.specs.Scan.{Approved, Scanned}
+use Rattle.ops.specs.Limits.{maxOps, maxBytes}
+use Rattle.ops.proofs.Bounds.{limits-fit}
+use Rattle.block.proofs.Places.{places-long}
 use Rattle.block.proofs.Accepts.{check-accepts}
 use Rattle.block.proofs.Checker.{declaredIn, few-ops}
 use Rattle.block.proofs.Cut.{split-records}
@@ -63,10 +66,10 @@ module _ {block places classes : List ℕ} {start ops : ℕ} (r : ReadyToPass bl
   pub declared-fit : start ≤ length block
   declared-fit = omega (arith, r .start-is, length-append (recordBytes ds) (recordBytes os), ap length (accepted-bytes block (r .accepted)))
 
-  pub few-here : ops ≤ 256
+  pub few-here : ops ≤ maxOps
   few-here = omega (arith, r .count-is, few-ops document01 (declaredIn unread ds) os (its-parts .checked) (omega arith))
 
-  result-small : length (resultOf document01 block) ≤ 2752
+  result-small : length (resultOf document01 block) ≤ maxBytes
   result-small =
       let e : resultOf document01 block ≡ recordBytes (ds ++ passOps document01 (classesOf ds) os) = result-of block ds os its-parts in
       let b = parts-size lawful (recordBytes (ds ++ passOps document01 (classesOf ds) os)) ds (passOps document01 (classesOf ds) os) ((kept-parts lawful block ds os its-parts) .1) in
@@ -96,7 +99,7 @@ module _ {block places classes : List ℕ} {start ops : ℕ} (r : ReadyToPass bl
     result-size : start + size ≡ length (resultOf document01 block)
     result-size = omega (arith, ap length result-is, length-append (recordBytes ds) left, r .start-is, k .size-is)
 
-    pub size-small : start + size ≤ 2752
+    pub size-small : start + size ≤ maxBytes
     size-small = omega (arith, result-size, result-small)
 
     -- too short a buffer
@@ -139,11 +142,11 @@ module _ {block places₀ base places labels : List ℕ} {start n globals ops : 
   all-bytes : start + length (recordBytes ops-in) ≡ length block
   all-bytes = omega (arith, start-so, length-append (recordBytes declared) (recordBytes ops-in), ap length (accepted-bytes block (a .accepted)))
 
-  ops-few : length ops-in ≤ 256
+  ops-few : length ops-in ≤ maxOps
   ops-few = omega (arith, few-ops document01 (declaredIn unread declared) ops-in (its .checked) (omega arith))
 
   block-small : length block < 65536
-  block-small = omega (arith, all-bytes, a .start-is, a .few, ops-few, ops-size lawful ops-in (its .wholes .1))
+  block-small = omega (arith, limits-fit .places, all-bytes, a .start-is, a .few, ops-few, ops-size lawful ops-in (its .wholes .1))
 
   -- the classes of its variables
   classed : (of : List ℕ) → ((v : ℕ) → getD of v 2 ≡ cond (ltb v n) (classIn base globals v) 2) → ClassesOf (classesOf declared) of
@@ -151,9 +154,9 @@ module _ {block places₀ base places labels : List ℕ} {start n globals ops : 
       classes-so of globals (a .coded) (λ v. globals-first rowOf unread declared (its .all-declared) (its .met) v ∙ ap (ltb v) (sym (a .globals-are)))
       (λ v. c v ∙ ap (λ (m : ℕ). cond (ltb v m) (classIn base globals v) 2) (sym (classes-length declared ∙ a .variables)))
 
-  ready : length places₀ ≡ 256 → (of : List ℕ) → ((v : ℕ) → getD of v 2 ≡ cond (ltb v n) (classIn base globals v) 2) → ReadyToPass block places of start ops
-  ready l of c =
-      let room : length ops-in ≤ length places₀ = omega (arith, ops-few) in
+  ready : (of : List ℕ) → ((v : ℕ) → getD of v 2 ≡ cond (ltb v n) (classIn base globals v) 2) → ReadyToPass block places of start ops
+  ready of c =
+      let room : length ops-in ≤ length places₀ = omega (arith, a .held, a .count-is) in
       record {
         accepted = a .accepted;
         start-is = start-so;
@@ -161,17 +164,18 @@ module _ {block places₀ base places labels : List ℕ} {start n globals ops : 
         laid = rw (a .count-is) (scan-laid block places₀ places start ops-in (a .ops-are) (a .places-are) room all-bytes block-small);
         ops-are = rw (a .count-is) (scan-ops block places₀ places start ops-in (a .ops-are) (a .places-are) room all-bytes block-small);
         count-is = a .count-is;
+        held = omega (arith, a .held, ap length (a .places-are), places-long ops-in start 0 places₀);
         classes-are = classed of c;
       }
 
   few : n ≤ 256
-  few = omega (arith, a .few)
+  few = omega (arith, limits-fit .variables, a .few)
 
 -- of an accepted block
 module _ {block places₀ base places labels : List ℕ} {start n globals ops : ℕ} where
-  pub ready-by : {rule place : ℕ} → Scanned rowOf block places₀ base places labels rule place start n globals ops → rule ≡ 0 → length places₀ ≡ 256 → (of : List ℕ)
+  pub ready-by : {rule place : ℕ} → Scanned rowOf block places₀ base places labels rule place start n globals ops → rule ≡ 0 → (of : List ℕ)
       → ((v : ℕ) → getD of v 2 ≡ cond (ltb v n) (classIn base globals v) 2) → ReadyToPass block places of start ops
-  ready-by s e l of c = ready (approve s e) l of c
+  ready-by s e of c = ready (approve s e) of c
 
   pub few-by : {rule place : ℕ} → Scanned rowOf block places₀ base places labels rule place start n globals ops → rule ≡ 0 → n ≤ 256
   few-by s e = few (approve s e)

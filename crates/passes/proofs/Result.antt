@@ -22,6 +22,7 @@ use Rattle.ops.specs.Fields.{kindOf}
 use Rattle.ops.proofs.Folding.{constants}
 use Rattle.ops.proofs.Lawful.{Lawful}
 use Rattle.ops.specs.Folds.{folding}
+use Rattle.ops.specs.Limits.{maxBytes}
 use Rattle.block.specs.Records.{recordBytes, isDeclaration, classesOf}
 use Rattle.block.proofs.Lenient.{lenient, cutting, admits}
 use Rattle.block.proofs.Parts.{Parts, joined}
@@ -74,8 +75,8 @@ pub concat-append : (xs ys : List (List ℕ)) → recordBytes (xs ++ ys) ≡ rec
 concat-append [] ys = refl
 concat-append (x ∷ xs) ys = ap (λ (q : List ℕ). x ++ q) (concat-append xs ys) ∙ sym (append-assoc x (recordBytes xs) (recordBytes ys))
 
--- at most 2,752 bytes
-pub parts-size : {D : Dialect} (law : Lawful D) (block : List ℕ) (ds os : List (List ℕ)) → Parts D block ds os → length (recordBytes (ds ++ os)) ≤ 2752
+-- no more bytes than the limits allow
+pub parts-size : {D : Dialect} (law : Lawful D) (block : List ℕ) (ds os : List (List ℕ)) → Parts D block ds os → length (recordBytes (ds ++ os)) ≤ maxBytes
 parts-size {D = D} law block ds os p =
     omega (
       arith,

@@ -11,6 +11,7 @@ use Rattle.memory.specs.declared.Reason.{Reason}
 use Rattle.ops.specs.Ops.{tcg, Dialect}
 use Rattle.ops.specs.Kinds.{document01}
 use Rattle.ops.specs.Folds.{folding}
+use Rattle.ops.specs.Limits.{maxBytes}
 use Rattle.block.specs.declared.Verdict.the-variants.{Accepted}
 use Rattle.block.specs.Records.{recordsOf, declarations, opsFrom, classesOf}
 use Rattle.block.specs.Rules.{globalsIn, keptIn}
@@ -61,7 +62,7 @@ pub record Demand3 (D : Dialect) (block out : List ℕ) : Type 0 where
   pub result : List ℕ
   pub answers : passBy D block out ≡ record { answer = Length size; out = result ++ drop size out }
   pub sized : length result ≡ size
-  pub small : size ≤ 2752
+  pub small : size ≤ maxBytes
   -- "its result is accepted"
   pub accepted : IsAccepted D result
   -- "runs to the same exit or fault with the same globals and memory in no more ops (unless the source run meets an op without a stated result)"

@@ -11,6 +11,7 @@ use Rattle.ops.specs.Ops.{tcg}
 use Rattle.ops.specs.Kinds.{document01}
 use Rattle.ops.specs.Table.{rowOf}
 use Rattle.ops.specs.Folds.{folding}
+use Rattle.ops.specs.Limits.{maxBytes}
 use Rattle.block.specs.Checks.{Checked}
 use Rattle.block.specs.Records.{recordsOf, declarations, opsFrom, classesOf}
 use Rattle.block.specs.Rules.{globalsIn, keptIn}
@@ -36,7 +37,7 @@ pub record Promise (block out : List ℕ) (answer : Written) (out′ : List ℕ)
   pub result : List ℕ
   pub wrote : Wrote size result out answer out′
   pub sized : length result ≡ size
-  pub small : size ≤ 2752
+  pub small : size ≤ maxBytes
   -- "its result is accepted"
   pub accepted : (verdict : Verdict) → Checked result verdict → verdict ≡ Accepted
   -- "runs to the same exit or fault with the same globals and memory in no more ops (unless the source run meets an op without a stated result)"

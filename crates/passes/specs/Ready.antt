@@ -2,7 +2,7 @@
 use mathlib.Core.Path.{_≡_}
 use mathlib.Core.Bool.{cond}
 use mathlib.Core.List.{List}
-use Prim.Native.Nat.{ℕ}
+use Prim.Native.Nat.{ℕ, _≤_}
 use lib.Dec.{ltb}
 use lib.ListN.{length}
 use Rattle.block.specs.Checks.{checkOf}
@@ -35,4 +35,5 @@ pub record ReadyToPass (block places classes : List ℕ) (start ops : ℕ) : Typ
   pub laid : Laid block places ops
   pub ops-are : opsAt block places 0 ops ≡ opsFrom (recordsOf rowOf block)
   pub count-is : ops ≡ length (opsFrom (recordsOf rowOf block))
+  pub held : ops ≤ length places
   pub classes-are : ClassesOf (classesOf (declarations (recordsOf rowOf block))) classes

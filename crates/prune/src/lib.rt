@@ -5,6 +5,7 @@ ghost use Prim.Native.Nat.{_-_, _≤_};
 ghost use lib.Dec.{eqb};
 ghost use lib.ListN.{length, getD};
 ghost use Rattle.theory.specs.Prune.{dead};
+ghost use Rattle.ops.specs.Limits.{maxOps};
 ghost use Rattle.ops.specs.Ops.{viewOf};
 ghost use Rattle.ops.specs.Kinds.{document01};
 ghost use Rattle.ops.specs.Table.{rowOf};
@@ -57,7 +58,7 @@ pub fn prune(
     classes: &[u8; 256],
     marks: &mut [u8],
 ) -> usize
-    requires { ⌜ Laid (now block) (now places) ops × Noted (now block) (now places) (now marks) ops × Classed (now classes) × (ops ≤ 256) × (ops ≤ length (now places)) × (ops ≤ length (now marks)) × (now shapes ≡ shapeTable) ⌝ }
+    requires { ⌜ Laid (now block) (now places) ops × Noted (now block) (now places) (now marks) ops × Classed (now classes) × (ops ≤ maxOps) × (ops ≤ length (now places)) × (ops ≤ length (now marks)) × (now shapes ≡ shapeTable) ⌝ }
     ensures { λ r. ⌜ Keeps (foldedOps (opsAt (now (block .entry)) (now (places .entry)) 0 ops)) (globalsIn (now (classes .entry))) (keptIn (now (classes .entry))) (now (marks .entry)) (now (marks .exit)) r ⌝ }
 {
     let mut events = [0u16; 256];

@@ -13,7 +13,7 @@ pub fn write_result(
     block: &[u8],
     start: usize,
     ops: usize,
-    places: &[u16; 256],
+    places: &[u16],
     classes: &[u8; 256],
     marks: &mut [u8],
     constants: &mut [u64],

@@ -24,11 +24,12 @@ use kinds::operand_count;
 use kinds::rest;
 use kinds::test;
 use kinds::types;
+use limits::LABELS;
+use limits::is_label;
+use limits::op_fits;
 use memory::byte_at;
 use memory::flags_ok;
 use memory::from_little_endian;
-use ops::LABELS;
-use ops::MAX_OPS;
 
 pub mod refusals;
 
@@ -89,7 +90,7 @@ fn all_typed(block: &[u8], p: usize, count: usize, codes: u32, vars: &[u8; 256])
 fn branch_ok(c: u8, l: u8) -> bool
     ensures { λ r. ⌜ r ≡ (condOk c && labelOk l) ⌝ }
 {
-    c <= 9 && l < LABELS
+    c <= 9 && is_label(l)
 }
 
 // Rule 6: the bytes that follow the operands, by the number of their test.
@@ -97,7 +98,7 @@ pub fn rest_ok(t: u32, bytes: &[u8]) -> bool
     ensures { λ r. ⌜ r ≡ testOk t (now (bytes .entry)) ⌝ }
 {
     match t {
-        1 => byte_at(bytes, 0) < LABELS,
+        1 => is_label(byte_at(bytes, 0)),
         2 => byte_at(bytes, 0) <= 9,
         3 => branch_ok(byte_at(bytes, 0), byte_at(bytes, 1)),
         4 => flags_ok(byte_at(bytes, 0), false, false),
@@ -130,7 +131,7 @@ pub fn byte_ok(refusals: &[u8; 256], asked: u32, x: u8) -> bool
 }
 
 // Whether a label is set.
-pub fn is_set(labels: &[u16; 32], l: u8) -> bool
+pub fn is_set(labels: &[u16; LABELS], l: u8) -> bool
     ensures { λ r. ⌜ r ≡ numbered (now (labels .entry)) l ⌝ }
 {
     let of: &[u16] = labels;
@@ -141,7 +142,7 @@ pub fn is_set(labels: &[u16; 32], l: u8) -> bool
 }
 
 // Rule 7: the label of the op that starts at a place, its last byte, is not set yet.
-fn label_free(e: u32, block: &[u8], at: usize, labels: &[u16; 32]) -> bool
+fn label_free(e: u32, block: &[u8], at: usize, labels: &[u16; LABELS]) -> bool
     requires { ⌜ at + (outsIn e + insIn e + restIn e) < length (now block) ⌝ }
     ensures { λ r. ⌜ r ≡ labelFree (rowIn e) (numbered (now (labels .entry))) (getD (now (block .entry)) (at + (outsIn e + insIn e + restIn e)) 0) ⌝ }
 {
@@ -155,21 +156,20 @@ fn label_free(e: u32, block: &[u8], at: usize, labels: &[u16; 32]) -> bool
 fn settled(target: u8, number: u16) -> bool
     ensures { λ r. ⌜ r ≡ (not (eqb target 1) || not (eqb number 0)) ⌝ }
 {
-    target != 1 || number != 0
+    (target != 1) | (number != 0)
 }
 
 // Rule 7 at the end: each label that is jumped to is set.
-pub fn all_set(targets: &[u8; 32], labels: &[u16; 32]) -> bool
+pub fn all_set(targets: &[u8; LABELS], labels: &[u16; LABELS]) -> bool
     ensures { λ r. ⌜ r ≡ allSet (marked (now (targets .entry))) (numbered (now (labels .entry))) labelCount ⌝ }
 {
-    let mut i = LABELS as usize;
-    while 0 < i {
-        i -= 1;
-        if !settled(targets[i], labels[i]) {
-            return false;
-        }
+    let mut all = true;
+    let mut i: usize = 0;
+    while i < LABELS {
+        all = settled(targets[i], labels[i]) & all;
+        i += 1;
     }
-    true
+    all
 }
 
 // The rule from 9 on that it breaks, where the fast test fails: 8 if no other. e is the entry of its kind.
@@ -179,12 +179,12 @@ fn broken_rule(
     at: usize,
     ops: usize,
     vars: &[u8; 256],
-    labels: &[u16; 32],
+    labels: &[u16; LABELS],
 ) -> u8
     requires { ⌜ at + (outsIn e + insIn e + restIn e) < length (now block) ⌝ }
     ensures { λ r. ⌜ r ≡ firstBroken (opTests e (now (block .entry)) at ops (now (vars .entry)) (now (labels .entry)) false) ⌝ }
 {
-    if MAX_OPS <= ops {
+    if !op_fits(ops) {
         return 9;
     }
     let count = operand_count(e);
@@ -212,7 +212,7 @@ pub fn record_rule(
     at: usize,
     ops: usize,
     vars: &[u8; 256],
-    labels: &[u16; 32],
+    labels: &[u16; LABELS],
 ) -> u8
     ensures { λ r. ⌜ r ≡ entryRule e (now (block .entry)) at ops (now (vars .entry)) (now (labels .entry)) false ⌝ }
 {

@@ -28,14 +28,14 @@ use Rattle.ops.proofs.Lawful.{Lawful}
 
 -- the numbers say which labels are set
 abbrev Says : List ℕ → Seen → Type 0
-Says L s = (length L ≡ 32) × ((v : ℕ) → numbered L v ≡ s .labels v)
+Says L s = (length L ≡ labelCount) × ((v : ℕ) → numbered L v ≡ s .labels v)
 
 -- where x says so, the label m is numbered
 abbrev numberedBy : Bool → ℕ → ℕ → List ℕ → List ℕ
 numberedBy x m i L = cond x (set L m (i + 1)) L
 
-says-by : (x : Bool) (L : List ℕ) (labels : Vars) (m i : ℕ) → length L ≡ 32 → ((v : ℕ) → numbered L v ≡ labels v) → (x ≡ true → m < 32)
-    → (length (numberedBy x m i L) ≡ 32) × ((v : ℕ) → numbered (numberedBy x m i L) v ≡ markedBy x labels m v)
+says-by : (x : Bool) (L : List ℕ) (labels : Vars) (m i : ℕ) → length L ≡ labelCount → ((v : ℕ) → numbered L v ≡ labels v) → (x ≡ true → m < labelCount)
+    → (length (numberedBy x m i L) ≡ labelCount) × ((v : ℕ) → numbered (numberedBy x m i L) v ≡ markedBy x labels m v)
 says-by true L labels m i n h b =
     let e : numbered (set L m (i + 1)) ≡ upd (numbered L) m true = numbered-upd (set-here L m (i + 1) (omega (arith, b refl))) (omega arith) in
     (length-set L m (i + 1) ∙ n, λ v. ap (λ (f : Vars). f v) e ∙ ap (cond (eqb m v) true) (h v))
@@ -124,7 +124,7 @@ record Reached (D : Dialect) (b os : List (List ℕ)) (i : ℕ) : Type 0 where
   numbers : List ℕ
   checked : checks (tcg D) (checker D) seen-so os ≡ true
   says : Says numbers seen-so
-  same : labelsFrom (D .rows) 0 (replicate 32 0) b ≡ labelsFrom (D .rows) i numbers os
+  same : labelsFrom (D .rows) 0 (replicate labelCount 0) b ≡ labelsFrom (D .rows) i numbers os
   ahead : Ahead D b seen-so os
 
 reach-next : {D : Dialect} (law : Lawful D) (b : List (List ℕ)) (o : List ℕ) (os : List (List ℕ)) (i : ℕ) → Reached D b (o ∷ os) i → Reached D b os (suc i)
@@ -167,7 +167,7 @@ lands os i l number e f low =
     }
 
 pub jump-lands : {D : Dialect} (law : Lawful D) (s : Seen) (os : List (List ℕ)) (i l : ℕ) → checks (tcg D) (checker D) s os ≡ true → s .labels ≡ empty → i < length os → isJump l (viewOf D (getD os i [])) ≡ true
-    → Lands D os l (getD (labelsFrom (D .rows) 0 (replicate 32 0) os) l 0) i
+    → Lands D os l (getD (labelsFrom (D .rows) 0 (replicate labelCount 0) os) l 0) i
 unfolding labelsFrom reach-next
 jump-lands {D = D} law s os i l c e h j =
     let o = getD os i [] in
@@ -175,9 +175,9 @@ jump-lands {D = D} law s os i l c e h j =
     let r₀ : Reached D os os 0 =
     record {
       seen-so = s;
-      numbers = replicate 32 0;
+      numbers = replicate labelCount 0;
       checked = c;
-      says = (refl, λ v. ap (λ (f : Vars). f v) (numbered-none 32 refl ∙ sym e));
+      says = (refl, λ v. ap (λ (f : Vars). f v) (numbered-none labelCount refl ∙ sym e));
       same = refl;
       ahead = λ m q. refl;
     } in
@@ -187,7 +187,7 @@ jump-lands {D = D} law s os i l c e h j =
     let p = op-parts (D .rows) t o k in
     let q = landed-labels D t o l j (p .1) in
     let r₂ = reach-next law os o rest i r₁ in
-    lands os i l (getD (labelsFrom (D .rows) 0 (replicate 32 0) os) l 0) (r₂ .ahead l (q .0))
+    lands os i l (getD (labelsFrom (D .rows) 0 (replicate labelCount 0) os) l 0) (r₂ .ahead l (q .0))
     (subst (λ (n : List ℕ). Found D rest l (getD n l 0) (suc i)) (sym (r₂ .same))
     (found law rest (passed (D .rows) t o) (r₂ .numbers) (suc i) l (r₂ .checked) (r₂ .says) (jump-low law o t l j (p .0)) (q .0) (q .1)))
     (jump-low law o t l j (p .0))

@@ -59,8 +59,8 @@ module _ {b places₀ base places labels : List ℕ} {rule place start n globals
     abbrev declared : List (List ℕ)
     declared = declarations (recordsOf rowOf b)
 
-    pub ready-by : length places₀ ≡ 256 → ReadyToRun b places labels start ops
-    ready-by l = record { places₀ = places₀; base = base; n = n; globals = globals; approved = approved-by; long-places = l }
+    pub ready-by : ReadyToRun b places labels start ops
+    ready-by = record { places₀ = places₀; base = base; n = n; globals = globals; approved = approved-by }
 
     module _ (lent memory : List ℕ) {t : Bool} (e : t ≡ lentOk base globals lent memory) where
       -- as many are lent as are declared, or rule 11 is broken already

@@ -44,7 +44,7 @@ module _ (D : Dialect) (o : List ℕ) where
   pub is-jump : (k : ℕ) → isJump k (viewOf D o) ≡ named (isJumping ((rowAt (D .rows) o) .role)) (labelBy (rowAt (D .rows) o) o) k
   is-jump k = ap (oneOf k) (target-at D o)
 
--- rule 6 asks that a label be below 32
+-- rule 6 asks that a label be below the limit
 pub label-low : {D : Dialect} (law : Lawful D) (o : List ℕ) (s : Seen) → isSetting ((rowAt (D .rows) o) .role) ≡ true → rule6 (D .rows) s o ≡ true → labelBy (rowAt (D .rows) o) o < labelCount
 unfolding rule6
 label-low {D = D} law o s x h = law .table .label-low o (ap (λ (b : Bool). b || isJumping ((rowAt (D .rows) o) .role)) x) h

@@ -22,12 +22,14 @@ use Rattle.ops.proofs.Document01.{lawful}
 use Rattle.block.specs.Records.{recordsOf, declarations, opsFrom}
 use Rattle.block.specs.Scan.{recordAt, Stands, placesFrom, recordsAt}
 use Rattle.block.proofs.Parts.{parts}
-use Rattle.block.proofs.Places.{Standing, standing, spanOf, records-from, places-at}
+use Rattle.block.proofs.Places.{Standing, standing, spanOf, records-from, places-at, places-long}
 use Rattle.block.proofs.Steps.{record-length}
 use Rattle.runs.specs.Runs.{answerOf, opsRun}
 use Rattle.runs.specs.Steps.{endOf, effectOf, afterState, Performs, nextAt, ReadyToRun, Executed}
 use Rattle.runs.proofs.Ends.{some-ops, goes-inside}
 use Rattle.runs.proofs.Landing.{Lands, jump-lands}
+use Rattle.ops.specs.Limits.{maxOps, labelCount}
+use Rattle.ops.proofs.Bounds.{limits-fit}
 use Rattle.block.proofs.Checker.{checker, declaredIn, few-ops}
 use Rattle.block.specs.Rules.{start as seenFirst}
 use Rattle.runs.specs.declared.Ending.{Ending}
@@ -62,11 +64,15 @@ module _ {b places labels : List ℕ} {start ops : ℕ} (r : ReadyToRun b places
   checked : checks (tcg document01) (checker document01) (declaredIn seenFirst (declarations (recordsOf rowOf b))) (opsOf b) ≡ true
   checked = (parts lawful b (r .approved .accepted)) .checked
 
-  pub few : length (opsOf b) ≤ 256
+  pub few : length (opsOf b) ≤ maxOps
   few = omega (arith, few-ops document01 (declaredIn seenFirst (declarations (recordsOf rowOf b))) (opsOf b) checked (omega arith))
 
   pub count-of : ops ≡ length (opsOf b)
   count-of = r .approved .count-is
+
+  -- as many places are kept as there are ops
+  pub held : length (opsOf b) ≤ length places
+  held = let a = r .approved in omega (arith, a .held, a .count-is, ap length (a .places-are), places-long (opsOf b) start 0 (r .places₀))
 
   -- the j-th op stands at the place that the scan kept
   pub place-of : (j : ℕ) → j < length (opsOf b) → recordsAt rowOf b (getD places j 0) ≡ drop j (opsOf b)
@@ -75,8 +81,8 @@ module _ {b places labels : List ℕ} {start ops : ℕ} (r : ReadyToRun b places
       let e : getD places j 0 ≡ (start + spanOf j (opsOf b)) % 65536 =
       ap (λ (l : List ℕ). getD l j 0) (a .places-are)
       ∙ ap (λ (n : ℕ). getD (placesFrom start 0 (r .places₀) (opsOf b)) n 0) (sym (zero-add j))
-      ∙ places-at (opsOf b) start 0 (r .places₀) j h (omega (arith, few, r .long-places)) in
-      let l : start + spanOf j (opsOf b) < 65536 = omega (arith, a .start-is, a .few, few, span-small b start j (opsOf b) (a .ops-are) (omega arith)) in
+      ∙ places-at (opsOf b) start 0 (r .places₀) j h (omega (arith, a .held, count-of)) in
+      let l : start + spanOf j (opsOf b) < 65536 = omega (arith, limits-fit .places, a .start-is, a .few, few, span-small b start j (opsOf b) (a .ops-are) (omega arith)) in
       ap (recordsAt rowOf b) (e ∙ mod-eq-of-lt l) ∙ records-from rowOf b start j (opsOf b) (a .ops-are) (omega arith)
 
 -- op ops on, the ops that are left stand at a place; so many have been run, and the run goes on from here
@@ -211,7 +217,7 @@ module _ {b : List ℕ} {s₀ s : St (tcg document01)} {places labels : List ℕ
   pub stands-now : Stands rowOf b place (getD b place 0)
   stands-now = stands-at (t .running) (getD b place 0) refl
 
-  pub few-now : count < 256
+  pub few-now : count < maxOps
   few-now = omega (arith, t .running .early, t .running .within, few (t .ready))
 
   module _ {s′ : St (tcg document01)} {o : Outcome} (p : Performs (viewOf document01 (recordAt rowOf b place)) (nextAt b place) s s′ o) where
@@ -229,14 +235,14 @@ module _ {b : List ℕ} {s₀ s : St (tcg document01)} {places labels : List ℕ
       number : m ≡ getD labels l 0
       number = em ∙ ap (λ (x : ℕ). getD labels x 0) ei
 
-      pub label-now : i < 32
+      pub label-now : i < labelCount
       label-now = omega (arith, ei, (landing (t .running) (t .ready) (so e)) .low)
 
       pub number-now : 1 ≤ m
       number-now = omega (arith, number, (landing (t .running) (t .ready) (so e)) .has-number)
 
-      pub target-now : m - 1 < 256
-      target-now = omega (arith, number, (landing (t .running) (t .ready) (so e)) .inside, few (t .ready))
+      pub target-now : m - 1 < length places
+      target-now = omega (arith, number, (landing (t .running) (t .ready) (so e)) .inside, held (t .ready))
 
       pub jumps-on : {op′ q place′ : ℕ} → q ≡ getD places (m - 1) 0 → op′ ≡ m - 1 → place′ ≡ q → (op < op′) × Running b s₀ s′ op′ place′ (count + 1)
       jumps-on {op′} {q} {place′} eq eo ep =

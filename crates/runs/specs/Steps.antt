@@ -10,7 +10,7 @@ use Rattle.theory.specs.Machine.{when, to, View, calc, access, flow, End, exit,
 use Rattle.word.specs.Condition.{condW}
 use Rattle.memory.specs.Answer.{accessWidth}
 use Rattle.memory.specs.Bytes.{lowFirst}
-use Rattle.ops.specs.Limits.{maxOps, maxMemory}
+use Rattle.ops.specs.Limits.{maxMemory}
 use Rattle.ops.specs.Rows.{at, bodyLength, isComputing, numberOf, roleOf}
 use Rattle.ops.specs.Ops.{atTypes, Fault, faultOf, tcg}
 use Rattle.ops.specs.Kinds.{loadAt, storeAt, document01}
@@ -76,7 +76,6 @@ pub record ReadyToRun (block places labels : List ℕ) (start ops : ℕ) : Type 
   pub n : ℕ
   pub globals : ℕ
   pub approved : Approved rowOf block places₀ base places labels start n globals ops
-  pub long-places : length places₀ ≡ maxOps
 
 -- the run of a block's ops from a state: the answer, and the state that is left
 pub record Executed (block : List ℕ) (s s′ : St (tcg document01)) (ending : Ending) : Type 0 where

@@ -7,9 +7,10 @@ ghost use lib.ListN.{length, replicate};
 ghost use Rattle.ops.specs.Limits.{labelCount};
 ghost use Rattle.ops.specs.Table.{rowOf};
 ghost use Rattle.ops.specs.Plans.{exitRank, entryAt};
-ghost use Rattle.block.specs.Scan.{entryRule, endRule, Begins, ScannedBy, Scanned};
+ghost use Rattle.block.specs.Scan.{entryRule, endRule, RoomFor, Begins, ScannedBy, Scanned};
 use declarations::scan_declarations;
 use kinds::entry;
+use limits::LABELS;
 use op_marks::mark_op;
 use op_tests::op_ok;
 use plans::EXIT;
@@ -27,7 +28,7 @@ pub struct Ops {
 }
 
 // The answer at a record that fails a test.
-fn stopped(block: &[u8], at: usize, ops: usize, vars: &[u8; 256], labels: &[u16; 32]) -> Ops
+fn stopped(block: &[u8], at: usize, ops: usize, vars: &[u8; 256], labels: &[u16; LABELS]) -> Ops
     requires { ⌜ at < length (now block) ⌝ }
     ensures { λ r. ⌜ ((r .rule) ≡ entryRule (entryAt (now (block .entry)) at) (now (block .entry)) at ops (now (vars .entry)) (now (labels .entry)) false) × ((r .place) ≡ at) × ((r .ops) ≡ ops) ⌝ }
 {
@@ -41,7 +42,7 @@ fn stopped(block: &[u8], at: usize, ops: usize, vars: &[u8; 256], labels: &[u16;
 }
 
 // The rule that is broken at the end, after an op with the rank last; 0 if none.
-fn end_rule(last: u8, targets: &[u8; 32], labels: &[u16; 32]) -> u8
+fn end_rule(last: u8, targets: &[u8; LABELS], labels: &[u16; LABELS]) -> u8
     ensures { λ r. ⌜ r ≡ endRule (eqb last exitRank) (now (targets .entry)) (now (labels .entry)) ⌝ }
 {
     if last != EXIT {
@@ -58,17 +59,17 @@ fn scan_ops(
     block: &[u8],
     start: usize,
     base: &[u8; 256],
-    places: &mut [u16; 256],
-    labels: &mut [u16; 32],
+    places: &mut [u16],
+    labels: &mut [u16; LABELS],
 ) -> Ops
-    requires { ⌜ Begins rowOf (now block) (now base) start × (now labels ≡ replicate labelCount 0) ⌝ }
+    requires { ⌜ Begins rowOf (now block) (now base) start × (now labels ≡ replicate labelCount 0) × RoomFor (now block) (now places) ⌝ }
     ensures { λ r. ⌜ ScannedBy rowOf (now (block .entry)) start (now (places .entry)) (now (places .exit)) (now (labels .exit)) (r .rule) (r .place) (r .ops) ⌝ }
 {
     let ranks = plans::ranks();
     let lengths = plans::lengths();
     let refusals = refusals::table();
     let mut vars = *base;
-    let mut targets = [0u8; 32];
+    let mut targets = [0u8; LABELS];
     let mut at = start;
     let mut ops: usize = 0;
     let mut last: u8 = 0;
@@ -107,10 +108,10 @@ pub struct Found {
 pub fn scan(
     block: &[u8],
     base: &mut [u8; 256],
-    places: &mut [u16; 256],
-    labels: &mut [u16; 32],
+    places: &mut [u16],
+    labels: &mut [u16; LABELS],
 ) -> Found
-    requires { ⌜ (now base ≡ replicate 256 15) × (now labels ≡ replicate labelCount 0) ⌝ }
+    requires { ⌜ (now base ≡ replicate 256 15) × (now labels ≡ replicate labelCount 0) × RoomFor (now block) (now places) ⌝ }
     ensures { λ r. ⌜ Scanned rowOf (now (block .entry)) (now (places .entry)) (now (base .exit)) (now (places .exit)) (now (labels .exit)) (r .rule) (r .place) (r .start) (r .variables) (r .globals) (r .ops) ⌝ }
 {
     let d = scan_declarations(block, base);

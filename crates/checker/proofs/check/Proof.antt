@@ -1,17 +1,16 @@
--- `check` answers as the definition does. Two of the answers that this rules out: that all are refused, and that all are accepted. Assumes nothing.
+-- `check` answers as the definition does: there is room for the places. Assumes nothing.
+use native.Mathlib.Omega.{arith}
 use borrow.Author.Needs.{needs}
-use Rattle.block.proofs.Scanned.{check-by, refuse-by}
 use Rattle.checker.proofs.check.Statement.{statement}
 use Rattle.checker.proofs.check.Tie as tie
 
-scan-requires : tie.Need-scan-requires
-scan-requires c κs = search needs
+check-with-requires : tie.Need-check-with-requires
+check-with-requires c κs = omega (arith, c .before .if1 .taken)
 
-returns : tie.Need-returns
-returns c = check-by (c .before .scan .ensures) (c .if1 .taken)
-
-returns-2 : tie.Need-returns-2
-returns-2 c = refuse-by (c .before .scan .ensures) (c .if1 .left)
+check-with-requires-2 : tie.Need-check-with-requires-2
+check-with-requires-2 c κs = omega arith
 
 pub check-spec : {M : Type 1} → statement M
-check-spec = tie.close (tie.spec scan-requires returns returns-2)
+check-spec =
+    tie.close
+    (tie.spec (λ c. search needs) (λ c. search needs) check-with-requires (λ c. c .before .check-with .ensures) (λ c. search needs) check-with-requires-2 (λ c. c .before .check-with2 .ensures))

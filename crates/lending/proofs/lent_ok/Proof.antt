@@ -1,4 +1,5 @@
 -- Rule 11, test by test. Assumes nothing.
+use mathlib.Core.Path.{_∙_}
 use borrow.Author.Tests.{not-true, not-false}
 use borrow.Author.Needs.{needs}
 use Rattle.runs.proofs.Lending.{lent-count, lent-wide, lent-last}
@@ -20,8 +21,9 @@ returns-2 c =
 
 returns-3 : tie.Need-returns-3
 returns-3 c =
-    let args = c .before .before .before .before .before .before .args in
-    lent-last (args .base .now) (args .declared) (args .globals .now) (args .memory .now) (c .before .before .before .if1 .left) (c .before .globals-fit .ensures) (not-false _ (c .if2 .left))
+    let e = c .before in
+    let args = e .before .before .before .before .before .before .args in
+    c .memory-fits .ensures ∙ lent-last (args .base .now) (args .declared) (args .globals .now) (args .memory .now) (e .before .before .before .if1 .left) (e .before .globals-fit .ensures) (not-false _ (e .if2 .left))
 
 pub lent-ok-spec : {M : Type 1} → statement M
-lent-ok-spec = tie.close (tie.spec returns globals-fit-requires returns-2 returns-3)
+lent-ok-spec = tie.close (tie.spec returns globals-fit-requires returns-2 (λ c κs. search needs) returns-3)

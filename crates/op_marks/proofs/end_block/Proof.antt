@@ -5,10 +5,10 @@ use Rattle.op_marks.proofs.end_block.Statement.{statement}
 use Rattle.op_marks.proofs.end_block.Tie as tie
 
 returns : tie.Need-returns
-returns c = rw (sym (c .before .before .before .closes .ensures) ∙ c .before .before .if1 .taken) (c .restart .ensures)
+returns c = rw (sym (c .before .before .closes .ensures) ∙ c .before .if1 .taken)
 
 returns-2 : tie.Need-returns-2
 returns-2 c = rw (sym (c .before .closes .ensures) ∙ c .if1 .left)
 
 pub end-block-spec : {M : Type 1} → statement M
-end-block-spec = tie.close (tie.spec (λ c κs. search needs) (λ c κs. search needs) returns returns-2)
+end-block-spec = tie.close (tie.spec (λ c κs. search needs) returns returns-2)

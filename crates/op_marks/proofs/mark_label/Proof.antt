@@ -5,6 +5,7 @@ use native.Mathlib.Omega.{arith}
 use lib.ListN.{length, getD}
 use borrow.Author.Tests.{not-true, not-false}
 use borrow.Author.Needs.{needs}
+use Rattle.ops.specs.Limits.{labelCount}
 use Rattle.ops.specs.Plans.{lengthIn, planAt}
 use Rattle.block.proofs.Marking.{label-none, label-set, label-jumped}
 use Rattle.op_marks.proofs.mark_label.Statement.{statement}
@@ -22,11 +23,11 @@ long k = k .length .ensures ∙ ap lengthIn (k .before .plan .ensures)
 inside : (k : tie.After-length) → let s = k .before .before .before .before .before in (s .args .at + k .length .result ≤ length (s .args .block .now)) × (1 < k .length .result)
 inside k = let p = k .before .before .before .before .before .pre in (omega (arith, long k, p), omega (arith, long k, p))
 
-low : (k : tie.After-length) → let s = k .before .before .before .before .before in getD (s .args .block .now) (s .args .at + k .length .result - 1) 0 < 32
+low : (k : tie.After-length) → let s = k .before .before .before .before .before in getD (s .args .block .now) (s .args .at + k .length .result - 1) 0 < labelCount
 low k =
     let m = k .before .before in
     let s = m .before .before .before in
-    subst (λ (n : ℕ). getD (s .args .block .now) (s .args .at + n - 1) 0 < 32) (sym (long k)) (s .pre .2 (sym (m .before .labelled .ensures) ∙ not-false _ (m .if1 .left)))
+    subst (λ (n : ℕ). getD (s .args .block .now) (s .args .at + n - 1) 0 < labelCount) (sym (long k)) (s .pre .2 (sym (m .before .labelled .ensures) ∙ not-false _ (m .if1 .left)))
 
 returns-2 : tie.Need-returns-2
 returns-2 c =

@@ -56,24 +56,24 @@ shared-slice-read-x : tie.Need-shared-slice-read-x
 shared-slice-read-x c = let p = inside (c .before .before) in omega (arith, p .whole, p .byte, c .before .byte-at .ensures)
 
 -- the tests of the operands and of the byte, as the plan has them
-abbrev entered : tie.After-byte-ok → tie.Else1
-entered k = k .before .before .before .before .before
+abbrev entered : tie.After-op-fits → tie.Else1
+entered k = k .before .before .before .before .before .before
 
 abbrev test : tie.Else1 → ℕ
 test k = byteTestBy (getD kindTable (kind (planned k)) 0)
 
-tested : (k : tie.After-byte-ok) → let a = start (entered k) .args in k .byte-ok .result ≡ byteOk (test (entered k)) (getD (a .block .now) (a .at + byteAtIn (h (entered k))) 0)
+tested : (k : tie.After-op-fits) → let a = start (entered k) .args in k .before .byte-ok .result ≡ byteOk (test (entered k)) (getD (a .block .now) (a .at + byteAtIn (h (entered k))) 0)
 tested k =
     let e = entered k in
     let a = start e .args in
-    let i = k .before .before .before .before .byte-at in
-    byte-is (a .block .now) (a .at) (a .op) (a .vars .now) (a .labels .now) (kind (planned e)) refl refl (its-plan (planned e)) (start e .pre .3) (k .before .byte-ask .ensures) (i .ensures)
-    (omega (arith, k .before .before .before .shared-slice-known2 .given (a .at + i .result))) (k .byte-ok .ensures)
+    let i = k .before .before .before .before .before .byte-at in
+    byte-is (a .block .now) (a .at) (a .op) (a .vars .now) (a .labels .now) (kind (planned e)) refl refl (its-plan (planned e)) (start e .pre .3) (k .before .before .byte-ask .ensures) (i .ensures)
+    (omega (arith, k .before .before .before .before .shared-slice-known2 .given (a .at + i .result))) (k .before .byte-ok .ensures)
 
-tests : (k : tie.After-byte-ok) → let a = start (entered k) .args in
-    (k .before .before .three-fit .result && k .byte-ok .result && ltb (a .op) maxOps)
+tests : (k : tie.After-op-fits) → let a = start (entered k) .args in
+    (k .before .before .before .three-fit .result && k .before .byte-ok .result && k .op-fits .result)
     ≡ (threeFit (h (entered k)) (a .block .now) (a .at) (a .vars .now) && byteOk (test (entered k)) (getD (a .block .now) (a .at + byteAtIn (h (entered k))) 0) && ltb (a .op) maxOps)
-tests k = both-so (both-so (k .before .before .three-fit .ensures) (tested k)) refl
+tests k = both-so (both-so (k .before .before .before .three-fit .ensures) (tested k)) (k .op-fits .ensures)
 
 returns-2 : tie.Need-returns-2
 returns-2 c =
@@ -99,4 +99,4 @@ pub op-ok-spec : {M : Type 1} → statement M
 op-ok-spec =
     tie.close
     (tie.spec (λ c κs. search needs) (λ c. search needs) returns (λ c κs. search needs) (λ c. search needs) shared-slice-read-x (λ c κs. inside (c .before .before)) (λ c κs. search needs)
-    (λ c κs. search needs) returns-2 (λ c κs. search needs) returns-3 (λ c κs. inside (entered (c .before .before .before))) returns-4)
+    (λ c κs. search needs) (λ c κs. search needs) returns-2 (λ c κs. search needs) returns-3 (λ c κs. inside (entered (c .before .before .before))) returns-4)

@@ -12,7 +12,7 @@ slice-aggregate-write-result-2 c = search needs
 
 write-result-requires : tie.Need-write-result-requires
 write-result-requires c κs =
-    let pre = c .before .before .before .before .before .pre in
+    let pre = c .before .before .before .before .before .before .pre in
     let few = few-here (pre .0) in
     (pre .0, few, few, pre .1)
 

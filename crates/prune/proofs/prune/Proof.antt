@@ -6,6 +6,7 @@ use native.Mathlib.Omega.{arith}
 use lib.Dec.{eqb}
 use lib.ListN.{length, getD, length-set}
 use borrow.Author.Needs.{needs}
+use Rattle.ops.proofs.Bounds.{limits-fit}
 use Rattle.ops.proofs.Shapes.{shape-of}
 use Rattle.block.specs.Rules.{globalsIn, keptIn}
 use Rattle.passes.specs.Knows.{foldedOps}
@@ -90,7 +91,7 @@ add-size c =
     omega (arith, size-fits (start .pre .0) (start .pre .1 .folded) (before-that (loop .inv .5) more) low n, start .pre .3)
 
 add-time : tie.Need-add-time Inv-loop μ-loop
-add-time c = omega (arith, c .before .before .before .before .before .before .before .before .loop .inv .3, c .before .before .before .before .before .before .before .before .before .before .before .before .pre .3)
+add-time c = omega (arith, limits-fit .times, c .before .before .before .before .before .before .before .before .loop .inv .3, c .before .before .before .before .before .before .before .before .before .before .before .before .pre .3)
 
 loop-less : tie.Need-loop-less Inv-loop μ-loop
 loop-less c = omega (arith, c .before .before .before .before .before .before .before .loop-test .taken)

@@ -11,20 +11,20 @@ abbrev start : tie.After-fold → tie.Start
 start k = k .before .before .before .before .before .before .before .before
 
 abbrev folded : tie.After-prune → tie.After-fold
-folded k = k .before .before .before .before .before .before .before
+folded k = k .before .before .before .before .before .before
 
 abbrev pruned : tie.Else1 → tie.After-prune
 pruned k = k .before .before .before
 
 fold-requires : tie.Need-fold-requires
 fold-requires c κs =
-    let pre = c .before .before .before .before .before .before .before .pre in (pre .0 .laid, omega (arith, few-here (pre .0)), pre .1, pre .2, pre .3)
+    let pre = c .before .before .before .before .before .before .before .pre in (pre .0 .laid, pre .0 .held, pre .1, pre .2, pre .3)
 
 prune-requires : tie.Need-prune-requires
 prune-requires c κs =
-    let f = c .before .before .before .before .before .before in
+    let f = c .before .before .before .before .before in
     let pre = start f .pre in
-    (pre .0 .laid, record { constants = _; folded = f .fold .ensures }, pre .0 .classes-are .few, few-here (pre .0), omega (arith, few-here (pre .0)), omega (arith, pre .1, c .before .before .before .before .before .marks .given), pre .3)
+    (pre .0 .laid, record { constants = _; folded = f .fold .ensures }, pre .0 .classes-are .few, few-here (pre .0), pre .0 .held, omega (arith, pre .1, c .before .before .before .before .marks .given), pre .3)
 
 add-size : tie.Need-add-size
 add-size c = let p = c .before .before in omega (arith, size-small (start (folded p) .pre .0) (p .prune .ensures))
@@ -34,7 +34,7 @@ returns c = let p = c .before .before .before in pass-short (start (folded p) .p
 
 emit-requires : tie.Need-emit-requires
 emit-requires c κs =
-    let e = c .before .before .before .before in
+    let e = c .before .before .before in
     let p = pruned e in
     let f = folded p in
     let pre = start f .pre in
@@ -42,9 +42,9 @@ emit-requires c κs =
       r .laid,
       kept-marked (f .fold .ensures) (p .prune .ensures),
       omega (arith, r .first-is, declared-fit r),
-      omega (arith, few-here r),
-      omega (arith, pre .1, p .before .before .before .before .before .before .marks .given, e .before .before .marks2 .given),
-      omega (arith, pre .2, p .before .before .before .before .constants .given),
+      r .held,
+      omega (arith, pre .1, p .before .before .before .before .before .marks .given, e .before .before .marks2 .given),
+      omega (arith, pre .2, p .before .before .before .constants .given),
       pre .3,
       all-fit r (p .prune .ensures) (start f .args .out .now) (e .if1 .left),
     )
@@ -52,7 +52,7 @@ emit-requires c κs =
 returns-2 : tie.Need-returns-2
 returns-2 c =
     let m = c .before .before in
-    let e = m .before .before .before .before .before in
+    let e = m .before .before .before .before in
     let p = pruned e in
     let s = start (folded p) in
     pass-stores (s .pre .0) (p .prune .ensures) (s .args .out .now) (e .if1 .left) (m .emit .ensures)

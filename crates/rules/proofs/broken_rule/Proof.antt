@@ -1,10 +1,11 @@
 -- `broken_rule` asks the rules of an op in order. Assumes nothing.
-use mathlib.Core.Path.{_≡_}
-use Prim.Native.Nat.{_+_, _-_, _≤_}
+use mathlib.Core.Path.{_≡_, sym, _∙_}
+use Prim.Native.Nat.{_+_, _-_, _≤_, _<_}
 use native.Mathlib.Omega.{arith}
 use lib.ListN.{length}
-use borrow.Author.Tests.{not-true, not-false}
+use borrow.Author.Tests.{not-true, not-false, ltb-true, ltb-false}
 use borrow.Author.Needs.{needs}
+use Rattle.ops.specs.Limits.{maxOps}
 use Rattle.ops.specs.Rows.{restIn}
 use Rattle.block.proofs.OpRules.{Op, Met4, Met5, Met6, count-inside, rest-inside, declared-by, typed-by, rest-by, free-by, is-9, is-4, is-5, is-6, is-7, is-8}
 use Rattle.rules.proofs.broken_rule.Statement.{statement}
@@ -22,7 +23,7 @@ op s = record {
 
 -- where each test's answer is known, the start
 abbrev counted : tie.After-operand-count → tie.Start
-counted k = k .before .before .before
+counted k = k .before .before .before .before
 
 abbrev named : tie.After-all-declared → tie.Start
 named k = counted (k .before)
@@ -36,6 +37,10 @@ rested k = k .before .before .before .before .before
 abbrev labelled : tie.After-label-free → tie.After-rest-ok
 labelled k = k .before .before
 
+-- it is not one too many
+few : (k : tie.Else1) → k .before .before .before .args .ops < maxOps
+few k = ltb-true _ maxOps (sym (k .before .op-fits .ensures) ∙ not-false _ (k .if1 .left))
+
 -- the operands are inside
 inside : (k : tie.After-operand-count) → counted k .args .at + 1 + k .operand-count .result ≤ length (counted k .args .block .now)
 inside k = count-inside (op (counted k)) (k .operand-count .ensures) (counted k .pre)
@@ -43,7 +48,7 @@ inside k = count-inside (op (counted k)) (k .operand-count .ensures) (counted k 
 met4 : (k : tie.Else2) → Met4 (op (named (k .before)))
 met4 k =
     let d = k .before in
-    record { few = d .before .before .if1 .left; declared = declared-by (op (named d)) (d .before .operand-count .ensures) (d .all-declared .ensures) (not-false _ (k .if2 .left)) }
+    record { few = few (d .before .before); declared = declared-by (op (named d)) (d .before .operand-count .ensures) (d .all-declared .ensures) (not-false _ (k .if2 .left)) }
 
 met5 : (k : tie.Else3) → Met5 (op (named (typed (k .before))))
 met5 k =
@@ -63,7 +68,7 @@ met6 k =
     record { before = met5 (r .before .before .before .before); rest-so = rest-by (op (named d)) (d .before .operand-count .ensures) (r .before .before .test .ensures) (long r) (r .rest-ok .ensures) (not-false _ (k .if4 .left)) }
 
 returns : tie.Need-returns
-returns c = is-9 (op (c .before .before)) (c .if1 .taken)
+returns c = is-9 (op (c .before .before .before)) (ltb-false _ maxOps (sym (c .before .op-fits .ensures) ∙ not-true _ (c .if1 .taken)))
 
 all-declared-requires : tie.Need-all-declared-requires
 all-declared-requires c κs = inside c
@@ -71,7 +76,7 @@ all-declared-requires c κs = inside c
 returns-2 : tie.Need-returns-2
 returns-2 c =
     let d = c .before in
-    is-4 (op (named d)) (d .before .before .if1 .left) (declared-by (op (named d)) (d .before .operand-count .ensures) (d .all-declared .ensures) (not-true _ (c .if2 .taken)))
+    is-4 (op (named d)) (few (d .before .before)) (declared-by (op (named d)) (d .before .operand-count .ensures) (d .all-declared .ensures) (not-true _ (c .if2 .taken)))
 
 all-typed-requires : tie.Need-all-typed-requires
 all-typed-requires c κs = inside (c .before .before .before)
@@ -106,6 +111,6 @@ part-end c =
 pub broken-rule-spec : {M : Type 1} → statement M
 broken-rule-spec =
     tie.close
-    (tie.spec returns (λ c κs. search needs) (λ c. search needs) all-declared-requires returns-2 (λ c. search needs) (λ c κs. search needs) all-typed-requires returns-3
+    (tie.spec (λ c κs. search needs) returns (λ c κs. search needs) (λ c. search needs) all-declared-requires returns-2 (λ c. search needs) (λ c κs. search needs) all-typed-requires returns-3
     (λ c. search needs) (λ c. omega (arith, inside (typed (c .before) .before))) (λ c κs. search needs) (λ c. omega (arith, inside (typed (c .before .before) .before), c .rest .ensures)) (λ c κs. search needs) (λ c. omega arith) (λ c. omega arith) part-end (λ c κs. search needs) returns-4
     label-free-requires returns-5 returns-6)

@@ -1,4 +1,4 @@
--- No label from 32 on is set. Assumes nothing.
+-- No byte beyond the labels is set. Assumes nothing.
 use mathlib.Core.Path.{sym}
 use native.Mathlib.Omega.{arith}
 use borrow.Author.Needs.{needs}

@@ -6,7 +6,7 @@ use Rattle.run.proofs.run_ops.Statement.{statement}
 use Rattle.run.proofs.run_ops.Tie as tie
 
 execute-requires : tie.Need-execute-requires
-execute-requires c κs = c .before .before .before .before .before .before .pre
+execute-requires c κs = c .before .before .before .before .before .before .before .pre
 
 same-length : tie.Need-same-length
 same-length c = search needs
