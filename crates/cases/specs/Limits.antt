@@ -1,21 +1,22 @@
 -- The limits of request 05: both sides of each. Proved in proofs/Limits.antt. Assumes nothing.
-use Prim.Native.Nat.{ℕ, zero, suc}
+use Prim.Native.Nat.{ℕ}
 use mathlib.Core.Path.{_≡_}
 use mathlib.Core.List.{List, [], _∷_, _++_}
+use lib.ListN.{replicate}
+use Rattle.block.specs.Records.{recordBytes}
 use Rattle.block.specs.declared.Verdict.the-variants.{Accepted, Refused}
 use Rattle.block.specs.Checks.{checkOf}
 use Rattle.cases.specs.Examples.{movi64, exit}
 
--- the same bytes n times
+-- a record n times
 abbrev pub times : ℕ → List ℕ → List ℕ
-times zero xs = []
-times (suc n) xs = xs ++ times n xs
+times n r = recordBytes (replicate n r)
 
 -- a 64-bit global
 abbrev pub global : List ℕ
 global = 0x01 ∷ 0x00 ∷ 0x01 ∷ []
 
--- case 11, as request 05 moves it: 200 variables pass, the 201st gets 3; a variable is declared or not at the same number
+-- case 11, as request 05 moves it: 200 variables pass, the 201st gets 3; so the last that can be named is 199
 unfoldable pub Variables : Type 0
 Variables =
     (checkOf (times 200 global ++ exit 199) ≡ Accepted) × (checkOf (times 200 global ++ exit 200) ≡ Refused 4 600) × (checkOf (times 201 global ++ exit 0x00) ≡ Refused 3 600)
