@@ -158,7 +158,7 @@ module _ {D : Dialect} (law : Lawful D) (x : Seen) (o o' : List ℕ) (w v : ℕ)
   constant_whole : whole D.rows o' ≡ true
   constant_whole =
       and_i (known D.rows (kind_of o')) (eqb (length o') (suc (body_length D.rows (kind_of o'))))
-      m.is_known_lem (eq-eqb (length o') (suc (body_length D.rows (kind_of o'))) m.long)
+      m.is_known (eq-eqb (length o') (suc (body_length D.rows (kind_of o'))) m.long)
 
   no_declaration : is_declaration o' ≡ false
   no_declaration =

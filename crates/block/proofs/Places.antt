@@ -18,7 +18,7 @@ use Rattle.block.proofs.Steps.{cut_unknown, cut_short, cut_record, record_length
 -- a record stands at a place, and the others follow it
 pub record Standing (T : Table) (b : List ℕ) (p : ℕ) (o : List ℕ) (rest : List (List ℕ)) : Type 0 where
   pub inside : p < length b
-  pub is_known_lem : known T (get_or b p 0) ≡ true
+  pub is_known : known T (get_or b p 0) ≡ true
   pub whole_here : p + suc (body_length T (get_or b p 0)) ≤ length b
   pub record_here : record_at T b p ≡ o
   pub others : records_at T b (p + suc (body_length T (get_or b p 0))) ≡ rest
@@ -38,7 +38,7 @@ standing T b p o rest e = go (ltb p (length b)) refl
     found h true f false g =
         let w = ltb-false (length b) (p + suc (body_length T k)) g in
         let q : record_at T b p ∷ records_at T b (p + suc (body_length T k)) ≡ o ∷ rest = sym (ap (λ (c : Cut). c.records) (cut_record T b p h f w)) ∙ e in
-        record { inside = h; is_known_lem = f; whole_here = w; record_here = cc; others = cc }
+        record { inside = h; is_known = f; whole_here = w; record_here = cc; others = cc }
 
     go : (t : Bool) → ltb p (length b) ≡ t → Standing T b p o rest
     go true h = found (ltb-true p (length b) h) (known T k) refl (ltb (length b) (p + suc (body_length T k))) refl

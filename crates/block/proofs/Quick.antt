@@ -393,7 +393,7 @@ module _ (b : List ℕ) (p ops : ℕ) (vars labels : List ℕ) (k : ℕ) {e h : 
     op = sorted k q is_op
 
     stands_here : op_stands e b p ≡ true
-    stands_here = rw (op.is_known_lem, lt-leb (length b - p) (outs_in e + ins_in e + rest_in e) (omega (arith, l, length_so is_op)), sym (ap (λ (x : ℕ). eqb x 1) its) ∙ op.not_one)
+    stands_here = rw (op.is_known, lt-leb (length b - p) (outs_in e + ins_in e + rest_in e) (omega (arith, l, length_so is_op)), sym (ap (λ (x : ℕ). eqb x 1) its) ∙ op.not_one)
 
     first_in : first_at_in h < length_in h
     first_in = go (tell (ltb 0 (ins_in e)))

@@ -52,7 +52,7 @@ at_place T s b p h = go (known T (get_or b p 0)) refl (ltb (length b) (p + suc (
 
 -- a record of a known kind stands at a place, whole
 pub record WholeAt (T : Table) (b : List ℕ) (p : ℕ) : Type 0 where
-  pub is_known_lem : known T (get_or b p 0) ≡ true
+  pub is_known : known T (get_or b p 0) ≡ true
   pub within : p + suc (body_length T (get_or b p 0)) ≤ length b
 
 rule_whole : (T : Table) (s : Seen) (b : List ℕ) (p : ℕ) → record_rule T s b p ≡ 0 → WholeAt T b p
@@ -66,7 +66,7 @@ rule_whole T s b p = go (known T (get_or b p 0)) refl (ltb (length b) (p + suc (
         → cond t (cond u 1 (first_broken (rules_of T s (record_at T b p)))) 2 ≡ 0 → WholeAt T b p
     go false e u f q = absurd (omega arith)
     go true e true f q = absurd (omega arith)
-    go true e false f q = record { is_known_lem = e; within = ltb-false (length b) (p + suc (body_length T k)) f }
+    go true e false f q = record { is_known = e; within = ltb-false (length b) (p + suc (body_length T k)) f }
 
 -- what a record that breaks no rule after ops is: an op, and not one too many
 sound_rule : (T : Table) (s : Seen) (b : List ℕ) (p : ℕ) → record_rule T s b p ≡ 0 → all_met (rules_of T s (record_at T b p)) ≡ true
@@ -165,13 +165,13 @@ module _ {T : Table} {b : List ℕ} {start : ℕ} {places₀ base vars labels ta
             → (ltb (length b) (p + suc (body_length T (get_or b p 0))) ≡ true) ⊎ (ltb (length b) (p + suc (body_length T (get_or b p 0))) ≡ false)
             → cond (known T (get_or b p 0)) (cond (ltb (length b) (p + suc (body_length T (get_or b p 0)))) 1 (first_broken (rules_of T s.seen (record_at T b p)))) 2
             ≡ cond (is_known (role_no (role_in e))) (cond (leb (length b - p) (outs_in e + ins_in e + rest_in e)) 1 (cond (eqb (get_or b p 0) 1) 3 (first_broken (op_tests e b p ops vars labels (operands_ok e b p vars))))) 2
-        go (inr x) y = rw (x, sym d.is_known_lem ∙ x)
+        go (inr x) y = rw (x, sym d.is_known ∙ x)
         go (inl x) (inl y) =
             let l = ltb-true (length b) (p + suc (body_length T (get_or b p 0))) y in
-            rw (x, sym d.is_known_lem ∙ x, y, le-leb (length b - p) (outs_in e + ins_in e + rest_in e) (omega (arith, l, d.body)))
+            rw (x, sym d.is_known ∙ x, y, le-leb (length b - p) (outs_in e + ins_in e + rest_in e) (omega (arith, l, d.body)))
         go (inl x) (inr y) =
             let l = ltb-false (length b) (p + suc (body_length T (get_or b p 0))) y in
-            rw (x, sym d.is_known_lem ∙ x, y, lt-leb (length b - p) (outs_in e + ins_in e + rest_in e) (omega (arith, l, d.body))) (whole_rule l)
+            rw (x, sym d.is_known ∙ x, y, lt-leb (length b - p) (outs_in e + ins_in e + rest_in e) (omega (arith, l, d.body))) (whole_rule l)
 
     -- it is refused, or breaks no rule
     abbrev here : Op
@@ -218,7 +218,7 @@ module _ {T : Table} {b : List ℕ} {start : ℕ} {places₀ base vars labels ta
   stands_at = record { its_kind = refl; whole = whole_op }
 
   cut_here : cut_of T (drop p b) ≡ cons (record_at T b p) (cut_of T (drop (p + suc (body_length T (get_or b p 0))) b))
-  cut_here = cut_record T b p k.here whole_here.is_known_lem whole_here.within
+  cut_here = cut_record T b p k.here whole_here.is_known whole_here.within
 
   long_here : length (record_at T b p) ≡ suc (body_length T (get_or b p 0))
   long_here = record_length T b p k.here whole_here.within

@@ -1,4 +1,6 @@
 // Runs the check on cases 1 and 11 of document 01, and on a small block for each refusal from 1 to 10. The file stdout holds what it writes.
+#![tactic(auto)]
+
 use block::Verdict;
 
 fn wide(x: u8) -> u64 {

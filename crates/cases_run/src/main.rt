@@ -1,4 +1,6 @@
 // Runs cases 2 to 10 and 12 of document 01 and aligned accesses, and writes what each leaves. The file stdout holds what it writes.
+#![tactic(auto)]
+
 use block::Verdict;
 use memory::Reason;
 use passes::Written;

@@ -1,4 +1,6 @@
 // The check of a block.
+#![tactic(auto)]
+
 ghost use Rattle.block.specs.Checks.{Checked};
 ghost use Rattle.block.specs.Scan.{RoomFor};
 

@@ -1,4 +1,6 @@
 // One op that computes a value.
+#![tactic(auto)]
+
 ghost use Rattle.std.specs.Prelude.{◌≡◌};
 ghost use Rattle.ops.specs.Ops.{view_of};
 ghost use Rattle.ops.specs.Kinds.{document01};

@@ -1,4 +1,6 @@
 // The declarations of a block.
+#![tactic(auto)]
+
 ghost use Rattle.std.specs.Prelude.{◌≡◌, List, ℕ, ◌*◌, ◌/◌, ◌≤◌, ◌<◌, min, length};
 ghost use Rattle.ops.specs.Limits.{max_variables};
 ghost use Rattle.ops.specs.Rows.{Table};

@@ -1,4 +1,6 @@
 // One op run, each kind by its own code.
+#![tactic(auto)]
+
 ghost use Rattle.std.specs.Prelude.{◌≡◌, false};
 ghost use Rattle.ops.specs.Ops.{view_of};
 ghost use Rattle.ops.specs.Kinds.{between, document01};

@@ -1,4 +1,6 @@
 // Double-word arithmetic on words of 64 bits: the high halves. The low ones are the single-word operations'.
+#![tactic(auto)]
+
 ghost use Rattle.std.specs.Prelude.{◌≡◌};
 ghost use Rattle.word.specs.Double.{high_w, add2_w, sub2_w, muluh_w, mulsh_w, carry_w, borrow_w, taken_w};
 

@@ -1,4 +1,6 @@
 // What an op that may fold states.
+#![tactic(auto)]
+
 ghost use Rattle.std.specs.Prelude.{◌≡◌, ◌%◌, ◌^◌};
 ghost use Rattle.std.proofs.Math.Option.{some};
 ghost use Rattle.word.specs.Answer.{stated_of};

@@ -1,4 +1,6 @@
 // The loop over the ops of an accepted block.
+#![tactic(auto)]
+
 ghost use Rattle.std.specs.Prelude.{◌≡◌, ◌+◌, ◌<◌, length, get_or};
 ghost use Rattle.theory.specs.Machine.{cost};
 ghost use Rattle.ops.specs.Limits.{max_ops, label_count};

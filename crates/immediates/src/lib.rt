@@ -1,4 +1,6 @@
 // The bytes after the operands of field ops and swaps: which are allowed, and what the flags say.
+#![tactic(auto)]
+
 ghost use Rattle.std.specs.Prelude.{◌≡◌, not, ◌||◌, ltb};
 ghost use Rattle.word.specs.Fields.{field_ok, position_ok};
 ghost use Rattle.word.specs.Swaps.{has_iz, has_os, swap_flags_ok, no_flags_ok};

@@ -1,4 +1,6 @@
 // The table of kinds, and the digits of an entry.
+#![tactic(auto)]
+
 ghost use Rattle.std.specs.Prelude.{◌≡◌, leb, get_or, ◌+◌};
 ghost use Rattle.ops.specs.Rows.{outs_in, ins_in, rest_in, test_in, role_in, types_in, role_no, number_of, is_known, is_setting, is_jumping};
 ghost use Rattle.ops.specs.Table.{kind_table};

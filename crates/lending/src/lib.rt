@@ -1,4 +1,6 @@
 // Rule 11: the lent globals and memory.
+#![tactic(auto)]
+
 ghost use Rattle.std.specs.Prelude.{◌≡◌};
 ghost use Rattle.runs.specs.Steps.{code_fits, codes_fit, lent_ok};
 

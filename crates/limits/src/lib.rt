@@ -1,4 +1,6 @@
 // The limits of a block (ops/specs/Limits): the one place of code that has their numbers, and the tests by them.
+#![tactic(auto)]
+
 ghost use Rattle.std.specs.Prelude.{◌≡◌, min, ltb, leb};
 ghost use Rattle.ops.specs.Limits.{max_variables, max_ops, max_memory};
 ghost use Rattle.ops.specs.Rows.{label_ok};

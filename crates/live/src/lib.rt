@@ -1,5 +1,7 @@
 // Liveness across an op, read backward. What is live is held as times (`live_of`), so that an op changes the times of
 // its operands alone, and those of whole classes where an extended basic block ends, at a branch, or where memory is accessed.
+#![tactic(auto)]
+
 ghost use Rattle.std.specs.Prelude.{◌≡◌, cond, false, ◌||◌, ◌+◌, ◌%◌, ◌≤◌, ◌<◌, length, get_or};
 ghost use Rattle.ops.specs.Rows.{outs_in, role_of, computing};
 ghost use Rattle.ops.specs.Table.{row_of};

@@ -1,4 +1,6 @@
 // Arrays of 256 entries, one for each byte, and of LABELS, one for each label: what is known of variables and labels.
+#![tactic(auto)]
+
 ghost use Rattle.std.specs.Prelude.{◌≡◌, length, set, ◌<◌};
 ghost use Rattle.block.specs.Scan.{SetAt, SetLabelAt};
 

@@ -1,4 +1,6 @@
 // The calls for C, on numbers and slices only.
+#![tactic(auto)]
+
 ghost use Rattle.std.specs.Prelude.{◌≡◌, [], ◌∷◌, ◌≤◌};
 ghost use Rattle.ops.specs.Limits.{max_bytes};
 ghost use Rattle.block.specs.Checks.{check_of};

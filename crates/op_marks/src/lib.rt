@@ -1,4 +1,6 @@
 // What an op leaves: the variables that may be read in the extended basic block, the labels set and jumped to. rank is that of its kind; its label is its last byte.
+#![tactic(auto)]
+
 ghost use Rattle.std.specs.Prelude.{◌≡◌, cond, false, [], ◌∷◌, ◌+◌, ◌-◌, ◌≤◌, ◌<◌, leb, length, get_or};
 ghost use Rattle.ops.specs.Limits.{max_ops};
 ghost use Rattle.ops.specs.Table.{row_of};

@@ -1,4 +1,6 @@
 // The fast test of one op.
+#![tactic(auto)]
+
 ghost use Rattle.std.specs.Prelude.{◌≡◌, ◌&&◌, ◌+◌, ◌-◌, ◌^◌, ◌≤◌, ◌<◌, ltb, length, get_or};
 ghost use Rattle.memory.specs.Bytes.{low_first};
 ghost use Rattle.ops.specs.Plans.{length_by, length_in, first_ask_in, rank_of, entry_at};

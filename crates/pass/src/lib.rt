@@ -1,4 +1,6 @@
 // The pass of a block: the check, the classes of its variables, and room for what the passes leave.
+#![tactic(auto)]
+
 ghost use Rattle.std.specs.Prelude.{◌≡◌, cond, ℕ, ◌≤◌, ltb, get_or};
 ghost use Rattle.ops.specs.Shapes.{shape_table};
 ghost use Rattle.block.specs.Scan.{RoomFor};

@@ -106,7 +106,7 @@ blocks_alike {D = D} law block result ds os h p h' p' globals memory f u =
     let e = run_accepted block ds os globals memory h p f₁ in
     let e' = run_accepted result ds (pass_ops D (classes_of ds) os) globals memory h' p' f₁ in
     let u₁ : unstated_end (run_ops D os globals memory).answer ≡ false = sym (ap (λ (t : Ran). unstated_end t.answer) e) ∙ u in
-    let w : proper (ops_run D os (entry D globals memory)).end ≡ true = rw p.ops at (run_ends law block globals memory h) in
-    let v : proper (ops_run D (pass_ops D (classes_of ds) os) (entry D globals memory)).end ≡ true = rw p'.ops at (run_ends law result globals memory h') in
+    let w : proper (ops_run D os (entry D globals memory)).end ≡ true = subst (λ (q : List (List ℕ)). proper (ops_run D q (entry D globals memory)).end ≡ true) p.ops (run_ends law block globals memory h) in
+    let v : proper (ops_run D (pass_ops D (classes_of ds) os) (entry D globals memory)).end ≡ true = subst (λ (q : List (List ℕ)). proper (ops_run D q (entry D globals memory)).end ≡ true) p'.ops (run_ends law result globals memory h') in
     let n : unspent (ops_run D (pass_ops D (classes_of ds) os) (entry D globals memory)).end ≡ true = and_r (not_fell (ops_run D (pass_ops D (classes_of ds) os) (entry D globals memory)).end) _ v in
     subst₂ Alike (sym e) (sym e') (runs_alike law ds os globals memory p.in_scope f₁ w n u₁)

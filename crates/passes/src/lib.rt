@@ -1,4 +1,5 @@
 // What the pass answers; definitions in specs/, laws in proofs/.
+#![tactic(auto)]
 
 // The pass's answer: the length of the result.
 #[derive(Drop)]

@@ -1,4 +1,6 @@
 // The rank of each kind and the plan of each rank: what the fast test of an op goes by, worked out from its entry.
+#![tactic(auto)]
+
 ghost use Rattle.std.specs.Prelude.{◌≡◌, eqb, ltb, leb, get_or};
 ghost use Rattle.ops.specs.Plans.{rank_table, length_table, plan_at, length_in, out_ask_in, first_ask_in, second_ask_in, first_at_in, second_at_in, byte_at_in, byte_ask_in, more_in, test_as, straight_end, flow_rank, exit_rank, setting_rank, has_label};
 

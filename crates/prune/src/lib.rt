@@ -1,4 +1,6 @@
 // Prune: the ops that liveness keeps, read backward.
+#![tactic(auto)]
+
 ghost use Rattle.std.specs.Prelude.{◌≡◌, cond, ◌-◌, ◌≤◌, eqb, length, get_or};
 ghost use Rattle.theory.specs.Prune.{dead};
 ghost use Rattle.ops.specs.Limits.{max_ops};

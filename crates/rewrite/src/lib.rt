@@ -1,4 +1,6 @@
 // Fold, prune and the result in the lent buffer, one after the other.
+#![tactic(auto)]
+
 ghost use Rattle.std.specs.Prelude.{◌≡◌, ◌≤◌, length};
 ghost use Rattle.ops.specs.Shapes.{shape_table};
 ghost use Rattle.passes.specs.Passes.{Optimised};

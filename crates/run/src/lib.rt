@@ -1,4 +1,6 @@
 // The run of a block.
+#![tactic(auto)]
+
 ghost use Rattle.std.specs.Prelude.{◌≡◌};
 ghost use Rattle.ops.specs.Kinds.{document01};
 ghost use Rattle.ops.specs.Table.{kind_table, row_of};

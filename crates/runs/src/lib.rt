@@ -1,4 +1,6 @@
 // How a run goes on and ends; definitions in specs/, laws in proofs/.
+#![tactic(auto)]
+
 use memory::Reason;
 
 // The run's answer. Each ending gives the number of ops run.

@@ -1,4 +1,6 @@
 // Reads a block: the rules in order, and where each op and label is.
+#![tactic(auto)]
+
 ghost use Rattle.std.specs.Prelude.{◌≡◌, false, ◌<◌, eqb, length, replicate};
 ghost use Rattle.ops.specs.Limits.{label_count};
 ghost use Rattle.ops.specs.Table.{row_of};

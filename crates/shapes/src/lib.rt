@@ -1,4 +1,6 @@
 // The shape of each kind: what the passes ask of its entry, in 16 bits.
+#![tactic(auto)]
+
 ghost use Rattle.std.specs.Prelude.{◌≡◌, eqb, get_or};
 ghost use Rattle.ops.specs.Shapes.{shape_table, outs_as, type_as, ins_as, rest_as, role_as, pure_as, computes_as, sets_as, jumps_as};
 

@@ -1,4 +1,6 @@
 // One op that does not compute: what it does to the globals, the temporaries and the memory, and how the run goes on.
+#![tactic(auto)]
+
 ghost use Rattle.std.specs.Prelude.{◌≡◌, ◌+◌, ◌≤◌, ◌<◌, ◌%◌, ◌^◌, length, false};
 ghost use Rattle.word.specs.Condition.{cond_w};
 ghost use Rattle.memory.specs.Answer.{access_width};

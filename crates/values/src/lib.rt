@@ -1,4 +1,6 @@
 // The values of the variables, in the lent globals and in an array of temporaries, and what a pure op states of them.
+#![tactic(auto)]
+
 ghost use Rattle.std.specs.Prelude.{◌≡◌, ◌+◌, ◌%◌, ◌<◌, eqb, length, get_or, set};
 ghost use Rattle.block.specs.Scan.{SetAt};
 ghost use Rattle.runs.specs.Evaluates.{env_of, PutAt, Computed, inputs_at, states_at, values_of};

@@ -1,4 +1,6 @@
 // Operations on words of 64 bits.
+#![tactic(auto)]
+
 ghost use Rattle.std.specs.Prelude.{◌≡◌, ◌/◌, ◌%◌, bit_and, bit_or, bit_xor};
 ghost use Rattle.word.specs.Word.{add_w, sub_w, mul_w, neg_w, not_w, andc_w, orc_w, eqv_w, nand_w, nor_w, shl_w, shr_w, sar_w, rotl_w, rotr_w, signed_w, bits_w, divs_w, rems_w, no_quotient, by_divisor, by_signed, by_count};
 ghost use Rattle.word.specs.Answer.{stated_of};
