@@ -12,7 +12,7 @@ pub prune-requires : goal.prune-requires
 prune-requires c =
     let f = c in
     let pre = f.requires in
-    (pre.0.laid, record { constants = _; folded = f.fold.ensures }, pre.0.classes_are.few, few_here pre.0, pre.0.held, omega (arith, pre.1, c.marks-1.given), pre.3)
+    (pre.0.laid, record { constants = _; folded = f.fold.ensures }, pre.0.classes_are.few, few_here pre.0, pre.0.held, omega (arith, pre.1), pre.3)
 
 pub overflow_add-size : goal.overflow_add-size
 overflow_add-size c = let p = c in omega (arith, size_small p.requires.0 p.prune.ensures)
@@ -25,14 +25,14 @@ emit-requires c =
     let e = c in
     let p = e in
     let f = p in
-    let pre = f.pre in
+    let pre = f.requires in
     let r = pre.0 in (
       r.laid,
       kept_marked f.fold.ensures p.prune.ensures,
       omega (arith, r.first_is, declared_fit r),
       r.held,
-      omega (arith, pre.1, p.marks-1.given, e.marks-2-1.given),
-      omega (arith, pre.2, p.constants-1.given),
+      omega (arith, pre.1),
+      omega (arith, pre.2),
       pre.3,
       all_fit r p.prune.ensures f.args.out.now e.if-out-size.false,
     )
