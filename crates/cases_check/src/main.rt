@@ -2,35 +2,20 @@
 #![tactic(auto)]
 
 use block::Verdict;
-
-fn wide(x: u8) -> u64 {
-    x as u64
-}
-
-fn wide_place(x: usize) -> u64 {
-    x as u64
-}
+use std::io;
 
 // Writes a refusal's number and place.
-fn show_refusal(rule: u8, place: usize) {
-    io::write_all(1, b": refusal ");
-    io::print_decimal(1, wide(rule));
-    io::write_all(1, b" at ");
-    io::print_decimal(1, wide_place(place));
-    io::write_all(1, b"\n");
+fn show_refusal(rt: &impl Print, rule: u8, place: usize) -> io::Result<()> {
+    println!(rt; ": refusal {rule} at {place}")
 }
 
 // Writes a block's name and what the check answers of it.
-fn run(name: &[u8], block: &[u8]) {
-    io::write_all(1, name);
+fn run(rt: &impl Print, name: &str, block: &[u8]) -> io::Result<()> {
+    print!(rt; "{name}")?;
     let verdict = checker::check(block);
     match verdict {
-        Verdict::Accepted => {
-            io::write_all(1, b": accepted\n");
-        }
-        Verdict::Refused { number, place } => {
-            show_refusal(number, place);
-        }
+        Verdict::Accepted => println!(rt; ": accepted"),
+        Verdict::Refused { number, place } => show_refusal(rt, number, place),
     }
 }
 
@@ -57,89 +42,84 @@ fn repeat(bytes: &mut [u8], start: usize, count: usize, x: u8, y: u8, z: u8) -> 
 }
 
 // Case 11 as request 05 moves it, 200 variables pass, the 201st gets 3: so many 64-bit globals, and exit_tb.
-fn variables(name: &[u8], bytes: &mut [u8], count: usize) {
+fn variables(rt: &impl Print, name: &str, bytes: &mut [u8], count: usize) -> io::Result<()> {
     let at = repeat(bytes, 0, count, 0x01, 0, 1);
     let after = put(bytes, at, 0x04);
     put(bytes, after, 0);
-    run(name, bytes);
+    run(rt, name, bytes)
 }
 
 // 1,024 ops pass, the 1,025th gets 9: a 64-bit global, so many mov_i64 before exit_tb.
-fn moves(name: &[u8], bytes: &mut [u8], count: usize) {
+fn moves(rt: &impl Print, name: &str, bytes: &mut [u8], count: usize) -> io::Result<()> {
     let start = repeat(bytes, 0, 1, 0x01, 0, 1);
     let at = repeat(bytes, start, count, 0x91, 0, 0);
     let after = put(bytes, at, 0x04);
     put(bytes, after, 0);
-    run(name, bytes);
+    run(rt, name, bytes)
 }
 
-fn case_11() {
+fn case_11(rt: &impl Print) -> io::Result<()> {
     let mut few = [0u8; 602];
-    variables(b"case 11: 200 variables", &mut few, 200);
+    variables(rt, "case 11: 200 variables", &mut few, 200)?;
     let mut more = [0u8; 605];
-    variables(b"case 11: 201 variables", &mut more, 201);
+    variables(rt, "case 11: 201 variables", &mut more, 201)?;
     let mut most = [0u8; 3074];
-    moves(b"case 11: 1,024 ops", &mut most, 1023);
+    moves(rt, "case 11: 1,024 ops", &mut most, 1023)?;
     let mut over = [0u8; 3077];
-    moves(b"case 11: 1,025 ops", &mut over, 1024);
+    moves(rt, "case 11: 1,025 ops", &mut over, 1024)
 }
 
-fn case_1() {
-    run(b"case 1: empty block", b"");
-    run(b"case 1: 01 00", b"\x01\x00");
+fn case_1(rt: &impl Print) -> io::Result<()> {
+    run(rt, "case 1: empty block", b"")?;
+    run(rt, "case 1: 01 00", b"\x01\x00")
 }
 
-fn refusals_to_6() {
-    run(b"record past the end", b"\x01\x00\x01\x04");
-    run(b"unknown kind", b"\x01\x00\x01\x00");
-    run(
-        b"declaration after an op",
+fn refusals_to_6(rt: &impl Print) -> io::Result<()> {
+    run(rt, "record past the end", b"\x01\x00\x01\x04")?;
+    run(rt, "unknown kind", b"\x01\x00\x01\x00")?;
+    run(rt, "declaration after an op",
         b"\x01\x00\x01\x04\x00\x01\x00\x01",
-    );
-    run(
-        b"global after a temporary",
+    )?;
+    run(rt, "global after a temporary",
         b"\x01\x02\x01\x01\x00\x01\x04\x01",
-    );
-    run(b"variable not declared", b"\x01\x00\x01\x04\x01");
-    run(b"wrong width", b"\x01\x00\x00\x04\x00");
-    run(b"label 127", b"\x01\x00\x01\x02\x7F\x04\x00");
-    run(b"label above 127", b"\x01\x00\x01\x02\x80\x04\x00");
+    )?;
+    run(rt, "variable not declared", b"\x01\x00\x01\x04\x01")?;
+    run(rt, "wrong width", b"\x01\x00\x00\x04\x00")?;
+    run(rt, "label 127", b"\x01\x00\x01\x02\x7F\x04\x00")?;
+    run(rt, "label above 127", b"\x01\x00\x01\x02\x80\x04\x00")
 }
 
-fn refusals_from_7() {
-    run(b"label set twice", b"\x01\x00\x01\x02\x00\x02\x00\x04\x00");
-    run(
-        b"jump to a label already set",
+fn refusals_from_7(rt: &impl Print) -> io::Result<()> {
+    run(rt, "label set twice", b"\x01\x00\x01\x02\x00\x02\x00\x04\x00")?;
+    run(rt, "jump to a label already set",
         b"\x01\x00\x01\x02\x00\x03\x00\x04\x00",
-    );
-    run(
-        b"jumped-to label never set",
+    )?;
+    run(rt, "jumped-to label never set",
         b"\x01\x00\x01\x03\x00\x04\x00",
-    );
-    run(b"temporary read before a write", b"\x01\x02\x01\x04\x00");
-    run(
-        b"temporary read by the op that writes it",
+    )?;
+    run(rt, "temporary read before a write", b"\x01\x02\x01\x04\x00")?;
+    run(rt, "temporary read by the op that writes it",
         b"\x01\x02\x01\x91\x00\x00\x04\x00",
-    );
-    run(b"no op", b"\x01\x00\x01");
-    run(b"last op is not exit_tb", b"\x01\x00\x01\x02\x00");
-    run(b"exit with a global", b"\x01\x00\x01\x04\x00");
+    )?;
+    run(rt, "no op", b"\x01\x00\x01")?;
+    run(rt, "last op is not exit_tb", b"\x01\x00\x01\x02\x00")?;
+    run(rt, "exit with a global", b"\x01\x00\x01\x04\x00")
 }
 
 // Blocks whose last record, or end, breaks two rules: the one asked first answers.
-fn orders() {
-    run(b"1 before 3", b"\x01\x00\x01\x04\x00\x01\x00");
-    run(b"4 before 5", b"\x01\x00\x00\x05\x00\x01");
-    run(b"5 before 6", b"\x01\x00\x00\xA8\x00\x00\x00\x0A");
-    run(b"6 before 7", b"\x01\x00\x01\x02\x00\xAA\x00\x00\x0A\x00");
-    run(b"7 before 8", b"\x01\x02\x01\x02\x00\xAA\x00\x00\x00\x00");
-    run(b"10 before 7", b"\x01\x00\x01\x03\x00");
+fn orders(rt: &impl Print) -> io::Result<()> {
+    run(rt, "1 before 3", b"\x01\x00\x01\x04\x00\x01\x00")?;
+    run(rt, "4 before 5", b"\x01\x00\x00\x05\x00\x01")?;
+    run(rt, "5 before 6", b"\x01\x00\x00\xA8\x00\x00\x00\x0A")?;
+    run(rt, "6 before 7", b"\x01\x00\x01\x02\x00\xAA\x00\x00\x0A\x00")?;
+    run(rt, "7 before 8", b"\x01\x02\x01\x02\x00\xAA\x00\x00\x00\x00")?;
+    run(rt, "10 before 7", b"\x01\x00\x01\x03\x00")
 }
 
-fn main() {
-    case_1();
-    case_11();
-    refusals_to_6();
-    refusals_from_7();
-    orders();
+fn main(rt: HostRuntime) -> io::Result<()> {
+    case_1(&rt)?;
+    case_11(&rt)?;
+    refusals_to_6(&rt)?;
+    refusals_from_7(&rt)?;
+    orders(&rt)
 }

@@ -1,7 +1,7 @@
 -- The counts are the language's, over the width. Assumes nothing.
 use mathlib.Core.Path.{◌≡◌, refl, sym, ap, ap₂, ◌∙◌, subst}
 use mathlib.Core.Bool.{Bool, true, false, cond}
-use Prim.Native.Nat.{ℕ, zero, suc, ◌+◌, ◌-◌, ◌*◌, ◌/◌, ◌%◌, ◌^◌, ◌≤◌, ◌<◌}
+use Prim.Native.Nat.{ℕ, zero, suc, ◌+◌, ◌*◌, ◌/◌, ◌%◌, ◌^◌, ◌≤◌, ◌<◌}
 use native.Mathlib.Nat.{add-zero, mod-lt, div-one, mod-eq_of_lt, pos_of_ne-zero, lt_of_le_of_lt}
 use native.Mathlib.Omega.{arith}
 use lib.Count.{ones, ones_cat, ones-le, count_leading_zeros, leading_top, count_trailing_zeros, trailing_le, under}

@@ -6,7 +6,7 @@ use native.Mathlib.Nat.{add_comm, one-mul, le-div_iff_mul-le, sub-add_cancel, lt
 use native.Mathlib.Omega.{arith}
 use lib.Dec.{ltb, leb}
 use lib.Bits.{bit_and, bit_or, and_zero_r, or_zero_l, or_zero_r}
-use lib.Pow.{pow_pos, pow_mono, shl_lt, shr_lt, ones_lt, high_ones, field}
+use lib.Pow.{pow_pos, pow_mono, shl_lt, shr_lt, ones_lt, high_ones}
 use borrow.Author.Tests.{ltb-true, ltb-false, leb-true, leb-false, lt-ltb}
 use Rattle.word.specs.Word.{andc_w, shl_w, not_w, extend_w}
 use Rattle.word.specs.Fields.{field_mask, deposit_w, extract_w, sextract_w, extract2_w, bit_at, BitLaw, Extract2Law}
