@@ -77,10 +77,14 @@ fn case_1(rt: &impl Print) -> io::Result<()> {
 fn refusals_to_6(rt: &impl Print) -> io::Result<()> {
     run(rt, "record past the end", b"\x01\x00\x01\x04")?;
     run(rt, "unknown kind", b"\x01\x00\x01\x00")?;
-    run(rt, "declaration after an op",
+    run(
+        rt,
+        "declaration after an op",
         b"\x01\x00\x01\x04\x00\x01\x00\x01",
     )?;
-    run(rt, "global after a temporary",
+    run(
+        rt,
+        "global after a temporary",
         b"\x01\x02\x01\x01\x00\x01\x04\x01",
     )?;
     run(rt, "variable not declared", b"\x01\x00\x01\x04\x01")?;
@@ -90,15 +94,25 @@ fn refusals_to_6(rt: &impl Print) -> io::Result<()> {
 }
 
 fn refusals_from_7(rt: &impl Print) -> io::Result<()> {
-    run(rt, "label set twice", b"\x01\x00\x01\x02\x00\x02\x00\x04\x00")?;
-    run(rt, "jump to a label already set",
+    run(
+        rt,
+        "label set twice",
+        b"\x01\x00\x01\x02\x00\x02\x00\x04\x00",
+    )?;
+    run(
+        rt,
+        "jump to a label already set",
         b"\x01\x00\x01\x02\x00\x03\x00\x04\x00",
     )?;
-    run(rt, "jumped-to label never set",
+    run(
+        rt,
+        "jumped-to label never set",
         b"\x01\x00\x01\x03\x00\x04\x00",
     )?;
     run(rt, "temporary read before a write", b"\x01\x02\x01\x04\x00")?;
-    run(rt, "temporary read by the op that writes it",
+    run(
+        rt,
+        "temporary read by the op that writes it",
         b"\x01\x02\x01\x91\x00\x00\x04\x00",
     )?;
     run(rt, "no op", b"\x01\x00\x01")?;
@@ -111,8 +125,16 @@ fn orders(rt: &impl Print) -> io::Result<()> {
     run(rt, "1 before 3", b"\x01\x00\x01\x04\x00\x01\x00")?;
     run(rt, "4 before 5", b"\x01\x00\x00\x05\x00\x01")?;
     run(rt, "5 before 6", b"\x01\x00\x00\xA8\x00\x00\x00\x0A")?;
-    run(rt, "6 before 7", b"\x01\x00\x01\x02\x00\xAA\x00\x00\x0A\x00")?;
-    run(rt, "7 before 8", b"\x01\x02\x01\x02\x00\xAA\x00\x00\x00\x00")?;
+    run(
+        rt,
+        "6 before 7",
+        b"\x01\x00\x01\x02\x00\xAA\x00\x00\x0A\x00",
+    )?;
+    run(
+        rt,
+        "7 before 8",
+        b"\x01\x02\x01\x02\x00\xAA\x00\x00\x00\x00",
+    )?;
     run(rt, "10 before 7", b"\x01\x00\x01\x03\x00")
 }
 

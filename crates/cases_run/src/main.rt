@@ -140,7 +140,9 @@ fn binary(rt: &impl Print, name: &str, block: &[u8], a: u64, b: u64) -> io::Resu
 }
 
 fn case_3(rt: &impl Print) -> io::Result<()> {
-    binary(rt, "case 3: add_i32 FFFFFFFF, 1: ",
+    binary(
+        rt,
+        "case 3: add_i32 FFFFFFFF, 1: ",
         b"\x01\x00\x01\x01\x00\x00\x01\x00\x00\x01\x00\x00\x11\x01\x02\x14\x01\x01\x03\x06\x00\x01\x04\x00",
         0xFFFFFFFF,
         1,
@@ -150,12 +152,16 @@ fn case_3(rt: &impl Print) -> io::Result<()> {
 fn case_4(rt: &impl Print) -> io::Result<()> {
     let block =
         b"\x01\x00\x01\x01\x00\x00\x01\x00\x00\x01\x00\x00\x11\x01\x02\x1F\x01\x01\x03\x06\x00\x01\x04\x00";
-    binary(rt, "case 4: divs_i32 80000000 by FFFFFFFF: ",
+    binary(
+        rt,
+        "case 4: divs_i32 80000000 by FFFFFFFF: ",
         block,
         0x80000000,
         0xFFFFFFFF,
     )?;
-    binary(rt, "case 4: divs_i32 80000001 by FFFFFFFF: ",
+    binary(
+        rt,
+        "case 4: divs_i32 80000001 by FFFFFFFF: ",
         block,
         0x80000001,
         0xFFFFFFFF,
@@ -163,12 +169,16 @@ fn case_4(rt: &impl Print) -> io::Result<()> {
 }
 
 fn case_5(rt: &impl Print) -> io::Result<()> {
-    binary(rt, "case 5: divs_i32 FFFFFFF9 by 2: ",
+    binary(
+        rt,
+        "case 5: divs_i32 FFFFFFF9 by 2: ",
         b"\x01\x00\x01\x01\x00\x00\x01\x00\x00\x01\x00\x00\x11\x01\x02\x1F\x01\x01\x03\x06\x00\x01\x04\x00",
         0xFFFFFFF9,
         2,
     )?;
-    binary(rt, "case 5: rems_i32 FFFFFFF9 by 2: ",
+    binary(
+        rt,
+        "case 5: rems_i32 FFFFFFF9 by 2: ",
         b"\x01\x00\x01\x01\x00\x00\x01\x00\x00\x01\x00\x00\x11\x01\x02\x21\x01\x01\x03\x06\x00\x01\x04\x00",
         0xFFFFFFF9,
         2,
@@ -178,17 +188,33 @@ fn case_5(rt: &impl Print) -> io::Result<()> {
 fn case_6(rt: &impl Print) -> io::Result<()> {
     let block =
         b"\x01\x00\x01\x01\x00\x00\x01\x00\x00\x01\x00\x00\x11\x01\x02\x25\x01\x01\x03\x06\x00\x01\x04\x00";
-    binary(rt, "case 6: sar_i32 80000000 by 31: ", block, 0x80000000, 31)?;
-    binary(rt, "case 6: sar_i32 80000000 by 32: ", block, 0x80000000, 32)
+    binary(
+        rt,
+        "case 6: sar_i32 80000000 by 31: ",
+        block,
+        0x80000000,
+        31,
+    )?;
+    binary(
+        rt,
+        "case 6: sar_i32 80000000 by 32: ",
+        block,
+        0x80000000,
+        32,
+    )
 }
 
 fn case_7(rt: &impl Print) -> io::Result<()> {
-    binary(rt, "case 7: setcond_i32 FFFFFFFF, 0, LT: ",
+    binary(
+        rt,
+        "case 7: setcond_i32 FFFFFFFF, 0, LT: ",
         b"\x01\x00\x01\x01\x00\x00\x01\x00\x00\x01\x00\x00\x11\x01\x02\x28\x01\x01\x03\x02\x06\x00\x01\x04\x00",
         0xFFFFFFFF,
         0,
     )?;
-    binary(rt, "case 7: setcond_i32 FFFFFFFF, 0, LTU: ",
+    binary(
+        rt,
+        "case 7: setcond_i32 FFFFFFFF, 0, LTU: ",
         b"\x01\x00\x01\x01\x00\x00\x01\x00\x00\x01\x00\x00\x11\x01\x02\x28\x01\x01\x03\x06\x06\x00\x01\x04\x00",
         0xFFFFFFFF,
         0,
@@ -204,18 +230,24 @@ fn extend(rt: &impl Print, name: &str, block: &[u8], a: u64) -> io::Result<()> {
 
 // The last block has a third global, of 64 bits: v1 := trunc v2; v0 := v1; exit with v0.
 fn case_8(rt: &impl Print) -> io::Result<()> {
-    extend(rt, "case 8: ext_i32_i64 80000000: ",
+    extend(
+        rt,
+        "case 8: ext_i32_i64 80000000: ",
         b"\x01\x00\x01\x01\x00\x00\x05\x00\x01\x04\x00",
         0x80000000,
     )?;
-    extend(rt, "case 8: extu_i32_i64 80000000: ",
+    extend(
+        rt,
+        "case 8: extu_i32_i64 80000000: ",
         b"\x01\x00\x01\x01\x00\x00\x06\x00\x01\x04\x00",
         0x80000000,
     )?;
     let block = b"\x01\x00\x01\x01\x00\x00\x01\x00\x01\x07\x01\x02\x06\x00\x01\x04\x00";
     let mut globals = [0xAAu64, 0xBB, 0x100000005];
     let mut memory = [0u8; 0];
-    run(rt, "case 8: trunc_i64_i32 100000005: ",
+    run(
+        rt,
+        "case 8: trunc_i64_i32 100000005: ",
         block,
         &mut globals,
         &mut memory,
@@ -223,7 +255,13 @@ fn case_8(rt: &impl Print) -> io::Result<()> {
 }
 
 // v0 is a 64-bit global, v1 a 32-bit one, v2 the address: v1 := load, or store v1; v0 := v1; exit with v0.
-fn access(rt: &impl Print, name: &str, block: &[u8], address: u64, memory: &mut [u8]) -> io::Result<()> {
+fn access(
+    rt: &impl Print,
+    name: &str,
+    block: &[u8],
+    address: u64,
+    memory: &mut [u8],
+) -> io::Result<()> {
     let mut globals = [0xAAu64, 0xBB, address];
     run(rt, name, block, &mut globals, memory)
 }
@@ -236,12 +274,16 @@ fn case_9(rt: &impl Print) -> io::Result<()> {
     let store_byte = b"\x01\x00\x01\x01\x00\x00\x01\x00\x01\x2C\x01\x02\x00\x06\x00\x01\x04\x00";
     access(rt, "case 9: a 4-byte load at 12: ", load, 12, &mut memory)?;
     access(rt, "case 9: a 4-byte load at 13: ", load, 13, &mut memory)?;
-    access(rt, "case 9: a 1-byte load at FFFFFFFFFFFFFFFF: ",
+    access(
+        rt,
+        "case 9: a 1-byte load at FFFFFFFFFFFFFFFF: ",
         load_byte,
         0xFFFFFFFFFFFFFFFF,
         &mut memory,
     )?;
-    access(rt, "case 9: a 1-byte store at FFFFFFFFFFFFFFFF: ",
+    access(
+        rt,
+        "case 9: a 1-byte store at FFFFFFFFFFFFFFFF: ",
         store_byte,
         0xFFFFFFFFFFFFFFFF,
         &mut memory,
@@ -255,18 +297,56 @@ fn aligned_accesses(rt: &impl Print) -> io::Result<()> {
     let mut memory = [0u8, 1, 2, 3, 4, 5, 6, 7, 8, 9, 10, 11, 12, 13, 14, 15];
     let load = b"\x01\x00\x01\x01\x00\x00\x01\x00\x01\x2B\x01\x02\x12\x06\x00\x01\x04\x00";
     let store = b"\x01\x00\x01\x01\x00\x00\x01\x00\x01\x2C\x01\x02\x12\x06\x00\x01\x04\x00";
-    access(rt, "a 4-byte load with bit 4 at 12: ", load, 12, &mut memory)?;
+    access(
+        rt,
+        "a 4-byte load with bit 4 at 12: ",
+        load,
+        12,
+        &mut memory,
+    )?;
     access(rt, "a 4-byte load with bit 4 at 5: ", load, 5, &mut memory)?;
-    access(rt, "a 4-byte load with bit 4 at 13: ", load, 13, &mut memory)?;
-    access(rt, "a 4-byte load with bit 4 at 16: ", load, 16, &mut memory)?;
-    access(rt, "a 4-byte store with bit 4 at 5: ", store, 5, &mut memory)?;
-    access(rt, "a 4-byte store with bit 4 at FFFFFFFFFFFFFFFF: ",
+    access(
+        rt,
+        "a 4-byte load with bit 4 at 13: ",
+        load,
+        13,
+        &mut memory,
+    )?;
+    access(
+        rt,
+        "a 4-byte load with bit 4 at 16: ",
+        load,
+        16,
+        &mut memory,
+    )?;
+    access(
+        rt,
+        "a 4-byte store with bit 4 at 5: ",
+        store,
+        5,
+        &mut memory,
+    )?;
+    access(
+        rt,
+        "a 4-byte store with bit 4 at FFFFFFFFFFFFFFFF: ",
         store,
         0xFFFFFFFFFFFFFFFF,
         &mut memory,
     )?;
-    access(rt, "a 4-byte store with bit 4 at 16: ", store, 16, &mut memory)?;
-    access(rt, "a 4-byte store with bit 4 at 8: ", store, 8, &mut memory)
+    access(
+        rt,
+        "a 4-byte store with bit 4 at 16: ",
+        store,
+        16,
+        &mut memory,
+    )?;
+    access(
+        rt,
+        "a 4-byte store with bit 4 at 8: ",
+        store,
+        8,
+        &mut memory,
+    )
 }
 
 fn case_10(rt: &impl Print) -> io::Result<()> {
@@ -291,7 +371,13 @@ fn show_result(rt: &impl Print, out: &[u8], n: usize) -> io::Result<()> {
         println!(rt; "")?;
         let mut globals = [7u64, 2, 3, 4];
         let mut memory = [0u8; 0];
-        run(rt, "case 12: after: ", &out[0..n], &mut globals, &mut memory)?;
+        run(
+            rt,
+            "case 12: after: ",
+            &out[0..n],
+            &mut globals,
+            &mut memory,
+        )?;
     }
     Ok(())
 }
