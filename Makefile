@@ -81,8 +81,9 @@ $(ARCHIVE): $(PROVED)
 	@command -v rt >/dev/null || { exec >&2; \
 	    echo 'rt, the Rattle kit, is not found: it has to prove and build $@.'; \
 	    echo 'On a machine with it, make dist makes a tarball that needs a C compiler only (docs/KIT.md).'; exit 1; }
-	rt staticlib ngulo
-	touch $@
+	cd crates/ngulo && rt lib
+	mkdir -p $(dir $@)
+	cp crates/ngulo/out/libngulo.a $@
 
 archive: $(ARCHIVE)
 shared: $(SHARED)

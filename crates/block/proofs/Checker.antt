@@ -12,8 +12,7 @@ use Rattle.theory.proofs.Checker.{Checker, checks}
 use Rattle.theory.proofs.Scoped.{scoped}
 use Rattle.theory.specs.Sets.{Vars, all_in}
 use Rattle.theory.proofs.Sets.{and_l, and_r, and_i, clash}
-use Rattle.theory.proofs.Simulation.{more}
-use Rattle.ops.specs.Rows.{at, Table}
+use Rattle.ops.specs.Rows.{Table}
 use Rattle.ops.specs.Ops.{tcg, Dialect}
 use Rattle.ops.proofs.Traits.{inputs_at_lem, wrote_at}
 use Rattle.ops.proofs.Lawful.{Lawful}

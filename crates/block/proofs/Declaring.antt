@@ -11,10 +11,9 @@ use borrow.Author.Tests.{ltb-true, ltb-false, lt-ltb, leb-true, leb-false, le-lt
 use native.Mathlib.Numerals.{add-one}
 use native.Mathlib.Nat.{add-zero, zero-add}
 use Rattle.ops.specs.Limits.{max_variables}
-use Rattle.theory.specs.Prune.{before}
 use Rattle.theory.specs.Sets.{empty}
 use Rattle.theory.proofs.Sets.{and_l, and_r, tell, clash}
-use Rattle.ops.specs.Rows.{is_known, at, Table}
+use Rattle.ops.specs.Rows.{is_known, Table}
 use Rattle.ops.specs.Rows.{known, body_length}
 use Rattle.ops.specs.Fields.{kind_of}
 use Rattle.block.specs.Checks.{asks, first_broken, refused_or, check_by}

@@ -7,7 +7,6 @@ use native.Mathlib.Omega.{arith}
 use lib.Dec.{eqb, ltb}
 use lib.ListN.{length, get_or}
 use borrow.Author.Tests.{ltb-true, eqb-true, ne_eqb, lt-ltb, eq-eqb}
-use native.Mathlib.Nat.{le_trans, le_refl}
 use Rattle.ops.specs.Limits.{max_ops}
 use Rattle.theory.specs.Fold.{Known, Rewrite, base_rule}
 use Rattle.theory.specs.Machine.{head_or, pure}

@@ -10,7 +10,7 @@ use Rattle.ops.specs.Rows.{Row, outs_in, ins_in, rest_in, test_in, role_in, type
 use Rattle.ops.specs.Fields.{row_at, bytes_at, outs_by, label_by}
 use Rattle.block.specs.Checks.{Finding, asks, first_broken, rules_of, refused_or, check_from, check_by}
 use Rattle.block.specs.Records.{cut_of, records_of, record_bytes, is_declaration, declarations, ops_from, class_of, type_of, classes_of, declared_types, global_count}
-use Rattle.block.specs.Rules.{Seen, start, kept_in, label_free, marked_by, all_set}
+use Rattle.block.specs.Rules.{Seen, kept_in, label_free, marked_by, all_set}
 use Rattle.block.specs.declared.Verdict.{Verdict}
 use Rattle.block.specs.declared.Verdict.TheVariants.{Accepted, Refused}
 

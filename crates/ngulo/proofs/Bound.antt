@@ -11,7 +11,7 @@ use borrow.Author.Tests.{eqb-true, leb-true}
 use Rattle.theory.specs.Machine.{Lang, Prog, head_or, computes, inputs, reads}
 use Rattle.theory.specs.Sets.{Vars}
 use Rattle.theory.specs.Fold.{Known, on, put, nothing, learned, fold, emit, tried, bind_o, all_known, base_rule}
-use Rattle.theory.specs.Prune.{dead, prune, prune_by, live}
+use Rattle.theory.specs.Prune.{dead, prune_by, live}
 use Rattle.theory.proofs.Sets.{and_r}
 use Rattle.memory.proofs.Numbers.{length_bytes}
 use Rattle.ops.specs.Rows.{row_in, body_of, known, body_length, table_of, types_of, role_no}

@@ -7,7 +7,6 @@ use Rattle.theory.specs.Fold.{nothing, Still}
 use Rattle.theory.specs.Machine.{Prog}
 use Rattle.theory.specs.Prune.{AllUsed, live_all}
 use Rattle.memory.proofs.Digits.{room}
-use Rattle.memory.proofs.Faults.{sized}
 use Rattle.ops.specs.Ops.{tcg, Dialect}
 use Rattle.block.specs.Records.{records_of, record_bytes, declarations, ops_from, classes_of}
 use Rattle.block.proofs.Parts.{Parts, parts}
@@ -15,7 +14,7 @@ use Rattle.passes.specs.Demand.{Room, Demand3, DemandOf, Demand}
 use Rattle.passes.specs.Passes.{pass_ops, result_of, written}
 use Rattle.passes.proofs.Alike.{blocks_alike}
 use Rattle.passes.proofs.Result.{rule, ops_preserved, parts_size, kept_parts, result_of_lem, pass_answers}
-use Rattle.block.specs.Rules.{globals_in, kept_in, declared}
+use Rattle.block.specs.Rules.{globals_in, kept_in}
 use Rattle.block.specs.declared.Verdict.TheVariants.{Accepted}
 use Rattle.block.specs.Checks.{check_by}
 use Rattle.ops.proofs.Lawful.{Lawful}

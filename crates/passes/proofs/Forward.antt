@@ -16,7 +16,6 @@ use Rattle.theory.specs.Sets.{Vars, empty}
 use Rattle.theory.proofs.Rule.{Puts, same, folds, puts}
 use Rattle.theory.proofs.Sets.{tell}
 use Rattle.ops.specs.Ops.{view_of, tcg}
-use Rattle.ops.specs.Rows.{known}
 use Rattle.ops.specs.Kinds.{document01}
 use Rattle.ops.specs.Table.{row_of}
 use Rattle.ops.proofs.Document01.{lawful}

@@ -27,7 +27,7 @@ use Rattle.block.specs.Records.{record_bytes, is_declaration, classes_of}
 use Rattle.block.proofs.Lenient.{lenient, cutting, admits}
 use Rattle.block.proofs.Parts.{Parts, joined}
 use Rattle.passes.specs.Passes.{pass_ops, result_of, pass_refused, written, pass_checked, pass_by}
-use Rattle.block.specs.Rules.{start, globals_in, kept_in, declared}
+use Rattle.block.specs.Rules.{start, globals_in, kept_in}
 use Rattle.block.proofs.Checker.{checker, declared_in, few_declared, few_ops}
 use Rattle.block.proofs.Cut.{whole, AllWhole, AllDeclared}
 use Rattle.block.specs.declared.Verdict.TheVariants.{Accepted}

@@ -6,7 +6,7 @@ use mathlib.Core.Logic.{⊎_elim, ◌⊎◌, inl, inr}
 use Prim.Native.Nat.{ℕ, zero, suc, ◌+◌, ◌≤◌, ◌<◌}
 use native.Mathlib.Omega.{arith}
 use lib.Dec.{eqb, ltb}
-use lib.ListN.{length, get_or}
+use lib.ListN.{get_or}
 use borrow.Author.Tests.{ltb-true, ne_eqb}
 use Rattle.theory.proofs.Sets.{and_l, and_r}
 use Rattle.ops.specs.Rows.{Role, sets_label, jumps_to, exits, branches, loads, stores, constant, computing, role_no, table_of, is_computing, number_of, role_of, body_length}

@@ -1,11 +1,9 @@
 -- `count_globals` reads declarations of globals. Assumes nothing.
-use mathlib.Core.Path.{◌≡◌, sym, ◌∙◌}
-use mathlib.Core.Bool.{true}
-use Prim.Native.Nat.{◌+◌, ◌*◌, ◌-◌, ◌/◌, ◌<◌}
+use mathlib.Core.Path.{sym, ◌∙◌}
+use Prim.Native.Nat.{◌+◌, ◌*◌}
 use native.Mathlib.Omega.{arith}
-use lib.ListN.{length, get_or}
+use lib.ListN.{get_or}
 use borrow.Author.Tests.{not-true, not-false}
-use Rattle.ops.specs.Limits.{max_variables}
 use Rattle.block.proofs.Declaring.{declaring_start, global_kind, next_global}
 use Rattle.declarations.proofs.count_globals.Goals as goal
 

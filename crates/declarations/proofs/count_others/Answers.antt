@@ -1,11 +1,10 @@
 -- `count_others` reads declarations after the globals. Assumes nothing.
 use mathlib.Core.Path.{◌≡◌, sym, ◌∙◌, subst}
-use mathlib.Core.Bool.{true, false}
-use Prim.Native.Nat.{ℕ, ◌+◌, ◌*◌, ◌-◌, ◌/◌, ◌<◌}
+use mathlib.Core.Bool.{false}
+use Prim.Native.Nat.{ℕ, ◌+◌, ◌*◌}
 use native.Mathlib.Omega.{arith}
-use lib.ListN.{length, get_or}
+use lib.ListN.{get_or}
 use borrow.Author.Tests.{not-true, not-false}
-use Rattle.ops.specs.Limits.{max_variables}
 use Rattle.block.specs.Scan.{declares_global}
 use Rattle.block.proofs.Declaring.{other_kind, next_other, stops_at, no_more_room}
 use Rattle.declarations.proofs.count_others.Goals as goal

@@ -1,5 +1,4 @@
 -- `copy` copies bytes. Assumes nothing.
-use Prim.Native.Nat.{◌-◌}
 use native.Mathlib.Omega.{arith}
 use Rattle.passes.proofs.Stores.{copied_start, copied_length, copied_next, copied_ends}
 use Rattle.emit.proofs.copy.Goals as goal

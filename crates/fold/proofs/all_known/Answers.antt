@@ -1,7 +1,6 @@
 -- One or two bytes are tested without a loop. Assumes nothing.
 use mathlib.Core.Path.{sym, ap₂, ◌∙◌}
 use mathlib.Core.Bool.{Bool, ◌&&◌}
-use Prim.Native.Nat.{◌-◌}
 use borrow.Author.Tests.{not-true, not-false}
 use Rattle.block.specs.Scan.{marked}
 use Rattle.passes.proofs.Knowing.{ends_known, ends_unknown}

@@ -1,7 +1,6 @@
 -- Each byte is tested until one names a variable that is not known. Assumes nothing.
 use borrow.Author.Rules.{rules}
 use mathlib.Core.Path.{sym, ◌∙◌}
-use Prim.Native.Nat.{◌-◌}
 use native.Mathlib.Omega.{arith}
 use borrow.Author.Tests.{not-true, not-false}
 use Rattle.ops.specs.Fields.{bytes_at}

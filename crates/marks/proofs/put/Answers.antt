@@ -1,6 +1,5 @@
 -- A byte is below 256, so its place is inside. Assumes nothing.
 use native.Mathlib.Omega.{arith}
-use Rattle.block.proofs.Views.{inside}
 use Rattle.marks.proofs.put.Goals as goal
 
 pub returns : goal.returns

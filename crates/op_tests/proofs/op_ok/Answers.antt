@@ -1,6 +1,6 @@
 -- `op_ok` is the fast (byte_test_by (get_or kind_table (let a = of.before.before.args in get_or a.block.now a.at 0) 0)) an op. Assumes nothing.
 use mathlib.Core.Path.{refl, sym, ◌∙◌}
-use Prim.Native.Nat.{◌+◌, ◌-◌}
+use Prim.Native.Nat.{◌+◌}
 use native.Mathlib.Omega.{arith}
 use lib.ListN.{get_or}
 use borrow.Author.Tests.{not-true, not-false}

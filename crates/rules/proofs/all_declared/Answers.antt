@@ -1,5 +1,4 @@
 -- `all_declared` is the test of rule 4. Assumes nothing.
-use Prim.Native.Nat.{◌-◌}
 use native.Mathlib.Omega.{arith}
 use borrow.Author.Rules.{rules}
 use Rattle.block.proofs.Operands.{declared_start, declared_next, declared_stops, declared_ends}

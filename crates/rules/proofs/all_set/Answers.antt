@@ -1,6 +1,5 @@
 -- `all_set` is rule 7 at the end. Assumes nothing.
 use mathlib.Core.Path.{◌≡◌, refl, ap, ◌∙◌}
-use Prim.Native.Nat.{◌-◌}
 use native.Mathlib.Omega.{arith}
 use Rattle.ops.specs.Limits.{label_count}
 use Rattle.block.specs.Rules.{all_set}

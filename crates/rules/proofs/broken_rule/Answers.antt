@@ -1,13 +1,12 @@
 -- `broken_rule` asks the rules of an op in order. Assumes nothing.
 use mathlib.Core.Path.{◌≡◌, sym, ◌∙◌}
-use Prim.Native.Nat.{ℕ, ◌+◌, ◌-◌, ◌≤◌, ◌<◌}
+use Prim.Native.Nat.{ℕ, ◌+◌, ◌-◌, ◌<◌}
 use mathlib.Core.List.{List}
 use native.Mathlib.Omega.{arith}
-use lib.ListN.{length}
 use borrow.Author.Tests.{not-true, not-false, ltb-true, ltb-false}
 use Rattle.ops.specs.Limits.{max_ops}
 use Rattle.ops.specs.Rows.{rest_in}
-use Rattle.block.proofs.OpRules.{Op, Met4, Met5, Met6, count_inside, declared_by, typed_by, rest_by_lem, rest_inside, free_by, is_9, is_4, is_5, is_6, is_7, is_8}
+use Rattle.block.proofs.OpRules.{Op, Met4, Met5, Met6, count_inside, declared_by, typed_by, rest_by_lem, free_by, is_9, is_4, is_5, is_6, is_7, is_8}
 use Rattle.rules.proofs.broken_rule.Goals as goal
 
 abbrev op : ℕ → List ℕ → ℕ → ℕ → List ℕ → List ℕ → Op

@@ -1,6 +1,5 @@
 -- `record_rule` asks 2 and 1 first, then 3 or the rules of an op. Assumes nothing.
 use mathlib.Core.Path.{sym, ◌∙◌}
-use Prim.Native.Nat.{◌-◌}
 use native.Mathlib.Omega.{arith}
 use borrow.Author.Tests.{not-true, not-false}
 use Rattle.block.proofs.OpRules.{entry_2, entry_1, entry_3, entry_op}
