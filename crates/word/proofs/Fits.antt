@@ -49,7 +49,7 @@ nand_fits w a b = not_fits w (bit_and a b)
 pub nor_fits : (w a b : ℕ) → nor_w w a b < 2 ^ w
 nor_fits w a b = not_fits w (bit_or a b)
 
--- bit by bit; `and`, `or` and `xor` themselves are lib.Bits' and_lt, or_lt and xor-lt
+-- bit by bit; `and`, `or` and `xor` themselves are lib.Bits' and_lt, or_lt and xor_lt
 pub andc_fits : (w a b : ℕ) → a < 2 ^ w → andc_w w a b < 2 ^ w
 andc_fits w a b h = and_lt w a (not_w w b) h (not_fits w b)
 

@@ -38,7 +38,7 @@ sextract_w w pos len a = extend_w len w (extract_w pos len a)
 unfoldable pub extract2_w : ℕ → ℕ → ℕ → ℕ → ℕ
 extract2_w w pos a b = (b * 2 ^ w + a) / 2 ^ pos % 2 ^ w
 
--- The bit law: bit i of each result, for the values a and b of t1 and t2, a below 2 ^ w. `bit-law` (proofs/Fields) is its proof
+-- The bit law: bit i of each result, for the values a and b of t1 and t2, a below 2 ^ w. `bit_law` (proofs/Fields) is its proof
 abbrev pub bit_at : ℕ → ℕ → ℕ
 bit_at a i = a / 2 ^ i % 2
 

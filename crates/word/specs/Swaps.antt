@@ -39,7 +39,7 @@ input_ok n flags a = not (has_iz flags) || ltb a (2 ^ (8 * n))
 unfoldable pub by_input : ℕ → ℕ → ℕ → ℕ → Option ℕ
 by_input n flags a x = cond (input_ok n flags a) (some x) none
 
--- The byte law: byte i of a swap of n bytes, at least one and no more than the width has, and what stands above them. `byte-law` (proofs/Swaps) is its proof
+-- The byte law: byte i of a swap of n bytes, at least one and no more than the width has, and what stands above them. `byte_law` (proofs/Swaps) is its proof
 abbrev pub byte_at : ℕ → ℕ → ℕ
 byte_at a i = a / 2 ^ (8 * i) % 256
 
