@@ -16,23 +16,19 @@ returns-then-not-labelled c =
 
 pub returns-then-sets : goal.returns-then-sets
 returns-then-sets c =
-    let k = c in
-    let m = k in
-    let a = m.args in
-    label_set a.rank _ a.op a.labels.now a.targets.now m.labelled.ensures (not-false _ m.if-not-labelled.false-raw) c.sets.ensures c.if-sets.true
-    (ap (λ (n : ℕ). get_or a.block.now (a.at + n - 1) 0) (k.length.ensures ∙ ap length_in k.plan.ensures)) (c.put_label.ensures.below (let m = k in
-    let s = m in
-    subst (λ (n : ℕ). get_or s.args.block.now (s.args.at + n - 1) 0 < label_count) (sym (k.length.ensures ∙ ap length_in k.plan.ensures)) (s.requires.2 (sym m.labelled.ensures ∙ not-false _ m.if-not-labelled.false-raw))))
+    let a = c.args in
+    let labelled = not-false _ c.if-not-labelled.false-raw in
+    let long = c.length.ensures ∙ ap length_in c.plan.ensures in
+    let low = subst (λ (n : ℕ). get_or a.block.now (a.at + n - 1) 0 < label_count) (sym long) (c.requires.2 (sym c.labelled.ensures ∙ labelled)) in
+    label_set a.rank _ a.op a.labels.now a.targets.now c.labelled.ensures labelled c.sets.ensures c.if-sets.true (ap (λ (n : ℕ). get_or a.block.now (a.at + n - 1) 0) long) (c.put_label.ensures.below low)
 
 pub returns : goal.returns
 returns c =
-    let k = c in
-    let m = k in
-    let a = m.args in
-    label_jumped a.rank _ a.op a.labels.now a.targets.now m.labelled.ensures (not-false _ m.if-not-labelled.false-raw) c.sets.ensures c.if-sets.false
-    (ap (λ (n : ℕ). get_or a.block.now (a.at + n - 1) 0) (k.length.ensures ∙ ap length_in k.plan.ensures)) (c.put_target.ensures.below (let m = k in
-    let s = m in
-    subst (λ (n : ℕ). get_or s.args.block.now (s.args.at + n - 1) 0 < label_count) (sym (k.length.ensures ∙ ap length_in k.plan.ensures)) (s.requires.2 (sym m.labelled.ensures ∙ not-false _ m.if-not-labelled.false-raw))))
+    let a = c.args in
+    let labelled = not-false _ c.if-not-labelled.false-raw in
+    let long = c.length.ensures ∙ ap length_in c.plan.ensures in
+    let low = subst (λ (n : ℕ). get_or a.block.now (a.at + n - 1) 0 < label_count) (sym long) (c.requires.2 (sym c.labelled.ensures ∙ labelled)) in
+    label_jumped a.rank _ a.op a.labels.now a.targets.now c.labelled.ensures labelled c.sets.ensures c.if-sets.false (ap (λ (n : ℕ). get_or a.block.now (a.at + n - 1) 0) long) (c.put_target.ensures.below low)
 
 pub overflow_add-l : goal.overflow_add-l
 overflow_add-l c = omega (arith, c.length.ensures ∙ ap length_in c.plan.ensures, c.requires)

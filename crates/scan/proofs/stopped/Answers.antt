@@ -1,4 +1,4 @@
--- The rule that a record breaks, by the entry of (let a = kind.before.before.before.before.before.args in entered kind.before.before.before.table.result (get_or a.block.now a.at 0) kind.entry.ensures kind.before.before.before.table.ensures). Assumes nothing.
+-- The rule that a record breaks, by the entry of its kind. Assumes nothing.
 use mathlib.Core.Path.{◌≡◌, refl, ap, ◌∙◌}
 use mathlib.Core.Bool.{false}
 use mathlib.Core.List.{List}
