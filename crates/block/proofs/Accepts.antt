@@ -14,8 +14,8 @@ use Rattle.block.specs.Meaning.{seen}
 use Rattle.block.specs.Records.{cut_of, records_of, record_bytes, is_declaration}
 use Rattle.block.specs.Rules.{Seen, start, rule3, next}
 use Rattle.block.proofs.Cut.{AllWhole, cut_whole, cut_concat}
-use Rattle.block.specs.declared.Verdict.{Verdict}
-use Rattle.block.specs.declared.Verdict.TheVariants.{Accepted, Refused}
+use Rattle.block.specs.Checks.{Verdict}
+use Rattle.block.specs.Checks.{Accepted, Refused}
 use Rattle.ops.specs.Rows.{Table}
 
 abbrev pub all_met : List Finding → Bool

@@ -19,14 +19,17 @@ use Rattle.ops.specs.Fields.{kind_of}
 use Rattle.block.specs.Checks.{asks, first_broken, refused_or, check_by}
 use Rattle.block.specs.Records.{Cut, cons, cut_of, records_of, is_declaration, class_of, type_of, classes_of, declared_types, global_count}
 use Rattle.block.specs.Rules.{Seen}
-use Rattle.block.specs.Scan.{Stands, codes_in, code_of, Coded, code_for, codes_from, declaration_ok, declares_global, declares_other, declared_rule, Stopped, DeclaredBy}
+use Rattle.block.specs.Scan.{Stands, codes_in, code_of, Coded, code_for, codes_from, declaration_ok, declares_global, declares_other, declared_rule, Stopped, RefusedBy}
 use Rattle.block.proofs.Codes.{coded_more}
 use Rattle.block.proofs.Cut.{bytes_more, all_append}
+use Rattle.block.proofs.Refusals.{same_place}
 use Rattle.block.proofs.Views.{byte, kind_byte}
 use Rattle.block.proofs.Steps.{cut_record, record_length, at_short, at_record, at_start}
 use Rattle.block.specs.Rules.{all_global, rule3, declared, next}
 use Rattle.block.specs.Scan.{record_at, check_at, declared_seen, Declaring}
-use Rattle.block.specs.declared.Verdict.TheVariants.{Refused}
+use Rattle.block.specs.Checks.{Verdict, Accepted, Refused}
+use Rattle.block.specs.declared.Refusal.{Refusal}
+use Rattle.std.specs.Prelude.{Err}
 use Rattle.ops.specs.Lawful.{LawfulTable}
 use Rattle.ops.proofs.Plans.{not_so}
 
@@ -260,27 +263,26 @@ no_room b p n globals e (inr l) h k w = absurd (omega arith)
 
 -- the answer at the place where they end
 module _ {T : Table} (law : LawfulTable T) {b vars₀ vars : List ℕ} {p n globals : ℕ} (d : Declaring T b vars₀ vars p n globals) (s : Stopped b p n globals) where
-  pub declared_by : {rule : ℕ} → rule ≡ declared_rule b p → DeclaredBy T b vars₀ vars rule p n globals
-  declared_by {rule} e = go (tell (leb (length b) p)) (tell (eqb (get_or b p 0) 1)) (tell (ltb (length b - p) 3))
+  pub refuses : {verdict : Verdict} {refusal : Refusal} → verdict ≡ refused_or (declared_rule b p) p Accepted → verdict ≡ Err refusal → RefusedBy T b vars₀ vars refusal
+  refuses {verdict} {refusal} e q = go (tell (leb (length b) p)) (tell (eqb (get_or b p 0) 1)) (tell (ltb (length b - p) 3))
     where
-      -- none follows; or one is refused
-      ended : rule ≡ 0 → (p < length b → get_or b p 0 ≡ 1 → ⊥) → DeclaredBy T b vars₀ vars rule p n globals
-      ended q k = record { declaring = d; refused = λ z. absurd (z q); no_more = λ z. k }
-
-      refused : {m : ℕ} → rule ≡ m → (m ≡ 0 → ⊥) → Refused m p ≡ check_by T b → DeclaredBy T b vars₀ vars rule p n globals
-      refused q z r = record { declaring = d; refused = λ u. ap (λ (m : ℕ). Refused m p) q ∙ r; no_more = λ u. absurd (z (sym q ∙ u)) }
+      refused : {m : ℕ} → verdict ≡ Refused m p → Refused m p ≡ check_by T b → RefusedBy T b vars₀ vars refusal
+      refused {m} z r =
+          let same : ◌≡◌ {A = Verdict} (Err refusal) (Refused m p) = sym q ∙ z in
+          let place : refusal.place ≡ p = same_place same in
+          record { n = n; globals = globals; declaring = rw place d; refused = same ∙ r }
 
       go : (leb (length b) p ≡ true) ⊎ (leb (length b) p ≡ false) → (eqb (get_or b p 0) 1 ≡ true) ⊎ (eqb (get_or b p 0) 1 ≡ false) → (ltb (length b - p) 3 ≡ true) ⊎ (ltb (length b - p) 3 ≡ false)
-          → DeclaredBy T b vars₀ vars rule p n globals
-      go (inl x) y z = ended (e ∙ rw x) (λ h. absurd (omega (arith, h, leb-true (length b) p x)))
-      go (inr x) (inr y) z = ended (e ∙ rw (x, y)) (λ h. eqb-false (get_or b p 0) 1 y)
+          → RefusedBy T b vars₀ vars refusal
+      go (inl x) y z = let u : ◌≡◌ {A = Verdict} (Err refusal) Accepted = sym q ∙ e ∙ rw x in cc
+      go (inr x) (inr y) z = let u : ◌≡◌ {A = Verdict} (Err refusal) Accepted = sym q ∙ e ∙ rw (x, y) in cc
       go (inr x) (inl y) (inl z) =
-          refused (e ∙ rw (x, y, z)) (λ q. omega arith) (declaring_short law d (leb-false (length b) p x) (eqb-true (get_or b p 0) 1 y) (ltb-true (length b - p) 3 z))
+          refused (e ∙ rw (x, y, z)) (declaring_short law d (leb-false (length b) p x) (eqb-true (get_or b p 0) 1 y) (ltb-true (length b - p) 3 z))
       go (inr x) (inl y) (inr z) =
           let h = leb-false (length b) p x in
           let k = eqb-true (get_or b p 0) 1 y in
           let l = ltb-false (length b - p) 3 z in
-          refused (e ∙ rw (x, y, z)) (λ q. omega arith) (declaring_refused law d h k l (s h k l))
+          refused (e ∙ rw (x, y, z)) (declaring_refused law d h k l (s h k l))
 
 -- one more declaration, in the loop's terms
 module _ {T : Table} (law : LawfulTable T) {b vars₀ vars : List ℕ} {n globals : ℕ} (d : Declaring T b vars₀ vars (3 * n) n globals) (h : n < length b / 3) (k : get_or b (3 * n) 0 ≡ 1) {r : Bool}

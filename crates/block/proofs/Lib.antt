@@ -10,6 +10,7 @@ pub mod Views
 pub mod Operands
 pub mod Fields
 pub mod OpRules
+pub mod Refusals
 pub mod Rests
 pub mod MarkSets
 pub mod Codes

@@ -15,10 +15,11 @@ use Rattle.block.specs.Checks.{Finding, first_broken, rules_of, end_rules, refus
 use Rattle.block.specs.Meaning.{seen, AllMet, FirstBroken, here, later, Meets, EachMeets, Obeys, Breaks, unknown2, short1, record_breaks, ending, Broken, AcceptedMeans, RefusedMeans}
 use Rattle.block.specs.Records.{Cut, stray, cons, cut_by, cut_of, records_of, record_bytes}
 use Rattle.block.specs.Rules.{Seen, start, next}
-use Rattle.block.specs.declared.Verdict.{Verdict}
-use Rattle.block.specs.declared.Verdict.TheVariants.{Accepted, Refused}
+use Rattle.block.specs.Checks.{Verdict}
+use Rattle.block.specs.Checks.{Accepted, Refused}
 use Rattle.block.proofs.Accepts.{all_met, accepts, Numbered, none_broken, numbered_rules, numbered_end, check_accepts, accepted_records, records_accepted}
 use Rattle.block.proofs.Cut.{whole, AllWhole, no_record}
+use Rattle.block.proofs.Refusals.{same_number, same_place}
 use Rattle.block.proofs.Steps.{cut_first}
 
 -- a record's rules, each by itself, and the check's list of them
@@ -144,8 +145,8 @@ record BrokenFrom (T : Table) (s : Seen) (place : ℕ) (bytes : List ℕ) (numbe
 module _ (T : Table) {s : Seen} {place number p : ℕ} where
   broken_here : {bytes : List ℕ} {m : ℕ} → Breaks T s bytes m → Refused m place ≡ Refused number p → BrokenFrom T s place bytes number p
   broken_here {bytes} {m} b h =
-      let q : m ≡ number = cc in
-      let z : place ≡ p = cc in
+      let q : m ≡ number = same_number h in
+      let z : place ≡ p = same_place h in
       record { before = []; rest = bytes; together = refl; place_is = omega arith; each = each_none T s; broken = rw q at b }
 
   broken_later : (r bytes : List ℕ) → Meets T s r → BrokenFrom T (next T s r) (place + length r) bytes number p → BrokenFrom T s place (r ++ bytes) number p

@@ -3,11 +3,15 @@ use mathlib.Core.Path.{◌≡◌, refl, sym, ap, ap₂, ◌∙◌}
 use mathlib.Core.Bool.{Bool, true, false, not, ◌&&◌}
 use mathlib.Core.Logic.{◌⊎◌, inl, inr}
 use mathlib.Core.List.{List, [], ◌∷◌}
-use Prim.Native.Nat.{ℕ, suc, ◌+◌, ◌-◌, ◌/◌, ◌%◌, ◌≤◌, ◌<◌}
+use Prim.Native.Nat.{ℕ, zero, suc, ◌+◌, ◌-◌, ◌/◌, ◌%◌, ◌≤◌, ◌<◌}
 use native.Mathlib.Omega.{arith}
 use lib.Dec.{eqb, ltb}
-use borrow.Author.Tests.{ltb-true, ltb-false, lt-ltb, le-ltb, eq-eqb, ne_eqb}
+use lib.ListN.{length, take, drop}
+use lib.Seq.{drop-cons}
+use borrow.Author.Tests.{ltb-true, ltb-false, lt-ltb, le-ltb}
 use native.Mathlib.Nat.{sub-zero, add-zero}
+use Rattle.std.specs.Prelude.{◌↔◌, All, IsTrue}
+use Rattle.std.proofs.lemmas.Bool.Decides.{Decides-by_and, same_from_decides}
 use Rattle.theory.proofs.Sets.{tell}
 use Rattle.ops.specs.Rows.{at}
 use Rattle.ops.specs.Fields.{bytes_at}
@@ -41,29 +45,18 @@ module _ {f : ℕ → ℕ → Bool} {step : ℕ → ℕ} {b : List ℕ} {p n s�
   pub left_ends : n ≤ i → true ≡ each_by f step s₀ (bytes_at b p n)
   left_ends h = let e : n - i ≡ 0 = omega arith in rw e at l.left
 
-abbrev same : ℕ → ℕ
-same s = s
+-- n bytes from p on, as a slice
+pub bytes_taken : (b : List ℕ) (p n : ℕ) → p + n ≤ length b → take n (drop p b) ≡ bytes_at b p n
+bytes_taken b p zero h = refl
+bytes_taken b p (suc n) h =
+    let l : p < length b = omega arith in
+    rw (drop-cons b p 0 l) (ap (λ (t : List ℕ). at b p ∷ t) (bytes_taken b (suc p) n (omega arith)))
 
 -- rule 4: each is declared
-declared_each : (vars vs : List ℕ) → each_by (λ s v. not (eqb (codes_in vars v % 16) 15)) same 0 vs ≡ declared_all vars vs
-declared_each vars [] = refl
-declared_each vars (v ∷ vs) = rw (declared_each vars vs)
-
-pub record Declared (b vars : List ℕ) (p count i : ℕ) : Type 0 where
-  pub left : Left (λ s v. not (eqb (codes_in vars v % 16) 15)) same b p count 0 i 0
-
-pub declared_start : (b vars : List ℕ) (p count : ℕ) → Declared b vars p count 0
-declared_start b vars p count = record { left = left_start (λ s v. not (eqb (codes_in vars v % 16) 15)) same b p count 0 }
-
-module _ {b vars : List ℕ} {p count i x : ℕ} (l : Declared b vars p count i) (e : x ≡ codes_in vars (at b (p + i))) (h : i < count) where
-  pub declared_next : (x % 16 ≡ 15 → ⊥) → Declared b vars p count (i + 1)
-  declared_next t = record { left = left_next l.left h (ap not (ne_eqb (codes_in vars (at b (p + i)) % 16) 15 (λ q. t (ap (λ (n : ℕ). n % 16) e ∙ q)))) }
-
-  pub declared_stops : x % 16 ≡ 15 → false ≡ declared_all vars (bytes_at b p count)
-  declared_stops t = left_stops l.left h (ap not (eq-eqb (codes_in vars (at b (p + i)) % 16) 15 (ap (λ (n : ℕ). n % 16) (sym e) ∙ t))) ∙ declared_each vars (bytes_at b p count)
-
-pub declared_ends : {b vars : List ℕ} {p count i : ℕ} → Declared b vars p count i → count ≤ i → true ≡ declared_all vars (bytes_at b p count)
-declared_ends {b} {vars} {p} {count} l h = left_ends l.left h ∙ declared_each vars (bytes_at b p count)
+pub declared_so : (vars vs : List ℕ) (r : Bool) → (IsTrue r ↔ All (λ v. IsTrue (not (eqb (codes_in vars v % 16) 15))) vs) → r ≡ declared_all vars vs
+declared_so vars vs r h =
+    same_from_decides r (declared_all vars vs) h
+    (Decides-by_and (λ v. not (eqb (codes_in vars v % 16) 15)) (λ v. IsTrue (not (eqb (codes_in vars v % 16) 15))) (declared_all vars) (λ v. (λ t. t, λ t. t)) refl (λ _ _. refl) vs)
 
 -- rules 4, 5 and 8 together: each fits
 pub record Fits (b vars : List ℕ) (p count outs codes i rest : ℕ) : Type 0 where

@@ -15,7 +15,7 @@ use Rattle.block.proofs.Accepts.{accepts, accepted_records, records_accepted, me
 use Rattle.block.proofs.Cut.{all_left, all_right}
 use Rattle.block.proofs.Checker.{checker, in_scope, accepts_ops, ops_accepts, declared_in, seen_declared}
 use Rattle.block.proofs.Cut.{whole, AllWhole, cut_concat, split_records, AllDeclared, declared_all_lem, head_op, ops_head, split_again, all_append}
-use Rattle.block.specs.declared.Verdict.TheVariants.{Accepted}
+use Rattle.block.specs.Checks.{Accepted}
 use Rattle.block.specs.Checks.{check_by}
 use Rattle.ops.proofs.Lawful.{Lawful}
 

@@ -2,21 +2,21 @@
 use mathlib.Core.Path.{◌≡◌, refl, sym, ap, ◌∙◌, subst}
 use mathlib.Core.Bool.{true, not}
 use mathlib.Core.List.{List, [], ◌∷◌, ◌++◌, append_assoc, append-nil}
-use Prim.Native.Nat.{ℕ, ◌+◌, ◌<◌}
+use Prim.Native.Nat.{ℕ, ◌+◌, ◌*◌, ◌<◌}
 use native.Mathlib.Omega.{arith}
 use lib.ListN.{length, get_or, replicate}
 use Rattle.ops.specs.Limits.{label_count}
-use borrow.Author.Tests.{eq-eqb, ne_eqb}
+use borrow.Author.Tests.{ne_eqb}
 use Rattle.theory.specs.Sets.{empty}
 use Rattle.ops.specs.Fields.{kind_of}
 use Rattle.ops.specs.Rows.{Table}
 use Rattle.block.specs.Records.{records_of, record_bytes, declarations, ops_from, classes_of, declared_types, global_count}
-use Rattle.block.specs.Scan.{Coded, DeclaredBy, places_from, labels_from, records_at, ScannedBy, Declaring, Begins, Approved, Scanned}
+use Rattle.block.specs.Scan.{Coded, DeclaredBy, RefusedBy, places_from, labels_from, records_at, ScannedBy, ScannedAll, ScannedTo, Declaring, Begins, Approved, Scanned, Rejected}
 use Rattle.block.proofs.Cut.{bytes_both, head_op, split_again}
 use Rattle.block.proofs.Fields.{kind_at}
 use Rattle.block.proofs.Places.{standing}
-use Rattle.block.specs.declared.Verdict.TheVariants.{Accepted, Refused}
-use Rattle.block.specs.Checks.{check_by}
+use Rattle.block.specs.Checks.{Verdict, Accepted}
+use Rattle.block.specs.declared.Refusal.{Refusal}
 
 -- the first record after the declarations is an op
 no_declaration : (T : Table) (b : List ℕ) (p : ℕ) → (p < length b → get_or b p 0 ≡ 1 → ⊥) → head_op (records_at T b p) ≡ true
@@ -34,44 +34,52 @@ head_left [] more h = refl
 head_left (o ∷ os) more h = h
 
 -- what the first scan leaves to the second
-pub begins_by : {T : Table} {b vars₀ vars : List ℕ} {rule p n globals : ℕ} → DeclaredBy T b vars₀ vars rule p n globals → vars₀ ≡ replicate 256 15 → rule ≡ 0 → Begins T b vars p
-begins_by {T = T} {b = b} {vars = vars} {p = p} {n = n} {globals = globals} d z e =
-    record { n = n; globals = globals; after = subst (λ (v : List ℕ). Declaring T b v vars p n globals) z d.declaring; no_more = d.no_more e }
+pub begins_by : {T : Table} {b vars₀ vars : List ℕ} {n globals : ℕ} → DeclaredBy T b vars₀ vars n globals → vars₀ ≡ replicate 256 15 → Begins T b vars (3 * n)
+begins_by {T = T} {b = b} {vars = vars} {n = n} {globals = globals} d z =
+    record { n = n; globals = globals; after = subst (λ (v : List ℕ). Declaring T b v vars (3 * n) n globals) z d.declaring; no_more = d.no_more }
 
 -- a declaration is refused: no op has been read
-pub scan_refused : {T : Table} {b vars₀ vars : List ℕ} {rule p n globals : ℕ} (places labels : List ℕ) → DeclaredBy T b vars₀ vars rule p n globals → vars₀ ≡ replicate 256 15 → (rule ≡ 0 → ⊥) → labels ≡ replicate label_count 0
-    → Scanned T b places vars places labels rule p p n globals 0
+pub scan_refused : {T : Table} {b vars₀ vars : List ℕ} {refusal : Refusal} (places labels : List ℕ) → RefusedBy T b vars₀ vars refusal → vars₀ ≡ replicate 256 15 → labels ≡ replicate label_count 0
+    → Rejected T b places vars places labels refusal
 unfolding places_from labels_from
-scan_refused {T = T} {b = b} {rule = rule} {p = p} places labels s f k z =
+scan_refused {T = T} {b = b} {refusal = refusal} places labels s f z =
     let d = s.declaring in
+    let p = refusal.place in
     let q = rw (append-nil d.before) at (split_again d.before [] d.all_declared refl) in
     record {
-      answers = rw (ne_eqb rule 0 k) (s.refused k);
-      before = d.before;
-      records_are = d.records_are;
-      all_read = λ u. absurd (k u);
-      place_is = sym d.spans;
-      variables = ap length q.0 ∙ d.count;
-      coded = rw q.0 (d.coded f);
-      long_base = d.long_vars ∙ ap length f;
-      globals_are = d.globals_are ∙ ap (λ (x : List (List ℕ)). global_count (classes_of x)) (sym q.0);
-      few = d.few;
-      start_is = d.place_is;
-      ops_before = ap (λ (x : List (List ℕ)). x ++ records_at T b p) (sym q.1);
-      count_is = ap length (sym q.1);
-      held = omega arith;
-      places_are = ap (places_from p 0 places) (sym q.1);
-      labels_are = z ∙ ap (labels_from T 0 (replicate label_count 0)) (sym q.1);
+      start = p;
+      n = s.n;
+      globals = s.globals;
+      ops = 0;
+      scanned = record {
+        answers = s.refused;
+        before = d.before;
+        records_are = d.records_are;
+        all_read = λ u. cc;
+        place_is = sym d.spans;
+        variables = ap length q.0 ∙ d.count;
+        coded = rw q.0 (d.coded f);
+        long_base = d.long_vars ∙ ap length f;
+        globals_are = d.globals_are ∙ ap (λ (x : List (List ℕ)). global_count (classes_of x)) (sym q.0);
+        few = d.few;
+        start_is = d.place_is;
+        ops_before = ap (λ (x : List (List ℕ)). x ++ records_at T b p) (sym q.1);
+        count_is = ap length (sym q.1);
+        held = omega arith;
+        places_are = ap (places_from p 0 places) (sym q.1);
+        labels_are = z ∙ ap (labels_from T 0 (replicate label_count 0)) (sym q.1);
+      };
     }
 
 -- the declarations have been read, and then ops
-pub scan_done : {T : Table} {b vars₀ vars places₀ places labels : List ℕ} {rule₀ p n globals rule place ops : ℕ} → DeclaredBy T b vars₀ vars rule₀ p n globals → vars₀ ≡ replicate 256 15 → rule₀ ≡ 0
-    → ScannedBy T b p places₀ places labels rule place ops → Scanned T b places₀ vars places labels rule place p n globals ops
-scan_done {T = T} {b = b} {places₀ = places₀} {p = p} {place = place} s f e o =
+scan_done : {T : Table} {b vars₀ vars places₀ places labels : List ℕ} {verdict : Verdict} {n globals place ops : ℕ} → DeclaredBy T b vars₀ vars n globals → vars₀ ≡ replicate 256 15
+    → ScannedBy T b (3 * n) places₀ places labels verdict place ops → Scanned T b places₀ vars places labels verdict place (3 * n) n globals ops
+scan_done {T = T} {b = b} {places₀ = places₀} {n = n} {place = place} s f o =
+    let p = 3 * n in
     let d = s.declaring in
     let u = o.up_to in
     let ds = d.before in
-    let q = split_again ds u.read d.all_declared (head_left u.read (records_at T b place) (rw u.records_are at (no_declaration T b p (s.no_more e)))) in
+    let q = split_again ds u.read d.all_declared (head_left u.read (records_at T b place) (rw u.records_are at (no_declaration T b p s.no_more))) in
     record {
       answers = o.answers;
       before = ds ++ u.read;
@@ -91,29 +99,30 @@ scan_done {T = T} {b = b} {places₀ = places₀} {p = p} {place = place} s f e 
       labels_are = u.labels_are ∙ ap (labels_from T 0 (replicate label_count 0)) (sym q.1);
     }
 
-module _ {T : Table} {b places₀ base places labels : List ℕ} {rule place start n globals ops : ℕ} (s : Scanned T b places₀ base places labels rule place start n globals ops) where
-  -- the check's answer
-  pub check_by_lem : rule ≡ 0 → Accepted ≡ check_by T b
-  check_by_lem e = rw (eq-eqb rule 0 e) at s.answers
+-- an op, or the end, is refused
+pub ops_refused : {T : Table} {b vars₀ vars places₀ places labels : List ℕ} {refusal : Refusal} {n globals : ℕ} → DeclaredBy T b vars₀ vars n globals → vars₀ ≡ replicate 256 15
+    → ScannedTo T b (3 * n) places₀ places labels refusal → Rejected T b places₀ vars places labels refusal
+ops_refused {n = n} {globals} s f o = record { start = 3 * n; n = n; globals = globals; ops = o.ops; scanned = scan_done s f o.scanned }
 
-  pub refuse_by : (rule ≡ 0 → ⊥) → Refused rule place ≡ check_by T b
-  refuse_by k = rw (ne_eqb rule 0 k) at s.answers
+-- what is told of an accepted block
+approve : {T : Table} {b places₀ base places labels : List ℕ} {place start n globals ops : ℕ} → Scanned T b places₀ base places labels Accepted place start n globals ops → Approved T b places₀ base places labels start n globals ops
+approve {T} {b} {places₀} {base} {start = start} s =
+    let all : s.before ≡ records_of T b = sym (append-nil s.before) ∙ ap (λ (x : List (List ℕ)). s.before ++ x) (sym (s.all_read refl)) ∙ sym s.records_are in
+    record {
+      accepted = sym s.answers;
+      variables = ap (λ (x : List (List ℕ)). length (declarations x)) (sym all) ∙ s.variables;
+      coded = subst (λ (x : List (List ℕ)). Coded base (classes_of (declarations x)) (declared_types (declarations x)) empty) all s.coded;
+      long_base = s.long_base;
+      globals_are = s.globals_are ∙ ap (λ (x : List (List ℕ)). global_count (classes_of (declarations x))) all;
+      few = s.few;
+      start_is = s.start_is;
+      ops_are = s.ops_before ∙ ap (λ (x : List (List ℕ)). ops_from s.before ++ x) (s.all_read refl) ∙ append-nil (ops_from s.before) ∙ ap ops_from all;
+      count_is = s.count_is ∙ ap (λ (x : List (List ℕ)). length (ops_from x)) all;
+      held = s.held;
+      places_are = s.places_are ∙ ap (λ (x : List (List ℕ)). places_from start 0 places₀ (ops_from x)) all;
+      labels_are = s.labels_are ∙ ap (λ (x : List (List ℕ)). labels_from T 0 (replicate label_count 0) (ops_from x)) all;
+    }
 
-  -- what is told of an accepted block
-  pub approve : rule ≡ 0 → Approved T b places₀ base places labels start n globals ops
-  approve e =
-      let all : s.before ≡ records_of T b = sym (append-nil s.before) ∙ ap (λ (x : List (List ℕ)). s.before ++ x) (sym (s.all_read e)) ∙ sym s.records_are in
-      record {
-        accepted = sym (check_by_lem e);
-        variables = ap (λ (x : List (List ℕ)). length (declarations x)) (sym all) ∙ s.variables;
-        coded = subst (λ (x : List (List ℕ)). Coded base (classes_of (declarations x)) (declared_types (declarations x)) empty) all s.coded;
-        long_base = s.long_base;
-        globals_are = s.globals_are ∙ ap (λ (x : List (List ℕ)). global_count (classes_of (declarations x))) all;
-        few = s.few;
-        start_is = s.start_is;
-        ops_are = s.ops_before ∙ ap (λ (x : List (List ℕ)). ops_from s.before ++ x) (s.all_read e) ∙ append-nil (ops_from s.before) ∙ ap ops_from all;
-        count_is = s.count_is ∙ ap (λ (x : List (List ℕ)). length (ops_from x)) all;
-        held = s.held;
-        places_are = s.places_are ∙ ap (λ (x : List (List ℕ)). places_from start 0 places₀ (ops_from x)) all;
-        labels_are = s.labels_are ∙ ap (λ (x : List (List ℕ)). labels_from T 0 (replicate label_count 0) (ops_from x)) all;
-      }
+pub scan_approved : {T : Table} {b vars₀ vars places₀ places labels : List ℕ} {n globals ops : ℕ} → DeclaredBy T b vars₀ vars n globals → vars₀ ≡ replicate 256 15
+    → ScannedAll T b (3 * n) places₀ places labels ops → Approved T b places₀ vars places labels (3 * n) n globals ops
+scan_approved s f o = approve (scan_done s f o.scanned)

@@ -33,7 +33,7 @@ use Rattle.block.proofs.Fields.{kind_at, below_left}
 use Rattle.block.proofs.Places.{places_more, labels_more}
 use Rattle.block.proofs.MarkSets.{marked_none, numbered_none}
 use Rattle.block.proofs.Steps.{cut_record, record_length, at_unknown, at_short, at_record, cut_end, at_end}
-use Rattle.block.specs.declared.Verdict.TheVariants.{Accepted}
+use Rattle.block.specs.Checks.{Accepted, Refused}
 
 -- a place's answer by the rule that its record breaks
 at_place : (T : Table) (s : Seen) (b : List ℕ) (p : ℕ) → p < length b
@@ -177,25 +177,25 @@ module _ {T : Table} {b : List ℕ} {start : ℕ} {places₀ base vars labels ta
     abbrev here : Op
     here = record { e = e; b = b; p = p; ops = ops; vars = vars; labels = labels }
 
-    refused_at : {rule : ℕ} → rule ≡ entry_rule e b p ops vars labels (operands_ok e b p vars) → (rule ≡ 0 → ⊥) → ScannedBy T b start places₀ places labels rule p ops
+    refused_at : {rule : ℕ} → rule ≡ entry_rule e b p ops vars labels (operands_ok e b p vars) → (rule ≡ 0 → ⊥) → ScannedBy T b start places₀ places labels (Refused rule p) p ops
     refused_at {rule} q z =
         let a : rule ≡ record_rule T s.seen b p = q ∙ sym entry_rule_lem in
         record {
-          answers = ap (λ (m : ℕ). refused_or m p Accepted) a ∙ same_refusal (record_rule T s.seen b p) (λ u. z (a ∙ u)) ∙ sym (at_place T s.seen b p h) ∙ s.goes_on;
+          answers = ap (λ (m : ℕ). Refused m p) a ∙ same_refusal (record_rule T s.seen b p) (λ u. z (a ∙ u)) ∙ sym (at_place T s.seen b p h) ∙ s.goes_on;
           up_to = s.up_to;
-          all_read = λ u. absurd (z u);
+          all_read = λ u. cc;
         }
       where
-        same_refusal : (m : ℕ) → (m ≡ 0 → ⊥) → refused_or m p Accepted ≡ refused_or m p (check_at T (next T s.seen (record_at T b p)) b (p + suc (body_length T (get_or b p 0))))
+        same_refusal : (m : ℕ) → (m ≡ 0 → ⊥) → Refused m p ≡ refused_or m p (check_at T (next T s.seen (record_at T b p)) b (p + suc (body_length T (get_or b p 0))))
         same_refusal m u = rw (ne_eqb m 0 u)
 
     module _ {stands : Bool} (o : stands ≡ op_stands e b p) where
-      pub stopped_at : {rule place n : ℕ} → stands ≡ false → (rule ≡ entry_rule e b p ops vars labels false) × (place ≡ p) × (n ≡ ops) → ScannedBy T b start places₀ places labels rule place n
-      stopped_at t q = rw (q.1, q.2) (refused_at (q.0 ∙ sym (no_op_lem here (sym o ∙ t))) (λ u. stopped_not here (sym q.0 ∙ u)))
+      pub stopped_at : {rule place : ℕ} → stands ≡ false → (rule ≡ entry_rule e b p ops vars labels false) × (place ≡ p) → ScannedBy T b start places₀ places labels (Refused rule place) place ops
+      stopped_at t q = rw q.1 (refused_at (q.0 ∙ sym (no_op_lem here (sym o ∙ t))) (λ u. stopped_not here (sym q.0 ∙ u)))
 
       module _ (t : stands ≡ true) {ok : Bool} (f : ok ≡ op_ok e b p ops vars labels) where
-        pub unfit_at : {rule place n : ℕ} → ok ≡ false → (rule ≡ entry_rule e b p ops vars labels false) × (place ≡ p) × (n ≡ ops) → ScannedBy T b start places₀ places labels rule place n
-        unfit_at k q = rw (q.1, q.2) (refused_at (q.0 ∙ sym (no_fit here (sym o ∙ t) (sym f ∙ k))) (λ u. stopped_not here (sym q.0 ∙ u)))
+        pub unfit_at : {rule place : ℕ} → ok ≡ false → (rule ≡ entry_rule e b p ops vars labels false) × (place ≡ p) → ScannedBy T b start places₀ places labels (Refused rule place) place ops
+        unfit_at k q = rw q.1 (refused_at (q.0 ∙ sym (no_fit here (sym o ∙ t) (sym f ∙ k))) (λ u. stopped_not here (sym q.0 ∙ u)))
 
         pub sound_at : ok ≡ true → Sound s
         sound_at k = record { here = h; sound = entry_rule_lem ∙ op_fits here (sym o ∙ t) (sym f ∙ k) }
@@ -285,16 +285,16 @@ module _ {T : Table} {b : List ℕ} {start : ℕ} {places₀ base vars labels ta
   rest : records_at T b p ≡ []
   rest = ap (λ (c : Cut). c.records) (cut_end T b p h)
 
-  pub scanning_10 : eqb last exit_rank ≡ false → ScannedBy T b start places₀ places labels 10 p ops
+  pub scanning_10 : eqb last exit_rank ≡ false → ScannedBy T b start places₀ places labels (Refused 10 p) p ops
   unfolding first_broken rule10
   scanning_10 q = record { answers = rw (sym s.last_so ∙ q) at end_answer; up_to = s.up_to; all_read = λ z. rest }
 
   module _ {r : Bool} (q : eqb last exit_rank ≡ true) (e : r ≡ all_set (marked targets) (numbered labels) label_count) where
-    pub scanning_7 : r ≡ false → ScannedBy T b start places₀ places labels 7 p ops
+    pub scanning_7 : r ≡ false → ScannedBy T b start places₀ places labels (Refused 7 p) p ops
     unfolding first_broken rule10 rule7end
     scanning_7 t = record { answers = rw (sym s.last_so ∙ q, s.targets_so, s.labels_so, sym e ∙ t) at end_answer; up_to = s.up_to; all_read = λ z. rest }
 
-    pub scanning_0 : r ≡ true → ScannedBy T b start places₀ places labels 0 p ops
+    pub scanning_0 : r ≡ true → ScannedBy T b start places₀ places labels Accepted p ops
     unfolding first_broken rule10 rule7end
     scanning_0 t = record { answers = rw (sym s.last_so ∙ q, s.targets_so, s.labels_so, sym e ∙ t) at end_answer; up_to = s.up_to; all_read = λ z. rest }
 

@@ -13,7 +13,7 @@ use Rattle.block.specs.Checks.{first_broken, rules_of, end_rules, refused_or, ch
 use Rattle.block.specs.Records.{nothing_left, stray, cons, cut_by, cut_of}
 use Rattle.block.specs.Rules.{Seen, start, next}
 use Rattle.block.specs.Scan.{record_at, check_at}
-use Rattle.block.specs.declared.Verdict.TheVariants.{Accepted, Refused}
+use Rattle.block.specs.Checks.{Accepted, Refused}
 
 -- any bound that is large enough gives the same cut
 cut_empty : (T : Table) (n m : ℕ) → cut_by T n [] ≡ cut_by T m []

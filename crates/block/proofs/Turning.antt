@@ -1,7 +1,7 @@
 -- One turn of the loop over the ops, by the rank of the op's kind and the length of its record. Assumes nothing.
 use mathlib.Core.Path.{◌≡◌, refl, sym, ap, ◌∙◌, subst}
 use mathlib.Core.Logic.{◌⊎◌, inl, inr}
-use mathlib.Core.Bool.{Bool, true, false}
+use mathlib.Core.Bool.{Bool, true, false, cond}
 use mathlib.Core.List.{List}
 use Prim.Native.Nat.{ℕ, ◌+◌, ◌-◌, ◌%◌, ◌≤◌, ◌<◌}
 use native.Mathlib.Omega.{arith}
@@ -15,9 +15,13 @@ use Rattle.ops.specs.Table.{kind_table, row_of}
 use Rattle.ops.specs.Plans.{no_op, length_by, more_by, length_in, plan_of, rank_of, plan_at, exit_rank}
 use Rattle.ops.proofs.Entry.{digits}
 use Rattle.ops.proofs.Plans.{plan, plan_at_lem, ranked_op}
-use Rattle.block.specs.Scan.{record_at, RoomFor, op_stands, op_ok, op_passes, entry_rule, end_rule, marked, numbered, ScannedBy, Marks, FirstReady, LabelLow, Reading}
+use Rattle.block.specs.Scan.{record_at, RoomFor, op_stands, op_ok, op_passes, entry_rule, end_rule, marked, numbered, ScannedBy, ScannedAll, ScannedTo, Marks, FirstReady, LabelLow, Reading}
 use Rattle.block.specs.Rules.{all_set}
+use Rattle.block.specs.Checks.{Verdict, Accepted, Refused, refused_or}
+use Rattle.block.specs.declared.Refusal.{Refusal}
+use Rattle.std.specs.Prelude.{Err}
 use Rattle.block.proofs.Codes.{code_small}
+use Rattle.block.proofs.Refusals.{same_place}
 use Rattle.block.proofs.Quick.{some_op, first_met, label_met}
 use Rattle.block.proofs.Marking.{length_here, has_body}
 use Rattle.block.proofs.Scanning.{Sound, stopped_at, unfit_at, sound_at, few_ops_here, stands_at, again_at, whole_op, scanning_10, scanning_7, scanning_0}
@@ -28,10 +32,10 @@ module _ {b : List ℕ} {start : ℕ} {places₀ base vars labels targets places
   e = get_or kind_table (get_or b p 0) 0
 
   -- a test fails
-  pub fails_at : {rule place n : ℕ} → r ≡ false → (rule ≡ entry_rule e b p ops vars labels false) × (place ≡ p) × (n ≡ ops) → ScannedBy row_of b start places₀ places labels rule place n
-  fails_at {rule} {place} {n} f q = go (tell (op_stands e b p)) (tell (op_ok e b p ops vars labels))
+  pub fails_at : {refusal : Refusal} → r ≡ false → (refusal.number ≡ entry_rule e b p ops vars labels false) × (refusal.place ≡ p) → ScannedTo row_of b start places₀ places labels refusal
+  fails_at {refusal} f q = record { ops = ops; scanned = go (tell (op_stands e b p)) (tell (op_ok e b p ops vars labels)) }
     where
-      go : (op_stands e b p ≡ true) ⊎ (op_stands e b p ≡ false) → (op_ok e b p ops vars labels ≡ true) ⊎ (op_ok e b p ops vars labels ≡ false) → ScannedBy row_of b start places₀ places labels rule place n
+      go : (op_stands e b p ≡ true) ⊎ (op_stands e b p ≡ false) → (op_ok e b p ops vars labels ≡ true) ⊎ (op_ok e b p ops vars labels ≡ false) → ScannedBy row_of b start places₀ places labels (Err refusal) refusal.place ops
       go (inr x) y = stopped_at s here (digits kind_table refl) refl x q
       go (inl x) (inr y) = unfit_at s here (digits kind_table refl) refl x refl y q
       go (inl x) (inl y) = absurd (clash r (t ∙ rw (x, y)) f)
@@ -90,12 +94,29 @@ module _ {b : List ℕ} {start : ℕ} {places₀ base vars labels targets places
         subst (λ (h : ℕ). get_or b (p + length_in h - 1) 0 < label_count) (sym same)
         (label_met b p ops vars labels (get_or b p 0) refl refl refl whole_length here is_op (few_ops_here sound) (sym t ∙ y) more)
 
--- the end
-pub ends_at : {b : List ℕ} {start : ℕ} {places₀ base vars labels targets places : List ℕ} {p ops last rule : ℕ} → Reading row_of b start places₀ base vars labels targets places p ops last
-    → length b ≤ p → rule ≡ end_rule (eqb last exit_rank) targets labels → ScannedBy row_of b start places₀ places labels rule p ops
-ends_at {b} {start} {places₀} {labels = labels} {targets = targets} {places = places} {p = p} {ops = ops} {last = last} {rule = rule} s h e = go (tell (eqb last exit_rank)) (tell (all_set (marked targets) (numbered labels) label_count))
+-- a refusal has the place at which it is given
+refused_place : (rule p : ℕ) {refusal : Refusal} → ◌≡◌ {A = Verdict} (Err refusal) (refused_or rule p Accepted) → p ≡ refusal.place
+refused_place rule p {refusal} q = go (eqb rule 0) q
   where
-    go : (eqb last exit_rank ≡ true) ⊎ (eqb last exit_rank ≡ false) → (all_set (marked targets) (numbered labels) label_count ≡ true) ⊎ (all_set (marked targets) (numbered labels) label_count ≡ false) → ScannedBy row_of b start places₀ places labels rule p ops
-    go (inr x) y = let q : rule ≡ 10 = e ∙ rw x in rw q (scanning_10 s h x)
-    go (inl x) (inr y) = let q : rule ≡ 7 = e ∙ rw (x, y) in rw q (scanning_7 s h x refl y)
-    go (inl x) (inl y) = let q : rule ≡ 0 = e ∙ rw (x, y) in rw q (scanning_0 s h x refl y)
+    go : (b : Bool) → ◌≡◌ {A = Verdict} (Err refusal) (cond b Accepted (Refused rule p)) → p ≡ refusal.place
+    go true z = cc
+    go false z = sym (same_place z)
+
+-- the end, which is refused or not
+module _ {b : List ℕ} {start : ℕ} {places₀ base vars labels targets places : List ℕ} {p ops last : ℕ} (s : Reading row_of b start places₀ base vars labels targets places p ops last) (h : length b ≤ p) where
+  ends_as : {verdict : Verdict} → verdict ≡ refused_or (end_rule (eqb last exit_rank) targets labels) p Accepted → ScannedBy row_of b start places₀ places labels verdict p ops
+  ends_as {verdict} e = go (tell (eqb last exit_rank)) (tell (all_set (marked targets) (numbered labels) label_count))
+    where
+      go : (eqb last exit_rank ≡ true) ⊎ (eqb last exit_rank ≡ false) → (all_set (marked targets) (numbered labels) label_count ≡ true) ⊎ (all_set (marked targets) (numbered labels) label_count ≡ false) → ScannedBy row_of b start places₀ places labels verdict p ops
+      go (inr x) y = let q : verdict ≡ Refused 10 p = e ∙ rw x in rw q (scanning_10 s h x)
+      go (inl x) (inr y) = let q : verdict ≡ Refused 7 p = e ∙ rw (x, y) in rw q (scanning_7 s h x refl y)
+      go (inl x) (inl y) = let q : verdict ≡ Accepted = e ∙ rw (x, y) in rw q (scanning_0 s h x refl y)
+
+  pub ends_refused : {verdict : Verdict} {refusal : Refusal} → verdict ≡ refused_or (end_rule (eqb last exit_rank) targets labels) p Accepted → verdict ≡ Err refusal → ScannedTo row_of b start places₀ places labels refusal
+  ends_refused {refusal = refusal} e q =
+      let r = ends_as (sym q ∙ e) in
+      let place : p ≡ refusal.place = refused_place _ p (sym q ∙ e) in
+      record { ops = ops; scanned = subst (λ (n : ℕ). ScannedBy row_of b start places₀ places labels (Err refusal) n ops) place r }
+
+  pub ends_at : {verdict : Verdict} → verdict ≡ refused_or (end_rule (eqb last exit_rank) targets labels) p Accepted → verdict ≡ Accepted → ScannedAll row_of b start places₀ places labels ops
+  ends_at e q = record { place = p; scanned = ends_as (sym q ∙ e) }

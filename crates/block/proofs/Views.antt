@@ -1,6 +1,6 @@
 -- What the op that starts at a place of a block does, from its kind's row and the block's bytes. Assumes nothing.
 use mathlib.Core.Path.{◌≡◌, refl, sym, ap, ap₂, ◌∙◌, subst, fun_ext}
-use mathlib.Core.Option.{some}
+use Rattle.std.specs.Prelude.{Some}
 use mathlib.Core.List.{List, [], ◌∷◌, ◌++◌}
 use Prim.Native.Nat.{ℕ, zero, suc, ◌+◌, ◌≤◌, ◌<◌}
 use native.Mathlib.Omega.{arith}
@@ -25,7 +25,7 @@ use Rattle.block.specs.Scan.{record_at, Stands}
 
 -- the views, from the bytes that they read
 abbrev pub constant_view : ℕ → ℕ → View ℕ (List ℕ) ℕ Fault
-constant_view d x = calc (d ∷ []) [] (λ vs. some (x ∷ []))
+constant_view d x = calc (d ∷ []) [] (λ vs. Some (x ∷ []))
 
 abbrev pub branch_view : ℕ → ℕ → ℕ → ℕ → ℕ → ℕ → View ℕ (List ℕ) ℕ Fault
 branch_view k t a b c l = flow (a ∷ b ∷ []) (when (λ m vs. let xs = at_types (t ∷ t ∷ []) vs in cond_w (op_width k) c (at xs 0) (at xs 1))) (to l)
@@ -195,7 +195,7 @@ module _ {b : List ℕ} {p k : ℕ} (s : Stands row_of b p k) where
       by_row _ (row_of_lem constant k e)
       ∙ rw (byte s 1 (omega (arith, l)))
       (ap (calc (at b (p + 1) ∷ []) [])
-      (fun_ext (λ vs. constant_states (kind_of (record_at row_of b p)) (ap (role_of row_of) (kind_byte s) ∙ e) _ vs ∙ ap (λ (x : ℕ). some (x ∷ [])) (low_after s 2 8 (omega (arith, l))))))
+      (fun_ext (λ vs. constant_states (kind_of (record_at row_of b p)) (ap (role_of row_of) (kind_byte s) ∙ e) _ vs ∙ ap (λ (x : ℕ). Some (x ∷ [])) (low_after s 2 8 (omega (arith, l))))))
 
   pub pure_view_lem : role_of row_of k ≡ computing
       → view_of document01 (record_at row_of b p) ≡ pure_view k (at b (p + 1)) (bytes_at b (p + 2) (length (row_of k).ins)) (take (row_of k).rest (drop (p + (1 + operand_count row_of k)) b))

@@ -1,11 +1,24 @@
 -- The check: the first broken rule, by number and place. Assumes nothing.
-use Rattle.std.specs.Prelude.{ℕ, ◌+◌, Bool, cond, ◌≡◌, List, [], ◌∷◌, eqb, length}
-use Rattle.block.specs.declared.Verdict.{Verdict}
-use Rattle.block.specs.declared.Verdict.TheVariants.{Accepted, Refused}
+use Rattle.std.specs.Prelude.{ℕ, ◌+◌, Bool, cond, ◌≡◌, List, [], ◌∷◌, eqb, length, Result, Ok, Err}
+use Rattle.block.specs.declared.Refusal.{Refusal}
 use Rattle.block.specs.Records.{cut_of, is_declaration}
 use Rattle.block.specs.Rules.{Seen, start, next, rule3, rule4, rule5, rule6, rule7, rule8, rule9, rule10, rule7end}
 use Rattle.ops.specs.Rows.{Table}
 use Rattle.ops.specs.Table.{row_of}
+
+-- an answer, or a refusal: the number of a rule, and a place
+abbrev pub OrRefused : Type 0 → Type 0
+OrRefused A = Result A Refusal
+
+-- the check's: it accepts, or refuses
+abbrev pub Verdict : Type 0
+Verdict = OrRefused (Unit {0})
+
+abbrev pub Accepted : Verdict
+Accepted = Ok tt
+
+abbrev pub Refused : ℕ → ℕ → Verdict
+Refused number place = Err (record { number = number; place = place })
 
 -- a rule's number, and whether it is met
 pub record Finding : Type 0 where

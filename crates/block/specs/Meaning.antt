@@ -6,7 +6,7 @@ use Rattle.theory.specs.Sets.{All}
 use Rattle.block.specs.Checks.{Finding, rules_of, end_rules, check_by}
 use Rattle.block.specs.Records.{record_bytes}
 use Rattle.block.specs.Rules.{Seen, start, next}
-use Rattle.block.specs.declared.Verdict.TheVariants.{Accepted, Refused}
+use Rattle.block.specs.Checks.{Accepted, Refused}
 
 -- what is seen once records have been read
 abbrev pub seen : Table → Seen → List (List ℕ) → Seen

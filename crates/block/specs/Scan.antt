@@ -1,5 +1,5 @@
 -- What the scan's arrays hold. Assumes nothing.
-use Rattle.std.specs.Prelude.{◌≡◌, Bool, true, false, cond, not, ◌&&◌, ◌||◌, List, [], ◌∷◌, ◌++◌, ℕ, zero, suc, ◌+◌, ◌-◌, ◌*◌, ◌/◌, ◌%◌, ◌^◌, ◌≤◌, ◌<◌, min, eqb, ltb, leb, length, get_or, take, drop, set, replicate}
+use Rattle.std.specs.Prelude.{◌≡◌, Bool, true, false, cond, not, ◌&&◌, ◌||◌, List, [], ◌∷◌, ◌++◌, ℕ, zero, suc, ◌+◌, ◌-◌, ◌*◌, ◌/◌, ◌%◌, ◌^◌, ◌≤◌, ◌<◌, min, eqb, ltb, leb, length, get_or, take, drop, set, replicate, Err}
 use Rattle.std.specs.Int.Bits.{bit_and}
 use Rattle.theory.specs.Sets.{All, Vars, empty, has}
 use Rattle.ops.specs.Rows.{known, body_length, Table}
@@ -8,11 +8,10 @@ use Rattle.ops.specs.Plans.{ask, length_in, out_ask_in, first_ask_in, second_ask
 use Rattle.memory.specs.Bytes.{low_first}
 use Rattle.ops.specs.Rows.{Row, outs_in, ins_in, rest_in, test_in, role_in, types_in, row_in, role_no, is_known, is_closing, is_setting, is_jumping, test_ok}
 use Rattle.ops.specs.Fields.{row_at, bytes_at, outs_by, label_by}
-use Rattle.block.specs.Checks.{Finding, asks, first_broken, rules_of, refused_or, check_from, check_by}
+use Rattle.block.specs.Checks.{Verdict, Accepted, Finding, asks, first_broken, rules_of, check_from, check_by}
 use Rattle.block.specs.Records.{cut_of, records_of, record_bytes, is_declaration, declarations, ops_from, class_of, type_of, classes_of, declared_types, global_count}
 use Rattle.block.specs.Rules.{Seen, kept_in, label_free, marked_by, all_set}
-use Rattle.block.specs.declared.Verdict.{Verdict}
-use Rattle.block.specs.declared.Verdict.TheVariants.{Accepted, Refused}
+use Rattle.block.specs.declared.Refusal.{Refusal}
 
 -- the record that starts at a place
 abbrev pub record_at : Table → List ℕ → ℕ → List ℕ
@@ -24,12 +23,12 @@ pub record Stands (T : Table) (block : List ℕ) (place kind : ℕ) : Type 0 whe
   pub whole : place + suc (body_length T kind) ≤ length block
 
 -- ys is xs with x at the place i, which is inside
-pub record SetAt (xs : List ℕ) (i x : ℕ) (ys : List ℕ) : Type 0 where
+pub record SetAt {A : Type 0} (xs : List A) (i : ℕ) (x : A) (ys : List A) : Type 0 where
   pub inside : i < length xs
   pub becomes : ys ≡ set xs i x
 
 -- the same where i is below the limit of labels, else nothing
-pub record SetLabelAt (xs : List ℕ) (i x : ℕ) (ys : List ℕ) : Type 0 where
+pub record SetLabelAt {A : Type 0} (xs : List A) (i : ℕ) (x : A) (ys : List A) : Type 0 where
   pub below : i < label_count → SetAt xs i x ys
   pub beyond : label_count ≤ i → ys ≡ xs
 
@@ -170,11 +169,17 @@ Stopped block place n globals =
 abbrev pub declared_rule : List ℕ → ℕ → ℕ
 declared_rule block place = cond (leb (length block) place) 0 (cond (not (eqb (get_or block place 0) 1)) 0 (cond (ltb (length block - place) 3) 1 3))
 
--- what the scan of the declarations answers: those up to the place have been read; there one is refused, or none follows
-pub record DeclaredBy (T : Table) (block vars₀ vars : List ℕ) (rule place n globals : ℕ) : Type 0 where
-  pub declaring : Declaring T block vars₀ vars place n globals
-  pub refused : (rule ≡ 0 → ⊥) → Refused rule place ≡ check_by T block
-  pub no_more : rule ≡ 0 → place < length block → get_or block place 0 ≡ 1 → ⊥
+-- what the scan of the declarations answers: n of them, so many of globals, have been read, and none follows
+pub record DeclaredBy (T : Table) (block vars₀ vars : List ℕ) (n globals : ℕ) : Type 0 where
+  pub declaring : Declaring T block vars₀ vars (3 * n) n globals
+  pub no_more : 3 * n < length block → get_or block (3 * n) 0 ≡ 1 → ⊥
+
+-- or those up to the place of a refusal have been read, and the check refuses the next
+pub record RefusedBy (T : Table) (block vars₀ vars : List ℕ) (refusal : Refusal) : Type 0 where
+  pub n : ℕ
+  pub globals : ℕ
+  pub declaring : Declaring T block vars₀ vars refusal.place n globals
+  pub refused : Err refusal ≡ check_by T block
 
 -- the rule that the record at a place breaks, 2 and 1 first; 0 if none
 unfoldable pub record_rule : Table → Seen → List ℕ → ℕ → ℕ
@@ -293,11 +298,20 @@ pub record UpTo (T : Table) (block : List ℕ) (start : ℕ) (places₀ places l
   pub places_are : places ≡ places_from start 0 places₀ read
   pub labels_are : labels ≡ labels_from T 0 (replicate label_count 0) read
 
--- what the scan of the ops answers: the check's answer, 0 for accepted, and the ops up to its place
-pub record ScannedBy (T : Table) (block : List ℕ) (start : ℕ) (places₀ places labels : List ℕ) (rule place ops : ℕ) : Type 0 where
-  pub answers : refused_or rule place Accepted ≡ check_by T block
+-- what the scan of the ops comes to: the check's answer, and the ops up to its place
+pub record ScannedBy (T : Table) (block : List ℕ) (start : ℕ) (places₀ places labels : List ℕ) (verdict : Verdict) (place ops : ℕ) : Type 0 where
+  pub answers : verdict ≡ check_by T block
   pub up_to : UpTo T block start places₀ places labels place ops
-  pub all_read : rule ≡ 0 → records_at T block place ≡ []
+  pub all_read : verdict ≡ Accepted → records_at T block place ≡ []
+
+-- what it answers: how many ops there are, all of them read up to some place; or the refusal, with some ops read up to its place
+pub record ScannedAll (T : Table) (block : List ℕ) (start : ℕ) (places₀ places labels : List ℕ) (ops : ℕ) : Type 0 where
+  pub place : ℕ
+  pub scanned : ScannedBy T block start places₀ places labels Accepted place ops
+
+pub record ScannedTo (T : Table) (block : List ℕ) (start : ℕ) (places₀ places labels : List ℕ) (refusal : Refusal) : Type 0 where
+  pub ops : ℕ
+  pub scanned : ScannedBy T block start places₀ places labels (Err refusal) refusal.place ops
 
 -- the rule that is broken at the end, after an op that is exit_tb or not; 0 if none
 abbrev pub end_rule : Bool → List ℕ → List ℕ → ℕ
@@ -350,12 +364,12 @@ pub record Approved (T : Table) (block places₀ base places labels : List ℕ) 
   pub places_are : places ≡ places_from start 0 places₀ (ops_from (records_of T block))
   pub labels_are : labels ≡ labels_from T 0 (replicate label_count 0) (ops_from (records_of T block))
 
--- what the scan of a block answers: the check's answer, 0 for accepted; the declarations and ops before its place, and what the arrays hold of them
-pub record Scanned (T : Table) (block places₀ base places labels : List ℕ) (rule place start n globals ops : ℕ) : Type 0 where
-  pub answers : refused_or rule place Accepted ≡ check_by T block
+-- what the scan of a block comes to: the check's answer; the declarations and ops before its place, and what the arrays hold of them
+pub record Scanned (T : Table) (block places₀ base places labels : List ℕ) (verdict : Verdict) (place start n globals ops : ℕ) : Type 0 where
+  pub answers : verdict ≡ check_by T block
   pub before : List (List ℕ)
   pub records_are : records_of T block ≡ before ++ records_at T block place
-  pub all_read : rule ≡ 0 → records_at T block place ≡ []
+  pub all_read : verdict ≡ Accepted → records_at T block place ≡ []
   pub place_is : place ≡ length (record_bytes before)
   pub variables : length (declarations before) ≡ n
   pub coded : Coded base (classes_of (declarations before)) (declared_types (declarations before)) empty
@@ -368,3 +382,11 @@ pub record Scanned (T : Table) (block places₀ base places labels : List ℕ) (
   pub held : ops ≤ length places₀
   pub places_are : places ≡ places_from start 0 places₀ (ops_from before)
   pub labels_are : labels ≡ labels_from T 0 (replicate label_count 0) (ops_from before)
+
+-- what it answers of a refused block: the check's refusal; whatever was read before its place
+pub record Rejected (T : Table) (block places₀ base places labels : List ℕ) (refusal : Refusal) : Type 0 where
+  pub start : ℕ
+  pub n : ℕ
+  pub globals : ℕ
+  pub ops : ℕ
+  pub scanned : Scanned T block places₀ base places labels (Err refusal) refusal.place start n globals ops

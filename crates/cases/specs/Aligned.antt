@@ -1,14 +1,10 @@
 -- Aligned accesses, request 04: at every size, inside and outside the memory, with and without the bit. Proved in proofs/Aligned.antt. Assumes nothing.
-use Rattle.std.specs.Prelude.{ℕ, Bool, true, false, cond, ◌≡◌, List, [], ◌∷◌, ◌++◌, map}
+use Rattle.std.specs.Prelude.{ℕ, Bool, true, false, cond, ◌≡◌, List, [], ◌∷◌, ◌++◌, map, Result, Ok, Err, ⊤}
+use Rattle.memory.specs.declared.Reason.{Reason}
 use Rattle.memory.specs.declared.Reason.TheVariants.{Bounds, Alignment}
-use Rattle.memory.specs.declared.Access.{Access}
-use Rattle.memory.specs.declared.Access.TheVariants.{Served, Fails}
-use Rattle.block.specs.declared.Verdict.{Verdict}
-use Rattle.block.specs.declared.Verdict.TheVariants.{Accepted, Refused}
-use Rattle.block.specs.Checks.{check_of}
-use Rattle.runs.specs.declared.Ending.{Ending}
+use Rattle.block.specs.Checks.{Verdict, Accepted, Refused, check_of}
 use Rattle.runs.specs.declared.Ending.TheVariants.{Exit, Fault}
-use Rattle.runs.specs.Runs.{ran_as, run_of}
+use Rattle.runs.specs.Runs.{Answer as RunAnswer, ran_as, run_of}
 use Rattle.cases.specs.Marked.{Answer, run, block_of, load32, served, sixteen}
 use Rattle.cases.specs.Examples.{movi64, exit, declared5, Gives}
 
@@ -20,41 +16,41 @@ access_block store flags = block_of (1 ∷ 1 ∷ []) (cond store 0xAC 0xAB ∷ 1
 pub record Case : Type 0 where
   pub flags : ℕ
   pub address : ℕ
-  pub expected : Access
+  pub expected : Result ⊤ Reason
 
-abbrev pub tried : ℕ → ℕ → Access → Case
+abbrev pub tried : ℕ → ℕ → Result ⊤ Reason → Case
 tried flags address expected = record { flags = flags; address = address; expected = expected }
 
 -- how the block ends, and how it should
-abbrev pub ends : Bool → Case → Ending
+abbrev pub ends : Bool → Case → RunAnswer
 ends store c = (run_of (access_block store c.flags) (c.address ∷ 0xEE ∷ []) sixteen).answer
 
-abbrev pub ends_by : Bool → Case → Access → Ending
-ends_by store c Served = Exit c.address 2
-ends_by store c (Fails reason) = Fault store c.address c.flags reason 1
+abbrev pub ends_by : Bool → Case → Result ⊤ Reason → RunAnswer
+ends_by store c (Ok served) = Ok (Exit c.address 2)
+ends_by store c (Err reason) = Ok (Fault store c.address c.flags reason 1)
 
 -- sizes 1, 2, 4 and 8, with the bit: served up to the end; "alignment first where both apply"; past the end; at 2^64 - 1, which is a
 -- multiple of no size but 1; and at the last address that is one
 abbrev pub with_bit : List Case
 with_bit =
-    tried 0x10 15 Served ∷ tried 0x10 16 (Fails Bounds) ∷ tried 0x10 0xFFFFFFFFFFFFFFFF (Fails Bounds)
-    ∷ tried 0x11 14 Served ∷ tried 0x11 13 (Fails Alignment) ∷ tried 0x11 15 (Fails Alignment) ∷ tried 0x11 16 (Fails Bounds)
-    ∷ tried 0x11 0xFFFFFFFFFFFFFFFF (Fails Alignment) ∷ tried 0x11 0xFFFFFFFFFFFFFFFE (Fails Bounds)
-    ∷ tried 0x12 12 Served ∷ tried 0x12 9 (Fails Alignment) ∷ tried 0x12 10 (Fails Alignment) ∷ tried 0x12 13 (Fails Alignment) ∷ tried 0x12 16 (Fails Bounds)
-    ∷ tried 0x12 0xFFFFFFFFFFFFFFFF (Fails Alignment) ∷ tried 0x12 0xFFFFFFFFFFFFFFFC (Fails Bounds)
-    ∷ tried 0x13 8 Served ∷ tried 0x13 1 (Fails Alignment) ∷ tried 0x13 4 (Fails Alignment) ∷ tried 0x13 12 (Fails Alignment) ∷ tried 0x13 16 (Fails Bounds)
-    ∷ tried 0x13 0xFFFFFFFFFFFFFFFF (Fails Alignment) ∷ tried 0x13 0xFFFFFFFFFFFFFFF8 (Fails Bounds) ∷ []
+    tried 0x10 15 (Ok tt) ∷ tried 0x10 16 (Err Bounds) ∷ tried 0x10 0xFFFFFFFFFFFFFFFF (Err Bounds)
+    ∷ tried 0x11 14 (Ok tt) ∷ tried 0x11 13 (Err Alignment) ∷ tried 0x11 15 (Err Alignment) ∷ tried 0x11 16 (Err Bounds)
+    ∷ tried 0x11 0xFFFFFFFFFFFFFFFF (Err Alignment) ∷ tried 0x11 0xFFFFFFFFFFFFFFFE (Err Bounds)
+    ∷ tried 0x12 12 (Ok tt) ∷ tried 0x12 9 (Err Alignment) ∷ tried 0x12 10 (Err Alignment) ∷ tried 0x12 13 (Err Alignment) ∷ tried 0x12 16 (Err Bounds)
+    ∷ tried 0x12 0xFFFFFFFFFFFFFFFF (Err Alignment) ∷ tried 0x12 0xFFFFFFFFFFFFFFFC (Err Bounds)
+    ∷ tried 0x13 8 (Ok tt) ∷ tried 0x13 1 (Err Alignment) ∷ tried 0x13 4 (Err Alignment) ∷ tried 0x13 12 (Err Alignment) ∷ tried 0x13 16 (Err Bounds)
+    ∷ tried 0x13 0xFFFFFFFFFFFFFFFF (Err Alignment) ∷ tried 0x13 0xFFFFFFFFFFFFFFF8 (Err Bounds) ∷ []
 
 -- the same sizes and addresses: "Without the bit nothing changes except the reason reported."
 abbrev pub without_bit : List Case
 without_bit =
-    tried 0x00 15 Served ∷ tried 0x00 16 (Fails Bounds) ∷ tried 0x00 0xFFFFFFFFFFFFFFFF (Fails Bounds)
-    ∷ tried 0x01 14 Served ∷ tried 0x01 13 Served ∷ tried 0x01 15 (Fails Bounds) ∷ tried 0x01 16 (Fails Bounds)
-    ∷ tried 0x01 0xFFFFFFFFFFFFFFFF (Fails Bounds) ∷ tried 0x01 0xFFFFFFFFFFFFFFFE (Fails Bounds)
-    ∷ tried 0x02 12 Served ∷ tried 0x02 9 Served ∷ tried 0x02 10 Served ∷ tried 0x02 13 (Fails Bounds) ∷ tried 0x02 16 (Fails Bounds)
-    ∷ tried 0x02 0xFFFFFFFFFFFFFFFF (Fails Bounds) ∷ tried 0x02 0xFFFFFFFFFFFFFFFC (Fails Bounds)
-    ∷ tried 0x03 8 Served ∷ tried 0x03 1 Served ∷ tried 0x03 4 Served ∷ tried 0x03 12 (Fails Bounds) ∷ tried 0x03 16 (Fails Bounds)
-    ∷ tried 0x03 0xFFFFFFFFFFFFFFFF (Fails Bounds) ∷ tried 0x03 0xFFFFFFFFFFFFFFF8 (Fails Bounds) ∷ []
+    tried 0x00 15 (Ok tt) ∷ tried 0x00 16 (Err Bounds) ∷ tried 0x00 0xFFFFFFFFFFFFFFFF (Err Bounds)
+    ∷ tried 0x01 14 (Ok tt) ∷ tried 0x01 13 (Ok tt) ∷ tried 0x01 15 (Err Bounds) ∷ tried 0x01 16 (Err Bounds)
+    ∷ tried 0x01 0xFFFFFFFFFFFFFFFF (Err Bounds) ∷ tried 0x01 0xFFFFFFFFFFFFFFFE (Err Bounds)
+    ∷ tried 0x02 12 (Ok tt) ∷ tried 0x02 9 (Ok tt) ∷ tried 0x02 10 (Ok tt) ∷ tried 0x02 13 (Err Bounds) ∷ tried 0x02 16 (Err Bounds)
+    ∷ tried 0x02 0xFFFFFFFFFFFFFFFF (Err Bounds) ∷ tried 0x02 0xFFFFFFFFFFFFFFFC (Err Bounds)
+    ∷ tried 0x03 8 (Ok tt) ∷ tried 0x03 1 (Ok tt) ∷ tried 0x03 4 (Ok tt) ∷ tried 0x03 12 (Err Bounds) ∷ tried 0x03 16 (Err Bounds)
+    ∷ tried 0x03 0xFFFFFFFFFFFFFFFF (Err Bounds) ∷ tried 0x03 0xFFFFFFFFFFFFFFF8 (Err Bounds) ∷ []
 
 -- every access ends as it should, a load or a store
 unfoldable pub AlignedCases : Type 0
@@ -69,22 +65,22 @@ store32 flags address memory = run (run_of (block_of (1 ∷ 0 ∷ []) (0x2C ∷ 
 -- of 32 bits
 unfoldable pub AlignedLeaves : Type 0
 AlignedLeaves =
-    (run_of (access_block false 0x1A) (8 ∷ 0xEE ∷ []) sixteen ≡ ran_as (Exit 8 2) (8 ∷ 0x08090A0B ∷ []) sixteen)
-    × (run_of (access_block false 0x15) (0 ∷ 0xEE ∷ []) (0xFE ∷ 0xFF ∷ []) ≡ ran_as (Exit 0 2) (0 ∷ 0xFFFFFFFFFFFFFFFE ∷ []) (0xFE ∷ 0xFF ∷ []))
-    × (run_of (access_block true 0x11) (2 ∷ 0x1234 ∷ []) (1 ∷ 2 ∷ 3 ∷ 4 ∷ []) ≡ ran_as (Exit 2 2) (2 ∷ 0x1234 ∷ []) (1 ∷ 2 ∷ 0x34 ∷ 0x12 ∷ []))
-    × (run_of (access_block false 0x12) (13 ∷ 0xEE ∷ []) sixteen ≡ ran_as (Fault false 13 0x12 Alignment 1) (13 ∷ 0xEE ∷ []) sixteen)
-    × (run_of (access_block true 0x11) (1 ∷ 0x1234 ∷ []) (1 ∷ 2 ∷ 3 ∷ 4 ∷ []) ≡ ran_as (Fault true 1 0x11 Alignment 1) (1 ∷ 0x1234 ∷ []) (1 ∷ 2 ∷ 3 ∷ 4 ∷ []))
+    (run_of (access_block false 0x1A) (8 ∷ 0xEE ∷ []) sixteen ≡ ran_as (Ok (Exit 8 2)) (8 ∷ 0x08090A0B ∷ []) sixteen)
+    × (run_of (access_block false 0x15) (0 ∷ 0xEE ∷ []) (0xFE ∷ 0xFF ∷ []) ≡ ran_as (Ok (Exit 0 2)) (0 ∷ 0xFFFFFFFFFFFFFFFE ∷ []) (0xFE ∷ 0xFF ∷ []))
+    × (run_of (access_block true 0x11) (2 ∷ 0x1234 ∷ []) (1 ∷ 2 ∷ 3 ∷ 4 ∷ []) ≡ ran_as (Ok (Exit 2 2)) (2 ∷ 0x1234 ∷ []) (1 ∷ 2 ∷ 0x34 ∷ 0x12 ∷ []))
+    × (run_of (access_block false 0x12) (13 ∷ 0xEE ∷ []) sixteen ≡ ran_as (Ok (Fault false 13 0x12 Alignment 1)) (13 ∷ 0xEE ∷ []) sixteen)
+    × (run_of (access_block true 0x11) (1 ∷ 0x1234 ∷ []) (1 ∷ 2 ∷ 3 ∷ 4 ∷ []) ≡ ran_as (Ok (Fault true 1 0x11 Alignment 1)) (1 ∷ 0x1234 ∷ []) (1 ∷ 2 ∷ 3 ∷ 4 ∷ []))
     × (load32 0x12 12 sixteen ≡ served 12 sixteen 0x0F0E0D0C)
-    × (load32 0x12 13 sixteen ≡ run (ran_as (Fault false 13 0x12 Alignment 1) (13 ∷ 0xEE ∷ []) sixteen))
-    × (store32 0x12 1 (1 ∷ 2 ∷ 3 ∷ 4 ∷ []) ≡ run (ran_as (Fault true 1 0x12 Alignment 1) (1 ∷ 0x89ABCDEF ∷ []) (1 ∷ 2 ∷ 3 ∷ 4 ∷ [])))
-    × (store32 0x12 0 (1 ∷ 2 ∷ 3 ∷ 4 ∷ []) ≡ run (ran_as (Exit 0 2) (0 ∷ 0x89ABCDEF ∷ []) (0xEF ∷ 0xCD ∷ 0xAB ∷ 0x89 ∷ [])))
+    × (load32 0x12 13 sixteen ≡ run (ran_as (Ok (Fault false 13 0x12 Alignment 1)) (13 ∷ 0xEE ∷ []) sixteen))
+    × (store32 0x12 1 (1 ∷ 2 ∷ 3 ∷ 4 ∷ []) ≡ run (ran_as (Ok (Fault true 1 0x12 Alignment 1)) (1 ∷ 0x89ABCDEF ∷ []) (1 ∷ 2 ∷ 3 ∷ 4 ∷ [])))
+    × (store32 0x12 0 (1 ∷ 2 ∷ 3 ∷ 4 ∷ []) ≡ run (ran_as (Ok (Exit 0 2)) (0 ∷ 0x89ABCDEF ∷ []) (0xEF ∷ 0xCD ∷ 0xAB ∷ 0x89 ∷ [])))
 
 -- an access that ends one byte past the memory, and any to no memory
 unfoldable pub AlignedEnds : Type 0
 AlignedEnds =
-    (load32 0x12 4 (1 ∷ 2 ∷ 3 ∷ 4 ∷ 5 ∷ 6 ∷ 7 ∷ []) ≡ run (ran_as (Fault false 4 0x12 Bounds 1) (4 ∷ 0xEE ∷ []) (1 ∷ 2 ∷ 3 ∷ 4 ∷ 5 ∷ 6 ∷ 7 ∷ [])))
-    × (load32 0x12 2 [] ≡ run (ran_as (Fault false 2 0x12 Alignment 1) (2 ∷ 0xEE ∷ []) []))
-    × (load32 0x12 0 [] ≡ run (ran_as (Fault false 0 0x12 Bounds 1) (0 ∷ 0xEE ∷ []) []))
+    (load32 0x12 4 (1 ∷ 2 ∷ 3 ∷ 4 ∷ 5 ∷ 6 ∷ 7 ∷ []) ≡ run (ran_as (Ok (Fault false 4 0x12 Bounds 1)) (4 ∷ 0xEE ∷ []) (1 ∷ 2 ∷ 3 ∷ 4 ∷ 5 ∷ 6 ∷ 7 ∷ [])))
+    × (load32 0x12 2 [] ≡ run (ran_as (Ok (Fault false 2 0x12 Alignment 1)) (2 ∷ 0xEE ∷ []) []))
+    × (load32 0x12 0 [] ≡ run (ran_as (Ok (Fault false 0 0x12 Bounds 1)) (0 ∷ 0xEE ∷ []) []))
 
 -- "Refusal 6 stops objecting to bit 4.": the bit with each size, with the byte order, and with the sign; bits 5, 6 and 7 are refused
 abbrev pub flags_tried : List ℕ
@@ -115,8 +111,8 @@ aligned_result = declared5 ++ movi64 0x00 0x05 ++ (0xAB ∷ 0x03 ∷ 0x01 ∷ 0x
 unfoldable pub AlignedPass : Type 0
 AlignedPass =
     Gives aligned_load aligned_result
-    × (run_of aligned_load (1 ∷ 0x14 ∷ []) sixteen ≡ ran_as (Fault false 0x14 0x13 Alignment 4) (5 ∷ 0x14 ∷ []) sixteen)
-    × (run_of aligned_result (1 ∷ 0x14 ∷ []) sixteen ≡ ran_as (Fault false 0x14 0x13 Alignment 2) (5 ∷ 0x14 ∷ []) sixteen)
-    × (run_of aligned_load (1 ∷ 0x18 ∷ []) sixteen ≡ ran_as (Fault false 0x18 0x13 Bounds 4) (5 ∷ 0x18 ∷ []) sixteen)
-    × (run_of aligned_result (1 ∷ 0x18 ∷ []) sixteen ≡ ran_as (Fault false 0x18 0x13 Bounds 2) (5 ∷ 0x18 ∷ []) sixteen)
-    × (run_of aligned_result (1 ∷ 0x08 ∷ []) sixteen ≡ ran_as (Exit 0 4) (0 ∷ 0x08 ∷ []) sixteen)
+    × (run_of aligned_load (1 ∷ 0x14 ∷ []) sixteen ≡ ran_as (Ok (Fault false 0x14 0x13 Alignment 4)) (5 ∷ 0x14 ∷ []) sixteen)
+    × (run_of aligned_result (1 ∷ 0x14 ∷ []) sixteen ≡ ran_as (Ok (Fault false 0x14 0x13 Alignment 2)) (5 ∷ 0x14 ∷ []) sixteen)
+    × (run_of aligned_load (1 ∷ 0x18 ∷ []) sixteen ≡ ran_as (Ok (Fault false 0x18 0x13 Bounds 4)) (5 ∷ 0x18 ∷ []) sixteen)
+    × (run_of aligned_result (1 ∷ 0x18 ∷ []) sixteen ≡ ran_as (Ok (Fault false 0x18 0x13 Bounds 2)) (5 ∷ 0x18 ∷ []) sixteen)
+    × (run_of aligned_result (1 ∷ 0x08 ∷ []) sixteen ≡ ran_as (Ok (Exit 0 4)) (0 ∷ 0x08 ∷ []) sixteen)

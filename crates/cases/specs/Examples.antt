@@ -1,10 +1,9 @@
 -- Case 12, and an example for each of document 01's mistakes. Proved in proofs/Examples.antt. Assumes nothing.
-use Rattle.std.specs.Prelude.{ℕ, ◌≡◌, false, List, [], ◌∷◌, ◌++◌, length}
+use Rattle.std.specs.Prelude.{ℕ, ◌≡◌, false, List, [], ◌∷◌, ◌++◌, length, Ok}
 use Rattle.memory.specs.declared.Reason.TheVariants.{Bounds}
 use Rattle.runs.specs.declared.Ending.TheVariants.{Exit, Fault, NoResult}
 use Rattle.runs.specs.Runs.{run_of}
-use Rattle.passes.specs.declared.Written.TheVariants.{Length}
-use Rattle.passes.specs.Passes.{pass_of}
+use Rattle.passes.specs.Passes.{Length, pass_of}
 
 -- a 64-bit movi of a number below 256
 abbrev pub movi64 : ℕ → ℕ → List ℕ
@@ -36,8 +35,8 @@ globals12 = 7 ∷ 2 ∷ 3 ∷ 4 ∷ []
 unfoldable pub Case12 : Type 0
 Case12 =
     Gives source12 result12
-    × (run_of source12 globals12 [] ≡ record { answer = Exit 7 5; globals = 7 ∷ 1 ∷ 3 ∷ 4 ∷ []; memory = [] })
-    × (run_of result12 globals12 [] ≡ record { answer = Exit 7 2; globals = 7 ∷ 1 ∷ 3 ∷ 4 ∷ []; memory = [] })
+    × (run_of source12 globals12 [] ≡ record { answer = Ok (Exit 7 5); globals = 7 ∷ 1 ∷ 3 ∷ 4 ∷ []; memory = [] })
+    × (run_of result12 globals12 [] ≡ record { answer = Ok (Exit 7 2); globals = 7 ∷ 1 ∷ 3 ∷ 4 ∷ []; memory = [] })
 
 -- v0 and v1 are 64-bit globals, v2 a 64-bit local temporary, v3 and v4 are 64-bit temporaries
 abbrev pub declared5 : List ℕ
@@ -72,12 +71,12 @@ known_at_label = declared5 ++ movi64 0x02 0x01 ++ (0x02 ∷ 0x00 ∷ []) ++ (0x9
 unfoldable pub Mistakes : Type 0
 Mistakes =
     Gives write_before_load write_before_load
-    × (run_of write_before_load (1 ∷ 0x10 ∷ []) [] ≡ record { answer = Fault false 0x10 0x03 Bounds 2; globals = 5 ∷ 0x10 ∷ []; memory = [] })
+    × (run_of write_before_load (1 ∷ 0x10 ∷ []) [] ≡ record { answer = Ok (Fault false 0x10 0x03 Bounds 2); globals = 5 ∷ 0x10 ∷ []; memory = [] })
     × Gives dead_load dead_load
-    × (run_of dead_load (1 ∷ 0x10 ∷ []) [] ≡ record { answer = Fault false 0x10 0x03 Bounds 1; globals = 1 ∷ 0x10 ∷ []; memory = [] })
+    × (run_of dead_load (1 ∷ 0x10 ∷ []) [] ≡ record { answer = Ok (Fault false 0x10 0x03 Bounds 1); globals = 1 ∷ 0x10 ∷ []; memory = [] })
     × Gives load_into_global load_into_global
-    × (run_of load_into_global (1 ∷ 0x10 ∷ []) [] ≡ record { answer = Fault false 0x10 0x03 Bounds 2; globals = 5 ∷ 0x10 ∷ []; memory = [] })
+    × (run_of load_into_global (1 ∷ 0x10 ∷ []) [] ≡ record { answer = Ok (Fault false 0x10 0x03 Bounds 2); globals = 5 ∷ 0x10 ∷ []; memory = [] })
     × Gives division_by_zero division_by_zero
-    × (run_of division_by_zero (1 ∷ 0x10 ∷ []) [] ≡ record { answer = NoResult 2 2; globals = 1 ∷ 0x10 ∷ []; memory = [] })
+    × (run_of division_by_zero (1 ∷ 0x10 ∷ []) [] ≡ record { answer = Ok (NoResult 2 2); globals = 1 ∷ 0x10 ∷ []; memory = [] })
     × Gives known_at_label known_at_label
-    × (run_of known_at_label (1 ∷ 0x10 ∷ []) [] ≡ record { answer = Exit 2 4; globals = 2 ∷ 0x10 ∷ []; memory = [] })
+    × (run_of known_at_label (1 ∷ 0x10 ∷ []) [] ≡ record { answer = Ok (Exit 2 4); globals = 2 ∷ 0x10 ∷ []; memory = [] })

@@ -1,6 +1,6 @@
 -- Extended basic blocks: what lives on past a conditional branch, and what does not. Proved in proofs/Extended.antt. Assumes nothing.
-use Rattle.std.specs.Prelude.{ℕ, ◌≡◌, List, [], ◌∷◌, ◌++◌}
-use Rattle.block.specs.declared.Verdict.TheVariants.{Accepted, Refused}
+use Rattle.std.specs.Prelude.{ℕ, ◌≡◌, List, [], ◌∷◌, ◌++◌, Ok}
+use Rattle.block.specs.Checks.{Accepted, Refused}
 use Rattle.block.specs.Checks.{check_of}
 use Rattle.runs.specs.declared.Ending.TheVariants.{Exit}
 use Rattle.runs.specs.Runs.{ran_as, run_of}
@@ -32,10 +32,10 @@ across_result = declared5 ++ add64 0x04 0x01 0x01 ++ branch ++ movi64 0x00 0x0A 
 unfoldable pub Across : Type 0
 Across =
     Gives across across_result
-    × (run_of across (1 ∷ 7 ∷ []) [] ≡ ran_as (Exit 10 7) (10 ∷ 21 ∷ []) [])
-    × (run_of across_result (1 ∷ 7 ∷ []) [] ≡ ran_as (Exit 10 6) (10 ∷ 21 ∷ []) [])
-    × (run_of across (7 ∷ 7 ∷ []) [] ≡ ran_as (Exit 7 5) (7 ∷ 7 ∷ []) [])
-    × (run_of across_result (7 ∷ 7 ∷ []) [] ≡ ran_as (Exit 7 4) (7 ∷ 7 ∷ []) [])
+    × (run_of across (1 ∷ 7 ∷ []) [] ≡ ran_as (Ok (Exit 10 7)) (10 ∷ 21 ∷ []) [])
+    × (run_of across_result (1 ∷ 7 ∷ []) [] ≡ ran_as (Ok (Exit 10 6)) (10 ∷ 21 ∷ []) [])
+    × (run_of across (7 ∷ 7 ∷ []) [] ≡ ran_as (Ok (Exit 7 5)) (7 ∷ 7 ∷ []) [])
+    × (run_of across_result (7 ∷ 7 ∷ []) [] ≡ ran_as (Ok (Exit 7 4)) (7 ∷ 7 ∷ []) [])
 
 -- v3 := 5; some ops; v0 := v3 + v3, which stands at 25 and their length; label; exit
 abbrev pub read_after : List ℕ → List ℕ
@@ -59,8 +59,8 @@ known_at_target = declared5 ++ movi64 0x02 0x01 ++ branch ++ movi64 0x02 0x02 ++
 unfoldable pub KnownAtTarget : Type 0
 KnownAtTarget =
     Gives known_at_target known_at_target
-    × (run_of known_at_target (1 ∷ 7 ∷ []) [] ≡ ran_as (Exit 4 6) (4 ∷ 7 ∷ []) [])
-    × (run_of known_at_target (7 ∷ 7 ∷ []) [] ≡ ran_as (Exit 2 5) (2 ∷ 7 ∷ []) [])
+    × (run_of known_at_target (1 ∷ 7 ∷ []) [] ≡ ran_as (Ok (Exit 4 6)) (4 ∷ 7 ∷ []) [])
+    × (run_of known_at_target (7 ∷ 7 ∷ []) [] ≡ ran_as (Ok (Exit 2 5)) (2 ∷ 7 ∷ []) [])
 
 -- v3 := v1 + v1; branch; v3 := v0 + v0; v1 := v3 + v3; label. No op reads the first v3: it is dead after the branch, and so before it
 unfoldable pub dead_across : List ℕ
@@ -72,5 +72,5 @@ dead_across_result = declared5 ++ branch ++ add64 0x03 0x00 0x00 ++ add64 0x01 0
 unfoldable pub DeadAcross : Type 0
 DeadAcross =
     Gives dead_across dead_across_result
-    × (run_of dead_across (1 ∷ 7 ∷ []) [] ≡ ran_as (Exit 1 6) (1 ∷ 4 ∷ []) [])
-    × (run_of dead_across_result (1 ∷ 7 ∷ []) [] ≡ ran_as (Exit 1 5) (1 ∷ 4 ∷ []) [])
+    × (run_of dead_across (1 ∷ 7 ∷ []) [] ≡ ran_as (Ok (Exit 1 6)) (1 ∷ 4 ∷ []) [])
+    × (run_of dead_across_result (1 ∷ 7 ∷ []) [] ≡ ran_as (Ok (Exit 1 5)) (1 ∷ 4 ∷ []) [])

@@ -1,11 +1,10 @@
 -- Bit fields, swaps and counts. Proved in proofs/Fields.antt. Assumes nothing.
-use Rattle.std.specs.Prelude.{ℕ, ◌≡◌, Bool, true, false, ◌&&◌, List, [], ◌∷◌, ◌++◌, eqb}
-use Rattle.std.proofs.Math.Option.{Option, none, some}
+use Rattle.std.specs.Prelude.{ℕ, ◌≡◌, Bool, true, false, ◌&&◌, List, [], ◌∷◌, ◌++◌, eqb, Option, None, Some, Ok, is_none}
 use Rattle.std.specs.Int.Bits.{bit_and, bit_or}
 use Rattle.word.specs.Word.{not_w, shl_w, sar_w}
 use Rattle.word.specs.Fields.{deposit_w, sextract_w}
 use Rattle.ops.specs.Kinds.{computed_of}
-use Rattle.block.specs.declared.Verdict.TheVariants.{Accepted, Refused}
+use Rattle.block.specs.Checks.{Accepted, Refused}
 use Rattle.block.specs.Checks.{check_of}
 use Rattle.runs.specs.declared.Ending.TheVariants.{Exit, NoResult}
 use Rattle.runs.specs.Runs.{ran_as, run_of}
@@ -19,15 +18,11 @@ Document000 =
 
 -- what a kind states of the bytes after its operands and its inputs
 abbrev pub is : Option ℕ → ℕ → Bool
-is none x = false
-is (some y) x = eqb y x
+is None x = false
+is (Some y) x = eqb y x
 
 abbrev pub gives : ℕ → List ℕ → List ℕ → ℕ → Bool
 gives k bytes inputs x = is (computed_of k bytes inputs) x
-
-abbrev pub is_none : Option ℕ → Bool
-is_none none = true
-is_none (some x) = false
 
 abbrev pub unstated : ℕ → List ℕ → List ℕ → Bool
 unstated k bytes inputs = is_none (computed_of k bytes inputs)
@@ -201,8 +196,8 @@ field_result = declared5 ++ movi64 0x03 0x05 ++ (0xAD ∷ 0x00 ∷ 0x01 ∷ 0x03
 unfoldable pub FieldBlock : Type 0
 FieldBlock =
     Gives field_block field_result
-    × (run_of field_block (1 ∷ 0xFFFF ∷ []) [] ≡ ran_as (Exit 0xF5FF 5) (0xF5FF ∷ 0x35 ∷ []) [])
-    × (run_of field_result (1 ∷ 0xFFFF ∷ []) [] ≡ ran_as (Exit 0xF5FF 4) (0xF5FF ∷ 0x35 ∷ []) [])
+    × (run_of field_block (1 ∷ 0xFFFF ∷ []) [] ≡ ran_as (Ok (Exit 0xF5FF 5)) (0xF5FF ∷ 0x35 ∷ []) [])
+    × (run_of field_result (1 ∷ 0xFFFF ∷ []) [] ≡ ran_as (Ok (Exit 0xF5FF 4)) (0xF5FF ∷ 0x35 ∷ []) [])
 
 -- "With IZ set and an input that is not zero-extended, no result is stated": v0 := v1 swapped; the run stops before it
 unfoldable pub not_extended : List ℕ
@@ -215,4 +210,4 @@ known_not_extended = declared5 ++ (0x90 ∷ 0x03 ∷ 0 ∷ 0 ∷ 1 ∷ 0 ∷ 0 �
 unfoldable pub NotExtended : Type 0
 NotExtended =
     Gives known_not_extended known_not_extended
-    × (run_of not_extended (7 ∷ 0x10000 ∷ []) [] ≡ ran_as (NoResult 0 0) (7 ∷ 0x10000 ∷ []) []) × (run_of not_extended (7 ∷ 0xFFFE ∷ []) [] ≡ ran_as (Exit 0xFEFF 2) (0xFEFF ∷ 0xFFFE ∷ []) [])
+    × (run_of not_extended (7 ∷ 0x10000 ∷ []) [] ≡ ran_as (Ok (NoResult 0 0)) (7 ∷ 0x10000 ∷ []) []) × (run_of not_extended (7 ∷ 0xFFFE ∷ []) [] ≡ ran_as (Ok (Exit 0xFEFF 2)) (0xFEFF ∷ 0xFFFE ∷ []) [])

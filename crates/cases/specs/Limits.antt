@@ -1,7 +1,7 @@
 -- The limits of request 05: both sides of each. Proved in proofs/Limits.antt. Assumes nothing.
 use Rattle.std.specs.Prelude.{ℕ, ◌≡◌, List, [], ◌∷◌, ◌++◌, replicate}
 use Rattle.block.specs.Records.{record_bytes}
-use Rattle.block.specs.declared.Verdict.TheVariants.{Accepted, Refused}
+use Rattle.block.specs.Checks.{Accepted, Refused}
 use Rattle.block.specs.Checks.{check_of}
 use Rattle.cases.specs.Examples.{movi64, exit}
 

@@ -1,8 +1,6 @@
 -- The cases of document 01 marked P, as one table of what the check and whole runs answer. Proved in proofs/Marked.antt. Assumes nothing.
-use Rattle.std.specs.Prelude.{ℕ, false, ◌≡◌, List, [], ◌∷◌, ◌++◌, map}
-use Rattle.block.specs.declared.Verdict.{Verdict}
-use Rattle.block.specs.declared.Verdict.TheVariants.{Accepted, Refused}
-use Rattle.block.specs.Checks.{check_of}
+use Rattle.std.specs.Prelude.{ℕ, false, ◌≡◌, List, [], ◌∷◌, ◌++◌, map, Ok}
+use Rattle.block.specs.Checks.{Verdict, Accepted, Refused, check_of}
 use Rattle.memory.specs.declared.Reason.TheVariants.{Bounds}
 use Rattle.runs.specs.declared.Ending.TheVariants.{Exit, Fault, NoResult}
 use Rattle.runs.specs.Runs.{Ran, ran_as, run_of}
@@ -40,24 +38,24 @@ binary32 kind rest a b = run (run_of (block_of (1 ∷ 0 ∷ 0 ∷ 0 ∷ []) (kin
 
 -- it runs, the result is x, and the block exits after two ops; or it has no stated result, and nothing is changed
 abbrev pub gives : ℕ → ℕ → ℕ → Answer
-gives a b x = run (ran_as (Exit 7 2) (7 ∷ x ∷ a ∷ b ∷ []) [])
+gives a b x = run (ran_as (Ok (Exit 7 2)) (7 ∷ x ∷ a ∷ b ∷ []) [])
 
 abbrev pub unstated : ℕ → ℕ → Answer
-unstated a b = run (ran_as (NoResult 0 0) (7 ∷ 0xEE ∷ a ∷ b ∷ []) [])
+unstated a b = run (ran_as (Ok (NoResult 0 0)) (7 ∷ 0xEE ∷ a ∷ b ∷ []) [])
 
 -- from a 32-bit global 1 to a 64-bit global 0, which the block exits with
 abbrev pub widen : ℕ → ℕ → Answer
 widen kind a = run (run_of (block_of (1 ∷ 0 ∷ []) (kind ∷ 0 ∷ 1 ∷ [])) (0xEE ∷ a ∷ []) [])
 
 abbrev pub widened : ℕ → ℕ → Answer
-widened a x = run (ran_as (Exit x 2) (x ∷ a ∷ []) [])
+widened a x = run (ran_as (Ok (Exit x 2)) (x ∷ a ∷ []) [])
 
 -- from a 64-bit global 0 to a 32-bit global 1
 abbrev pub narrow : ℕ → ℕ → Answer
 narrow kind a = run (run_of (block_of (1 ∷ 0 ∷ []) (kind ∷ 1 ∷ 0 ∷ [])) (a ∷ 0xEE ∷ []) [])
 
 abbrev pub narrowed : ℕ → ℕ → Answer
-narrowed a x = run (ran_as (Exit a 2) (a ∷ x ∷ []) [])
+narrowed a x = run (ran_as (Ok (Exit a 2)) (a ∷ x ∷ []) [])
 
 -- a load into a 32-bit global 1 from the address in global 0
 abbrev pub load32 : ℕ → ℕ → List ℕ → Answer
@@ -65,10 +63,10 @@ load32 flags address memory = run (run_of (block_of (1 ∷ 0 ∷ []) (0x2B ∷ 1
 
 -- it is served with x, or faults: the flags ask for no alignment
 abbrev pub served : ℕ → List ℕ → ℕ → Answer
-served address memory x = run (ran_as (Exit address 2) (address ∷ x ∷ []) memory)
+served address memory x = run (ran_as (Ok (Exit address 2)) (address ∷ x ∷ []) memory)
 
 abbrev pub faulted : ℕ → ℕ → List ℕ → Answer
-faulted flags address memory = run (ran_as (Fault false address flags Bounds 1) (address ∷ 0xEE ∷ []) memory)
+faulted flags address memory = run (ran_as (Ok (Fault false address flags Bounds 1)) (address ∷ 0xEE ∷ []) memory)
 
 -- "Memory of 16 (decimal) bytes"
 abbrev pub sixteen : List ℕ
@@ -88,7 +86,7 @@ marked_cases g =
     ∷ is 1 (check (check_of (0x01 ∷ 0x00 ∷ []))) (check (Refused 1 0))
     -- "is accepted and exits with global 0 after one op"
     ∷ is 2 (check (check_of exit_with_global)) (check Accepted)
-    ∷ is 2 (run (run_of exit_with_global (g ∷ []) [])) (run (ran_as (Exit g 1) (g ∷ []) []))
+    ∷ is 2 (run (run_of exit_with_global (g ∷ []) [])) (run (ran_as (Ok (Exit g 1)) (g ∷ []) []))
     -- "add_i32 FFFFFFFF, 1 is 0"
     ∷ is 3 (binary32 0x14 [] 0xFFFFFFFF 1) (gives 0xFFFFFFFF 1 0)
     -- "divs_i32 80000000 by FFFFFFFF: no stated result; 80000001 by FFFFFFFF is 7FFFFFFF"

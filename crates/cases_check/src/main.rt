@@ -1,21 +1,14 @@
 // Runs the check on cases 1 and 11 of document 01, and on a small block for each refusal from 1 to 10. The file stdout holds what it writes.
 #![tactic(auto)]
 
-use block::Verdict;
 use std::io;
-
-// Writes a refusal's number and place.
-fn show_refusal(rt: &impl Print, rule: u8, place: usize) -> io::Result<()> {
-    println!(rt; ": refusal {rule} at {place}")
-}
 
 // Writes a block's name and what the check answers of it.
 fn run(rt: &impl Print, name: &str, block: &[u8]) -> io::Result<()> {
     print!(rt; "{name}")?;
-    let verdict = checker::check(block);
-    match verdict {
-        Verdict::Accepted => println!(rt; ": accepted"),
-        Verdict::Refused { number, place } => show_refusal(rt, number, place),
+    match checker::check(block) {
+        Ok(()) => println!(rt; ": accepted"),
+        Err(refusal) => println!(rt; ": {refusal}"),
     }
 }
 
@@ -31,12 +24,10 @@ fn put(bytes: &mut [u8], at: usize, x: u8) -> usize {
 // Puts three bytes count times, and answers the place after them.
 fn repeat(bytes: &mut [u8], start: usize, count: usize, x: u8, y: u8, z: u8) -> usize {
     let mut at = start;
-    let mut i = 0;
-    while i < count {
-        at = put(bytes, at, x);
-        at = put(bytes, at, y);
-        at = put(bytes, at, z);
-        i += 1;
+    for _ in 0..count {
+        for byte in [x, y, z] {
+            at = put(bytes, at, byte);
+        }
     }
     at
 }

@@ -1,97 +1,21 @@
 // Runs cases 2 to 10 and 12 of document 01 and aligned accesses, and writes what each leaves. The file stdout holds what it writes.
 #![tactic(auto)]
 
-use block::Verdict;
-use memory::Reason;
-use passes::Written;
-use runs::Ending;
 use std::io;
 
-fn show_number(rt: &impl Print, x: u64) -> io::Result<()> {
-    print!(rt; "0x{x:x}")
-}
-
-// Writes each byte as a space and two digits.
+// Writes each byte as a space and two digits: std prints no slice so.
 fn show_bytes(rt: &impl Print, bytes: &[u8]) -> io::Result<()> {
-    let mut i = 0;
-    while i < bytes.len() {
-        let byte = bytes[i];
+    for byte in bytes {
         print!(rt; " {byte:02x}")?;
-        i += 1;
     }
     Ok(())
 }
 
 fn show_globals(rt: &impl Print, globals: &[u64]) -> io::Result<()> {
-    let mut i = 0;
-    while i < globals.len() {
-        print!(rt; " ")?;
-        show_number(rt, globals[i])?;
-        i += 1;
+    for x in globals {
+        print!(rt; " 0x{x:x}")?;
     }
     Ok(())
-}
-
-fn show_refusal(rt: &impl Print, rule: u8, place: usize) -> io::Result<()> {
-    print!(rt; "refusal {rule} at {place}")
-}
-
-fn show_reason(rt: &impl Print, reason: Reason) -> io::Result<()> {
-    match reason {
-        Reason::Bounds => print!(rt; " (bounds)"),
-        Reason::Alignment => print!(rt; " (alignment)"),
-    }
-}
-
-fn show_fault(
-    rt: &impl Print,
-    store: bool,
-    address: u64,
-    flags: u8,
-    reason: Reason,
-) -> io::Result<()> {
-    if store {
-        print!(rt; "fault store at ")?;
-    } else {
-        print!(rt; "fault load at ")?;
-    }
-    show_number(rt, address)?;
-    print!(rt; " flags 0x{flags:02x}")?;
-    show_reason(rt, reason)
-}
-
-fn show_count(rt: &impl Print, count: u64) -> io::Result<()> {
-    print!(rt; " after {count}")?;
-    if count == 1 {
-        print!(rt; " op")
-    } else {
-        print!(rt; " ops")
-    }
-}
-
-fn show_ending(rt: &impl Print, ending: Ending) -> io::Result<()> {
-    match ending {
-        Ending::Refused { number, place } => show_refusal(rt, number, place),
-        Ending::Exit { value, count } => {
-            print!(rt; "exit ")?;
-            show_number(rt, value)?;
-            show_count(rt, count)
-        }
-        Ending::Fault {
-            store,
-            address,
-            flags,
-            reason,
-            count,
-        } => {
-            show_fault(rt, store, address, flags, reason)?;
-            show_count(rt, count)
-        }
-        Ending::NoResult { position, count } => {
-            print!(rt; "no stated result at op {position}")?;
-            show_count(rt, count)
-        }
-    }
 }
 
 // Runs a block, and writes its name, how it ends, and the globals and memory that it leaves.
@@ -103,8 +27,10 @@ fn run(
     memory: &mut [u8],
 ) -> io::Result<()> {
     print!(rt; "{name}")?;
-    let ending = run::run(block, globals, memory);
-    show_ending(rt, ending)?;
+    match run::run(block, globals, memory) {
+        Ok(ending) => print!(rt; "{ending}")?,
+        Err(refusal) => print!(rt; "{refusal}")?,
+    }
     print!(rt; ", globals")?;
     show_globals(rt, globals)?;
     if memory.len() > 0 {
@@ -116,16 +42,9 @@ fn run(
 
 fn case_2(rt: &impl Print) -> io::Result<()> {
     let block = b"\x01\x00\x01\x04\x00";
-    let verdict = checker::check(block);
-    match verdict {
-        Verdict::Accepted => {
-            println!(rt; "case 2: accepted")?;
-        }
-        Verdict::Refused { number, place } => {
-            print!(rt; "case 2: ")?;
-            show_refusal(rt, number, place)?;
-            println!(rt; "")?;
-        }
+    match checker::check(block) {
+        Ok(()) => println!(rt; "case 2: accepted")?,
+        Err(refusal) => println!(rt; "case 2: {refusal}")?,
     }
     let mut globals = [0x0123456789ABCDEFu64];
     let mut memory = [0u8; 0];
@@ -389,14 +308,9 @@ fn case_12(rt: &impl Print) -> io::Result<()> {
     let mut memory = [0u8; 0];
     run(rt, "case 12: before: ", block, &mut globals, &mut memory)?;
     let mut out = [0xEEu8; 32];
-    let written = pass::pass(block, &mut out);
-    match written {
-        Written::Refused { number, place } => {
-            print!(rt; "case 12: ")?;
-            show_refusal(rt, number, place)?;
-            println!(rt; "")
-        }
-        Written::Length(n) => show_result(rt, &out, n),
+    match pass::pass(block, &mut out) {
+        Ok(n) => show_result(rt, &out, n),
+        Err(refusal) => println!(rt; "case 12: {refusal}"),
     }
 }
 

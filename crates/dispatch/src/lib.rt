@@ -4,17 +4,18 @@
 ghost use Rattle.std.specs.Prelude.{◌≡◌, false};
 ghost use Rattle.ops.specs.Ops.{view_of};
 ghost use Rattle.ops.specs.Kinds.{between, document01};
-ghost use Rattle.ops.specs.Table.{kind_table, row_of};
+ghost use Rattle.ops.specs.Table.{row_of};
 ghost use Rattle.block.specs.Scan.{record_at, Stands};
 ghost use Rattle.runs.specs.Steps.{state_of, Performs, next_at};
 
 use compute::compute_step;
+use kinds::Kinds;
 use runs::Outcome;
 use step::other_step;
 
 // The kinds 2d to 36 and ad to b6, or those of `other_step`, which do not compute.
 fn bit_op(
-    kinds: &[u32; 256],
+    kinds: &Kinds,
     block: &[u8],
     at: usize,
     k: u8,
@@ -22,7 +23,7 @@ fn bit_op(
     temps: &mut [u64; 256],
     memory: &mut [u8],
 ) -> Outcome
-    requires { Stands row_of block.now at k × (kinds.now ≡ kind_table) × (between 0x05 0x07 k ≡ false) × (between 0x11 0x29 k ≡ false) × (between 0x91 0xA9 k ≡ false) }
+    requires { Stands row_of block.now at k × (between 0x05 0x07 k ≡ false) × (between 0x11 0x29 k ≡ false) × (between 0x91 0xA9 k ≡ false) }
     ensures { Performs (view_of document01 (record_at row_of block.now at)) (next_at block.now at) (state_of globals.old temps.old memory.old) (state_of globals.new temps.new memory.new) result }
 {
     match k {
@@ -51,7 +52,7 @@ fn bit_op(
 
 // The kinds 91 to a9, or those of `bit_op`.
 fn wide_op(
-    kinds: &[u32; 256],
+    kinds: &Kinds,
     block: &[u8],
     at: usize,
     k: u8,
@@ -59,7 +60,7 @@ fn wide_op(
     temps: &mut [u64; 256],
     memory: &mut [u8],
 ) -> Outcome
-    requires { Stands row_of block.now at k × (kinds.now ≡ kind_table) × (between 0x05 0x07 k ≡ false) × (between 0x11 0x29 k ≡ false) }
+    requires { Stands row_of block.now at k × (between 0x05 0x07 k ≡ false) × (between 0x11 0x29 k ≡ false) }
     ensures { Performs (view_of document01 (record_at row_of block.now at)) (next_at block.now at) (state_of globals.old temps.old memory.old) (state_of globals.new temps.new memory.new) result }
 {
     match k {
@@ -94,7 +95,7 @@ fn wide_op(
 
 // Runs the op of this kind that starts at a place: the kinds 05 to 07 and 11 to 29, or those of `wide_op`. The kinds that compute come first, so that the compiler makes one jump of all.
 pub fn step(
-    kinds: &[u32; 256],
+    kinds: &Kinds,
     block: &[u8],
     at: usize,
     k: u8,
@@ -102,7 +103,7 @@ pub fn step(
     temps: &mut [u64; 256],
     memory: &mut [u8],
 ) -> Outcome
-    requires { Stands row_of block.now at k × (kinds.now ≡ kind_table) }
+    requires { Stands row_of block.now at k }
     ensures { Performs (view_of document01 (record_at row_of block.now at)) (next_at block.now at) (state_of globals.old temps.old memory.old) (state_of globals.new temps.new memory.new) result }
 {
     match k {

@@ -2,21 +2,17 @@
 #![tactic(auto)]
 
 ghost use Rattle.std.specs.Prelude.{◌≡◌, ◌%◌, ◌^◌};
-ghost use Rattle.std.proofs.Math.Option.{some};
-ghost use Rattle.word.specs.Answer.{stated_of};
 ghost use Rattle.ops.specs.Eval.{convert_of};
 ghost use Rattle.ops.specs.Evaluate.{folded_of};
 
 use widths::convert;
-use word::Stated;
 
 mod choice;
-mod eval32;
-mod eval64;
+mod families;
 
 // ext_i32_i64, extu_i32_i64, trunc_i64_i32: each reads the low 32 bits.
 fn converted(k: u8, a: u64) -> u64
-    ensures { some result ≡ convert_of k (a % 2 ^ 32) }
+    ensures { Some result ≡ convert_of k (a % 2 ^ 32) }
 {
     let low = convert::trunc_i64_i32(a);
     match k {
@@ -26,13 +22,13 @@ fn converted(k: u8, a: u64) -> u64
 }
 
 // The value that a kind states of the bytes after its operands and its inputs, each read at its width.
-pub fn eval(kind: u8, bytes: &[u8], a: u64, b: u64, x: u64, y: u64) -> Stated
-    ensures { result ≡ stated_of (folded_of kind bytes.now a b x y) }
+pub fn eval(kind: u8, bytes: &[u8], a: u64, b: u64, x: u64, y: u64) -> Option<u64>
+    ensures { result ≡ folded_of kind bytes.now a b x y }
 {
     match kind {
-        0x05..=0x07 => Stated::Value(converted(kind, a)),
-        0x80..=0xff => eval64::family(kind - 0x80, bytes, a, b, x, y),
-        _ => eval32::family(
+        0x05..=0x07 => Some(converted(kind, a)),
+        0x80..=0xff => families::family(kind - 0x80, bytes, a, b, x, y),
+        _ => families::family(
             kind,
             bytes,
             convert::trunc_i64_i32(a),

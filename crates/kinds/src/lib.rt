@@ -1,11 +1,13 @@
 // The table of kinds, and the digits of an entry.
 #![tactic(auto)]
 
-ghost use Rattle.std.specs.Prelude.{◌≡◌, leb, get_or, ◌+◌};
-ghost use Rattle.ops.specs.Rows.{outs_in, ins_in, rest_in, test_in, role_in, types_in, role_no, number_of, is_known, is_setting, is_jumping};
+ghost use Rattle.std.specs.Prelude.{◌≡◌, ℕ, leb, get_or, ◌+◌};
+ghost use Rattle.ops.specs.Rows.{outs_in, ins_in, rest_in, test_in, role_in, types_in, role_no, is_known, is_setting, is_jumping};
+ghost use Rattle.ops.specs.Roles.{role_meant};
 ghost use Rattle.ops.specs.Table.{kind_table};
 
-use ops::{BRANCHES, JUMPS_TO, SETS_LABEL};
+use ops::Role;
+use std::marker::Model;
 
 // A kind's entry, in hexadecimal digits from the lowest: its outputs, its inputs, the bytes after them, the number of their test, the number of its
 // role; then the types of its operands, two bits each, 1 for 64 bits. 0 for a kind that is unknown.
@@ -270,89 +272,119 @@ const KINDS: [u32; 256] = [
 ];
 
 // The table, which a call makes once and lends.
-pub fn table() -> [u32; 256]
-    ensures { result ≡ kind_table }
-{
-    KINDS
+#[derive(Drop)]
+pub struct Kinds {
+    rows: [u32; 256],
+    ghost is_table: { rows ≡ kind_table },
 }
 
-pub fn entry(kinds: &[u32; 256], kind: u8) -> u32
+impl Kinds {
+    pub fn new() -> Kinds {
+        Kinds { rows: KINDS }
+    }
+
+    // The entry of a kind.
+    pub fn entry(&self, kind: u8) -> Entry
+        ensures { result ≡ get_or kind_table kind 0 }
+    {
+        entry_in(&self.rows, kind)
+    }
+}
+
+// The entry of a kind in any table.
+pub fn entry_in(kinds: &[u32; 256], kind: u8) -> Entry
     ensures { result ≡ get_or kinds.now kind 0 }
 {
-    kinds[kind as usize]
+    Entry {
+        digits: kinds[kind as usize],
+    }
 }
 
-fn outs(e: u32) -> usize
-    ensures { result ≡ outs_in e }
-{
-    (e % 16) as usize
+// A kind's entry, seen as the number that its digits make.
+#[derive(Clone, Copy)]
+pub struct Entry {
+    pub digits: u32,
 }
 
-fn ins(e: u32) -> usize
-    ensures { result ≡ ins_in e }
-{
-    (e / 16 % 16) as usize
+impl Model for Entry {
+    ghost Value = { ℕ };
+
+    ghost view = { λ e. e.digits };
+
+    ghost inverse = { λ n. record { digits = n } };
 }
 
-// How many bytes follow the operands.
-pub fn rest(e: u32) -> usize
-    ensures { result ≡ rest_in e }
-{
-    (e / 256 % 16) as usize
-}
+impl Entry {
+    fn outs(self) -> usize
+        ensures { result ≡ outs_in self }
+    {
+        (self.digits % 16) as usize
+    }
 
-// The number of their test.
-pub fn test(e: u32) -> u32
-    ensures { result ≡ test_in e }
-{
-    e / 4096 % 16
-}
+    fn ins(self) -> usize
+        ensures { result ≡ ins_in self }
+    {
+        (self.digits / 16 % 16) as usize
+    }
 
-// The number of the role, 0 for any that is none.
-fn role(e: u32) -> u32
-    ensures { result ≡ number_of (role_no (role_in e)) }
-{
-    let n = e / 65536 % 16;
-    if n < 10 { n } else { 0 }
-}
+    // How many bytes follow the operands.
+    pub fn rest(self) -> usize
+        ensures { result ≡ rest_in self }
+    {
+        (self.digits / 256 % 16) as usize
+    }
 
-// The types of the operands, two bits each, the first lowest.
-pub fn types(e: u32) -> u32
-    ensures { result ≡ types_in e }
-{
-    e / 1048576
-}
+    // The number of their test.
+    pub fn test(self) -> u32
+        ensures { result ≡ test_in self }
+    {
+        self.digits / 4096 % 16
+    }
 
-pub fn operand_count(e: u32) -> usize
-    ensures { result ≡ outs_in e + ins_in e }
-{
-    outs(e) + ins(e)
-}
+    // The role, Unknown for a number that is none's.
+    fn role(self) -> Role
+        ensures { role_meant result ≡ role_no (role_in self) }
+    {
+        Role::from_number(self.digits / 65536 % 16, Role::Unknown)
+    }
 
-pub fn body_length(e: u32) -> usize
-    ensures { result ≡ outs_in e + ins_in e + rest_in e }
-{
-    operand_count(e) + rest(e)
-}
+    // The types of the operands, two bits each, the first lowest.
+    pub fn types(self) -> u32
+        ensures { result ≡ types_in self }
+    {
+        self.digits / 1048576
+    }
 
-pub fn is_known(e: u32) -> bool
-    ensures { result ≡ is_known (role_no (role_in e)) }
-{
-    0 < role(e)
-}
+    pub fn operand_count(self) -> usize
+        ensures { result ≡ outs_in self + ins_in self }
+    {
+        self.outs() + self.ins()
+    }
 
-// The op sets a label; it may jump to one.
-pub fn is_setting(e: u32) -> bool
-    ensures { result ≡ is_setting (role_no (role_in e)) }
-{
-    role(e) == SETS_LABEL
-}
+    pub fn body_length(self) -> usize
+        ensures { result ≡ outs_in self + ins_in self + rest_in self }
+    {
+        self.operand_count() + self.rest()
+    }
 
-pub fn is_jumping(e: u32) -> bool
-    ensures { result ≡ is_jumping (role_no (role_in e)) }
-{
-    let n = role(e);
-    (n == JUMPS_TO) | (n == BRANCHES)
+    pub fn is_known(self) -> bool
+        ensures { result ≡ is_known (role_no (role_in self)) }
+    {
+        self.role().is_known()
+    }
+
+    // The op sets a label; it may jump to one.
+    pub fn is_setting(self) -> bool
+        ensures { result ≡ is_setting (role_no (role_in self)) }
+    {
+        self.role().is_setting()
+    }
+
+    pub fn is_jumping(self) -> bool
+        ensures { result ≡ is_jumping (role_no (role_in self)) }
+    {
+        self.role().is_jumping()
+    }
 }
 
 // The op has its 64-bit form.

@@ -13,18 +13,14 @@ fn fits_type(code: u8, x: u64) -> bool
     (code % 2 == 1) | (x < 0x1_0000_0000)
 }
 
-// Each 32-bit global is below 2^32; base: the variables' bytes.
+// Each 32-bit global is below 2^32; base: the variables' bytes. It is called once a run: a call of its own leaves the loop over the ops its registers.
+#[inline(never)]
 fn globals_fit(base: &[u8], globals: &[u64]) -> bool
     ensures { result ≡ codes_fit base.now globals.now }
 {
-    let mut i = 0;
-    while (i < base.len()) & (i < globals.len()) {
-        if !fits_type(base[i], globals[i]) {
-            return false;
-        }
-        i += 1;
-    }
-    true
+    base.iter()
+        .zip(globals.iter())
+        .all(|(code, x)| fits_type(*code, *x))
 }
 
 // Rule 11: as many globals as are declared, each within its width, and no more memory than the limit.

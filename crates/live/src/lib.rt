@@ -7,13 +7,11 @@ ghost use Rattle.ops.specs.Rows.{outs_in, role_of, computing};
 ghost use Rattle.ops.specs.Table.{row_of};
 ghost use Rattle.ops.specs.Fields.{bytes_at};
 ghost use Rattle.ops.specs.Plans.{entry_at};
-ghost use Rattle.ops.specs.Shapes.{pure_as, sets_as, jumps_as, shape_at};
-ghost use Rattle.block.specs.Scan.{Stands};
+ghost use Rattle.ops.specs.Shapes.{pure_as, sets_as, jumps_as};
 ghost use Rattle.passes.specs.Live.{before_at, live_as, live_of, Turns, Timed};
 
-use marks::put_number;
-use ops::BRANCHES;
-use shapes::{ins, is_jumping, is_pure, is_setting, outs, role};
+use laid::Op;
+use marks::put;
 
 // Whether a variable is live: the later of its own event and its class's is odd.
 pub fn is_live(events: &[u16; 256], floors: &[u16; 4], classes: &[u8; 256], v: u8) -> bool
@@ -30,16 +28,15 @@ pub fn is_live(events: &[u16; 256], floors: &[u16; 4], classes: &[u8; 256], v: u
 }
 
 // The outputs of an op are not live.
-fn end_outputs(s: u16, block: &[u8], at: usize, time: u16, events: &mut [u16; 256])
-    requires { Stands row_of block.now at (get_or block.now at 0) × (s ≡ shape_at block.now at) }
-    ensures { Timed events.old (bytes_at block.now (at + 1) (outs_in (entry_at block.now at))) time events.new }
+fn end_outputs(op: &Op, time: u16, events: &mut [u16; 256])
+    ensures { Timed events.old (bytes_at op.now.block.now (op.now.at + 1) (outs_in (entry_at op.now.block.now op.now.at))) time events.new }
 {
-    if outs(s) == 1 {
-        put_number(events, block[at + 1], time);
+    if op.shape.outs() == 1 {
+        put(events, op.block[op.at + 1], time);
     }
 }
 
-// The variables that up to four bytes name are live: the first and the last, then two more.
+// The variables that up to four bytes from a place on name are live: the first and the last, then two more.
 fn wake(block: &[u8], from: usize, count: usize, time: u16, events: &mut [u16; 256])
     requires { (from + count ≤ length block.now) × (count ≤ 4) }
     ensures { Timed events.old (bytes_at block.now from count) time events.new }
@@ -47,21 +44,21 @@ fn wake(block: &[u8], from: usize, count: usize, time: u16, events: &mut [u16; 2
     if count == 0 {
         return;
     }
-    put_number(events, block[from], time);
-    put_number(events, block[from + count - 1], time);
+    put(events, block[from], time);
+    put(events, block[from + count - 1], time);
     if count <= 2 {
         return;
     }
-    put_number(events, block[from + 1], time);
-    put_number(events, block[from + 2], time);
+    put(events, block[from + 1], time);
+    put(events, block[from + 2], time);
 }
 
 // When local temporaries change: now at an op that has a label, where they are live; else as floor has it.
-fn local_time(s: u16, time: u16, floor: u16) -> u16
+fn local_time(op: &Op, time: u16, floor: u16) -> u16
     requires { time < 65535 }
-    ensures { result ≡ cond (sets_as s || jumps_as s) (time + 1) floor }
+    ensures { result ≡ cond (sets_as op.now.shape || jumps_as op.now.shape) (time + 1) floor }
 {
-    if is_setting(s) | is_jumping(s) {
+    if op.shape.is_setting() | op.shape.is_jumping() {
         return time + 1;
     }
     floor
@@ -69,46 +66,32 @@ fn local_time(s: u16, time: u16, floor: u16) -> u16
 
 // What is live before an op that is not pure, but for its inputs, from what is live after it. All globals are, and at an op
 // that has a label the local temporaries; where an extended basic block ends nothing else is.
-fn live_but_inputs(
-    s: u16,
-    block: &[u8],
-    at: usize,
-    time: u16,
-    events: &mut [u16; 256],
-    floors: &mut [u16; 4],
-)
-    requires { Stands row_of block.now at (get_or block.now at 0) × (s ≡ shape_at block.now at) × (time % 2 ≡ 0) × (time < 65535) × (pure_as s ≡ false) }
-    ensures { Turns events.old floors.old time (before_at (entry_at block.now at) block.now at) events.new floors.new }
+fn live_but_inputs(op: &Op, time: u16, events: &mut [u16; 256], floors: &mut [u16; 4])
+    requires { (time % 2 ≡ 0) × (time < 65535) × (pure_as op.now.shape ≡ false) }
+    ensures { Turns events.old floors.old time (before_at (entry_at op.now.block.now op.now.at) op.now.block.now op.now.at) events.new floors.new }
 {
-    if role(s) < BRANCHES {
-        *floors = [time + 1, local_time(s, time, time), time, 0];
+    if op.shape.role().is_closing() {
+        *floors = [time + 1, local_time(op, time, time), time, 0];
         return;
     }
-    end_outputs(s, block, at, time, events);
-    *floors = [time + 1, local_time(s, time, floors[1]), floors[2], 0];
+    end_outputs(op, time, events);
+    *floors = [time + 1, local_time(op, time, floors[1]), floors[2], 0];
 }
 
 // The same with its inputs; of an op that a constant replaces, less its output. Pure ops come first: they are most, and have one output.
-pub fn live_before(
-    s: u16,
-    mark: u8,
-    block: &[u8],
-    at: usize,
-    time: u16,
-    events: &mut [u16; 256],
-    floors: &mut [u16; 4],
-)
-    requires { Stands row_of block.now at (get_or block.now at 0) × (s ≡ shape_at block.now at) × (time % 2 ≡ 0) × (time < 65535) × (mark ≡ 1 → role_of row_of (get_or block.now at 0) ≡ computing) }
-    ensures { Turns events.old floors.old time (live_as mark block.now at) events.new floors.new }
+pub fn live_before(op: &Op, mark: u8, time: u16, events: &mut [u16; 256], floors: &mut [u16; 4])
+    requires { (time % 2 ≡ 0) × (time < 65535) × (mark ≡ 1 → role_of row_of (get_or op.now.block.now op.now.at 0) ≡ computing) }
+    ensures { Turns events.old floors.old time (live_as mark op.now.block.now op.now.at) events.new floors.new }
 {
-    if is_pure(s) {
-        put_number(events, block[at + 1], time);
+    if op.shape.is_pure() {
+        put(events, op.block[op.at + 1], time);
         if mark == 1 {
             return;
         }
-        wake(block, at + 2, ins(s), time + 1, events);
+        wake(op.block, op.at + 2, op.shape.ins(), time + 1, events);
         return;
     }
-    live_but_inputs(s, block, at, time, events, floors);
-    wake(block, at + 1 + outs(s), ins(s), time + 1, events);
+    live_but_inputs(op, time, events, floors);
+    let from = op.at + 1 + op.shape.outs();
+    wake(op.block, from, op.shape.ins(), time + 1, events);
 }

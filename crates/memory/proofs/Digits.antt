@@ -1,8 +1,8 @@
 -- One byte more of a number that is read, one less of one that is written, and the sign of one. Assumes nothing.
-use mathlib.Core.Path.{◌≡◌, refl, sym, ap, ◌∙◌}
+use mathlib.Core.Path.{◌≡◌, refl, sym, ap, subst, ◌∙◌}
 use mathlib.Core.Bool.{Bool, true, false}
 use mathlib.Core.List.{List}
-use Prim.Native.Nat.{ℕ, zero, suc, ◌+◌, ◌-◌, ◌*◌, ◌/◌, ◌%◌, ◌^◌, ◌≤◌, ◌<◌}
+use Prim.Native.Nat.{ℕ, zero, suc, ◌+◌, ◌-◌, ◌*◌, ◌%◌, ◌^◌, ◌≤◌, ◌<◌}
 use native.Mathlib.Nat.{pow-suc, pow-le-pow_right, lt_of_lt_of_le, one-mul, mod-eq_of_lt, two-pow-succ, mul-suc}
 use native.Mathlib.Numerals.{add-one}
 use native.Mathlib.Omega.{arith}
@@ -13,9 +13,9 @@ use borrow.Author.Tests.{lt-ltb, le-ltb}
 use mir.Syntax.{w64}
 use mir.Val.{Fits}
 use Rattle.word.specs.Word.{extend_w}
-use lib.ListN.{get_or, set}
+use lib.ListN.{get_or}
 use Rattle.memory.specs.Answer.{access_width}
-use Rattle.memory.specs.Bytes.{low_first, high_first, put_low, put_high}
+use Rattle.memory.specs.Bytes.{low_first, high_first}
 
 -- one digit of base 256 more
 pub digit : (i : ℕ) {x b : ℕ} → x < 256 ^ i → b < 256 → x * 256 + b < 256 ^ (i + 1)
@@ -28,38 +28,17 @@ fits8 i l h = lt_of_lt_of_le h (pow-le-pow_right (lit< tt) l)
 pub room : (i : ℕ) {x : ℕ} → i < 8 → x < 256 ^ i → x * 256 + 255 < 2 ^ 64
 room i l h = fits8 (i + 1) (omega arith) (digit i h (lit< tt))
 
-module _ (m : List ℕ) (p : ℕ) where
-  pub low_more : (e i : ℕ) → p + 1 ≡ e → low_first m p (i + 1) ≡ low_first m e i * 256 + get_or m p 0
+-- n bytes make a number below 256 ^ n
+module _ (m : List ℕ) (bytes : (i : ℕ) → get_or m i 0 < 256) where
+  pub low_below : (p n : ℕ) → low_first m p n < 256 ^ n
   unfolding low_first
-  low_more e i q = rw (add-one i) (ap (λ (k : ℕ). low_first m k i * 256 + get_or m p 0) q)
+  low_below p zero = lit< tt
+  low_below p (suc n) = subst (λ (k : ℕ). low_first m (p + 1) n * 256 + get_or m p 0 < 256 ^ k) (add-one n) (digit n (low_below (p + 1) n) (bytes p))
 
-  pub high_more : (i : ℕ) → high_first m p (i + 1) ≡ high_first m p i * 256 + get_or m (p + i) 0
+  pub high_below : (p n : ℕ) → high_first m p n < 256 ^ n
   unfolding high_first
-  high_more i = rw (add-one i)
-
-  pub put_low_turn : (n x : ℕ) → 0 < n → put_low (set m p (x % 256)) (p + 1) (n - 1) (x / 256) ≡ put_low m p n x
-  unfolding put_low
-  put_low_turn zero x h = absurd (never h)
-    where
-      never : 0 < 0 → ⊥
-      never h = omega arith
-  put_low_turn (suc n) x h = let e : suc n - 1 ≡ n = omega arith in rw e
-
-  pub put_high_turn : (n x : ℕ) → 0 < n → put_high (set m (p + (n - 1)) (x % 256)) p (n - 1) (x / 256) ≡ put_high m p n x
-  unfolding put_high
-  put_high_turn zero x h = absurd (never h)
-    where
-      never : 0 < 0 → ⊥
-      never h = omega arith
-  put_high_turn (suc n) x h = let e : suc n - 1 ≡ n = omega arith in rw e
-
-  pub put_low_done : (n x : ℕ) → n ≤ 0 → m ≡ put_low m p n x
-  unfolding put_low
-  put_low_done n x h = let e : n ≡ 0 = omega arith in rw e
-
-  pub put_high_done : (n x : ℕ) → n ≤ 0 → m ≡ put_high m p n x
-  unfolding put_high
-  put_high_done n x h = let e : n ≡ 0 = omega arith in rw e
+  high_below p zero = lit< tt
+  high_below p (suc n) = subst (λ (k : ℕ). high_first m p n * 256 + get_or m (p + n) 0 < 256 ^ k) (add-one n) (digit n (high_below p n) (bytes (p + n)))
 
 pow256 : (n : ℕ) → 256 ^ n ≡ 2 ^ (8 * n)
 pow256 zero = refl

@@ -1,6 +1,6 @@
 -- Laws of the bytes of a number, and of an access.
 pub mod Numbers
 pub mod Digits
+pub mod Parts
 pub mod Faults
-pub mod Flags
 pub mod Meaning

@@ -6,7 +6,7 @@ use native.Mathlib.Omega.{arith}
 use lib.ListN.{length, get_or, take, drop, get_or-eq_default}
 use lib.Seq.{get_or-take, get_or-drop}
 use native.Mathlib.Nat.{suc-add, add-zero, zero-add}
-use Rattle.memory.specs.Bytes.{low_first, bytes_of}
+use Rattle.memory.specs.Bytes.{low_first, high_first, bytes_of}
 
 -- a byte in front moves the place by one
 pub low_cons : (b : ℕ) (m : List ℕ) (p n : ℕ) → low_first (b ∷ m) (suc p) n ≡ low_first m p n
@@ -39,9 +39,17 @@ low_same m m' p p' (suc n) h =
         let e' : p' + 1 + i ≡ p' + (i + 1) = omega arith in
         rw (e, e') (h (i + 1) (omega arith))
 
+pub high_same : (m m' : List ℕ) (p p' n : ℕ) → ((i : ℕ) → i < n → get_or m (p + i) 0 ≡ get_or m' (p' + i) 0) → high_first m p n ≡ high_first m' p' n
+unfolding high_first
+high_same m m' p p' zero h = refl
+high_same m m' p p' (suc n) h = ap₂ (λ (x y : ℕ). x * 256 + y) (high_same m m' p p' n (λ i l. h i (omega arith))) (h n (omega arith))
+
 -- the bytes from a place on, by themselves
-low_part : (b : List ℕ) (p n : ℕ) → low_first (take n (drop p b)) 0 n ≡ low_first b p n
+pub low_part : (b : List ℕ) (p n : ℕ) → low_first (take n (drop p b)) 0 n ≡ low_first b p n
 low_part b p n = low_same (take n (drop p b)) b 0 p n (λ i l. ap (λ (k : ℕ). get_or (take n (drop p b)) k 0) (zero-add i) ∙ get_or-take n (drop p b) i 0 l ∙ get_or-drop p b i 0)
+
+pub high_part : (b : List ℕ) (p n : ℕ) → high_first (take n (drop p b)) 0 n ≡ high_first b p n
+high_part b p n = high_same (take n (drop p b)) b 0 p n (λ i l. ap (λ (k : ℕ). get_or (take n (drop p b)) k 0) (zero-add i) ∙ get_or-take n (drop p b) i 0 l ∙ get_or-drop p b i 0)
 
 -- the number that a slice of eight bytes from a place on gives
 pub low_slice : (b : List ℕ) (p e : ℕ) {x : ℕ} → x ≡ low_first (take (e - p) (drop p b)) 0 8 → e ≡ p + 8 → x ≡ low_first b p 8

@@ -1,8 +1,7 @@
 -- Loads and stores. Assumes nothing.
-use Rattle.std.specs.Prelude.{ℕ, ◌+◌, ◌*◌, ◌/◌, ◌%◌, ◌^◌, Bool, cond, not, ◌&&◌, ◌||◌, List, ltb, leb, eqb}
+use Rattle.std.specs.Prelude.{ℕ, ◌+◌, ◌*◌, ◌/◌, ◌%◌, ◌^◌, Bool, cond, not, ◌&&◌, ◌||◌, List, ltb, leb, eqb, Result, Ok, Err, ⊤}
 use Rattle.word.specs.Word.{extend_w}
-use Rattle.memory.specs.declared.Access.{Access}
-use Rattle.memory.specs.declared.Access.TheVariants.{Served, Fails}
+use Rattle.memory.specs.declared.Reason.{Reason}
 use Rattle.memory.specs.declared.Reason.TheVariants.{Bounds, Alignment}
 use Rattle.memory.specs.Bytes.{low_first, high_first, put_low, put_high}
 
@@ -30,11 +29,11 @@ aligned address flags = not (asks_aligned flags) || eqb (address % size_of flags
 
 -- "An access faults when address plus size, as whole numbers, exceeds the memory's length; it then changes nothing." "The access leaf must
 -- answer why it failed, bounds or alignment, with alignment first where both apply"
-unfoldable pub access_at : ℕ → ℕ → ℕ → Access
+unfoldable pub access_at : ℕ → ℕ → ℕ → Result ⊤ Reason
 access_at length address flags =
     cond (aligned address flags)
-    (cond (leb (address + size_of flags) length) Served (Fails Bounds))
-    (Fails Alignment)
+    (cond (leb (address + size_of flags) length) (Ok tt) (Err Bounds))
+    (Err Alignment)
 
 -- "A narrow load without bit 2 zero-extends"
 unfoldable pub loaded : ℕ → ℕ → List ℕ → ℕ → ℕ

@@ -1,8 +1,7 @@
 -- What the answer of an access means, for readers. Proved in proofs/Meaning.antt. Assumes nothing.
-use Rattle.std.specs.Prelude.{◌≡◌, Bool, true, false, cond, ℕ, ◌+◌, ◌%◌, ◌≤◌, ◌<◌, leb}
+use Rattle.std.specs.Prelude.{◌≡◌, Bool, true, false, cond, ℕ, ◌+◌, ◌%◌, ◌≤◌, ◌<◌, leb, Result, Ok, Err, ⊤}
 use Rattle.memory.specs.Access.{size_of, asks_aligned, flags_ok, access_at}
-use Rattle.memory.specs.declared.Access.{Access}
-use Rattle.memory.specs.declared.Access.TheVariants.{Served, Fails}
+use Rattle.memory.specs.declared.Reason.{Reason}
 use Rattle.memory.specs.declared.Reason.TheVariants.{Bounds, Alignment}
 
 -- "a multiple of the size"
@@ -10,10 +9,10 @@ abbrev pub Multiple : ℕ → ℕ → Type 0
 Multiple address flags = address % size_of flags ≡ 0
 
 -- why an access fails, or that it is served: no two of these hold of one access
-pub data Means (length address flags : ℕ) : Access → Type 0 where
-  misaligned : asks_aligned flags ≡ true → (Multiple address flags → ⊥) → Means length address flags (Fails Alignment)
-  past_end : (asks_aligned flags ≡ true → Multiple address flags) → length < address + size_of flags → Means length address flags (Fails Bounds)
-  served : (asks_aligned flags ≡ true → Multiple address flags) → address + size_of flags ≤ length → Means length address flags Served
+pub data Means (length address flags : ℕ) : Result ⊤ Reason → Type 0 where
+  misaligned : asks_aligned flags ≡ true → (Multiple address flags → ⊥) → Means length address flags (Err Alignment)
+  past_end : (asks_aligned flags ≡ true → Multiple address flags) → length < address + size_of flags → Means length address flags (Err Bounds)
+  served : (asks_aligned flags ≡ true → Multiple address flags) → address + size_of flags ≤ length → Means length address flags (Ok tt)
 
 abbrev pub AccessMeans : Type 0
 AccessMeans = (length address flags : ℕ) → Means length address flags (access_at length address flags)
@@ -21,7 +20,7 @@ AccessMeans = (length address flags : ℕ) → Means length address flags (acces
 -- "Without the bit nothing changes except the reason reported."
 abbrev pub WithoutBit : Type 0
 WithoutBit = (length address flags : ℕ) → asks_aligned flags ≡ false
-    → access_at length address flags ≡ cond (leb (address + size_of flags) length) Served (Fails Bounds)
+    → access_at length address flags ≡ cond (leb (address + size_of flags) length) (Ok tt) (Err Bounds)
 
 -- "Refusal 6 stops objecting to bit 4.": flags are allowed with it exactly if they are without
 abbrev pub BitAllowed : Type 0

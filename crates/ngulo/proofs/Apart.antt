@@ -1,5 +1,5 @@
 -- The answers of the calls are read back from their numbers: the number of a refusal is small and not 0, and the flags of a fault are small. Assumes nothing.
-use mathlib.Core.Path.{◌≡◌, refl, ◌∙◌}
+use mathlib.Core.Path.{◌≡◌, refl, sym, ap, ◌∙◌}
 use mathlib.Core.Bool.{Bool, true, false, cond}
 use mathlib.Core.List.{List, [], ◌∷◌}
 use mathlib.Core.Logic.{◌⊎◌, inl, inr}
@@ -21,16 +21,15 @@ use Rattle.block.specs.Checks.{Finding, asks, op_rules, rules_of, check_of}
 use Rattle.block.specs.Meaning.{FirstBroken, here, later, Breaks, unknown2, short1, record_breaks, ending}
 use Rattle.block.specs.Records.{records_of, is_declaration, declarations, ops_from}
 use Rattle.block.specs.Rules.{Seen, rule3}
-use Rattle.block.specs.declared.Verdict.{Verdict}
-use Rattle.block.specs.declared.Verdict.TheVariants.{Accepted, Refused}
+use Rattle.std.specs.Prelude.{Ok, Err}
+use Rattle.block.specs.Checks.{Verdict, Refused}
+use Rattle.block.proofs.Refusals.{same_number}
 use Rattle.block.proofs.Meaning.{refused_means}
 use Rattle.runs.proofs.Ends.{run_ends}
-use Rattle.runs.specs.Runs.{fits, entry, answer_of, ran_of, ops_run, run_ops, run_refused, run_checked, run_of, run_by}
+use Rattle.runs.specs.Runs.{fits, entry, Answer, Refused as RunRefused, answer_of, ran_of, ops_run, run_ops, run_refused, run_checked, run_of, run_by}
 use Rattle.runs.specs.declared.Ending.{Ending}
-use Rattle.runs.specs.declared.Ending.TheVariants.{Refused as RunRefused, Exit, Fault as Faulted, NoResult}
-use Rattle.passes.specs.Passes.{result_of, pass_refused, written, pass_checked, pass_of, pass_by}
-use Rattle.passes.specs.declared.Written.{Written}
-use Rattle.passes.specs.declared.Written.TheVariants.{Refused as PassRefused, Length}
+use Rattle.runs.specs.declared.Ending.TheVariants.{Exit, Fault as Faulted, NoResult}
+use Rattle.passes.specs.Passes.{Written, Refused as PassRefused, result_of, pass_refused, written, pass_checked, pass_of, pass_by}
 use Rattle.memory.specs.declared.Reason.{Reason}
 use Rattle.memory.specs.declared.Reason.TheVariants.{Bounds, Alignment}
 use Rattle.memory.specs.Answer.{reason_number}
@@ -85,8 +84,10 @@ module _ (n p : ℕ) (h : OneTo 12 n) where
 
 -- the check
 check_apart : (v : Verdict) → ((number place : ℕ) → v ≡ Refused number place → OneTo 10 number) → CheckApart v
-check_apart Accepted h = record { numbered = h; read_back = refl; zero_accepted = λ z. refl; accepted_zero = λ z. refl }
-check_apart (Refused n p) h =
+check_apart (Ok accepted) h = record { numbered = h; read_back = refl; zero_accepted = λ z. refl; accepted_zero = λ z. refl }
+check_apart (Err broken) h =
+    let n = broken.number in
+    let p = broken.place in
     let m : OneTo 12 n = ((h n p refl).0, omega (arith, (h n p refl).1)) in
     record {
       numbered = h;
@@ -97,21 +98,23 @@ check_apart (Refused n p) h =
 
 -- the pass
 pass_apart : (w : Written) → ((number place : ℕ) → w ≡ PassRefused number place → OneTo 10 number ⊎ (number ≡ 12)) → PassApart w
-pass_apart (Length n) h = record { numbered = h; read_back = rw (mul-mod_right 256 n, mul-div_cancel_left n {n = 256} (omega arith)) }
-pass_apart (PassRefused n p) h =
+pass_apart (Ok n) h = record { numbered = h; read_back = rw (mul-mod_right 256 n, mul-div_cancel_left n {n = 256} (omega arith)) }
+pass_apart (Err broken) h =
+    let n = broken.number in
+    let p = broken.place in
     let m = go (h n p refl) in
     record { numbered = h; read_back = rw (refusal_test n p m, refusal_low n p m, refusal_above n p m) }
   where
-    go : OneTo 10 n ⊎ (n ≡ 12) → OneTo 12 n
+    go : OneTo 10 broken.number ⊎ (broken.number ≡ 12) → OneTo 12 broken.number
     go (inl q) = (q.0, omega (arith, q.1))
     go (inr e) = (omega arith, omega arith)
 
 -- the run: what its answer is like, refused or ended
-abbrev RunLike : Ending → Type 0
-RunLike (RunRefused number place) = OneTo 11 number
-RunLike (Exit value count) = Unit {0}
-RunLike (Faulted store address flags reason count) = flags < 256
-RunLike (NoResult position count) = Unit {0}
+abbrev RunLike : Answer → Type 0
+RunLike (Err broken) = OneTo 11 broken.number
+RunLike (Ok (Exit value count)) = Unit {0}
+RunLike (Ok (Faulted store address flags reason count)) = flags < 256
+RunLike (Ok (NoResult position count)) = Unit {0}
 
 -- the access of a fault, read back
 abbrev access_of : ℕ → ℕ → ℕ → Ending
@@ -135,21 +138,23 @@ fault_back store address flags reason count h =
     let top : access_number store flags reason / 65536 ≡ reason_number reason = omega (arith, s.0) in
     rw (low, above, bit, top, s.1, reason_back reason)
 
-ended_apart : {w : Ending} → ((number place : ℕ) → w ≡ RunRefused number place → ⊥) → run_number w ≡ 0 → ((report : List ℕ) → ending_of (run_number w) (report_of w report) ≡ w) → RunApart w
+ended_apart : {w : Answer} → ((number place : ℕ) → w ≡ RunRefused number place → ⊥) → run_number w ≡ 0 → ((report : List ℕ) → ending_of (run_number w) (report_of w report) ≡ w) → RunApart w
 ended_apart n z back = record { numbered = λ number place e. absurd (n number place e); read_back = back; zero_ended = λ q. n; ended_zero = λ q. z }
 
-run_apart : (w : Ending) → RunLike w → RunApart w
-run_apart (RunRefused n p) h =
+run_apart : (w : Answer) → RunLike w → RunApart w
+run_apart (Err broken) h =
+    let n = broken.number in
+    let p = broken.place in
     let m : OneTo 12 n = (h.0, omega (arith, h.1)) in
     record {
-      numbered = λ number place e. let q : n ≡ number = cc in rw (← q) h;
+      numbered = λ number place e. let q : n ≡ number = same_number e in rw (← q) h;
       read_back = λ report. rw (refusal_test n p m, refusal_low n p m, refusal_above n p m);
       zero_ended = λ z number place e. not_zero n p m z;
       ended_zero = λ q. absurd (q n p refl);
     }
-run_apart (Exit value count) h = ended_apart (λ number place e. let z : ◌≡◌ {A = ℕ} 0 1 = cc in omega arith) refl (λ report. refl)
-run_apart (Faulted store address flags reason count) h = ended_apart (λ number place e. let z : ◌≡◌ {A = ℕ} 0 1 = cc in omega arith) refl (λ report. fault_back store address flags reason count h)
-run_apart (NoResult position count) h = ended_apart (λ number place e. let z : ◌≡◌ {A = ℕ} 0 1 = cc in omega arith) refl (λ report. refl)
+run_apart (Ok (Exit value count)) h = ended_apart (λ number place e. let z : ◌≡◌ {A = ℕ} 0 1 = cc in omega arith) refl (λ report. refl)
+run_apart (Ok (Faulted store address flags reason count)) h = ended_apart (λ number place e. let z : ◌≡◌ {A = ℕ} 0 1 = cc in omega arith) refl (λ report. ap (λ (x : Ending). Ok x) (fault_back store address flags reason count h))
+run_apart (Ok (NoResult position count)) h = ended_apart (λ number place e. let z : ◌≡◌ {A = ℕ} 0 1 = cc in omega arith) refl (λ report. refl)
 
 ran_like : (ops globals : ℕ) (r : Result (tcg document01)) → proper r.end ≡ true → FlagsFit r.end → RunLike (ran_of document01 ops globals r).answer
 ran_like ops globals r p h = go r.end p h
@@ -163,8 +168,8 @@ ran_like ops globals r p h = go r.end p h
 
 run_like : (block globals memory : List ℕ) (v : Verdict) → check_of block ≡ v → RunLike (run_checked document01 (records_of row_of block) globals memory v).answer
 unfolding run_checked run_ops
-run_like block globals memory (Refused number place) e = let q = check_numbered block number place e in (q.0, omega (arith, q.1))
-run_like block globals memory Accepted e = go (fits (declarations (records_of row_of block)) globals memory)
+run_like block globals memory (Err broken) e = let q = check_numbered block broken.number broken.place e in (q.0, omega (arith, q.1))
+run_like block globals memory (Ok accepted) e = go (fits (declarations (records_of row_of block)) globals memory)
   where
     go : (b : Bool) → RunLike (cond b (run_ops document01 (ops_from (records_of row_of block)) globals memory) (run_refused 11 0 globals memory)).answer
     go true = ran_like (length (ops_from (records_of row_of block))) (length globals) (ops_run document01 (ops_from (records_of row_of block)) (entry document01 globals memory)) (run_ends lawful block globals memory e) (block_fits block globals memory e)
@@ -172,12 +177,12 @@ run_like block globals memory Accepted e = go (fits (declarations (records_of ro
 
 pass_numbered : (block out : List ℕ) (v : Verdict) → check_of block ≡ v → (number place : ℕ) → (pass_checked (result_of document01 block) out v).answer ≡ PassRefused number place → OneTo 10 number ⊎ (number ≡ 12)
 unfolding pass_checked
-pass_numbered block out (Refused n p) e number place q = let m : n ≡ number = cc in inl (rw (← m) (check_numbered block n p e))
-pass_numbered block out Accepted e number place q = go (leb (length (result_of document01 block)) (length out)) q
+pass_numbered block out (Err broken) e number place q = let m : broken.number ≡ number = same_number q in inl (rw (← m) (check_numbered block broken.number broken.place e))
+pass_numbered block out (Ok accepted) e number place q = go (leb (length (result_of document01 block)) (length out)) q
   where
     go : (b : Bool) → (cond b (written (result_of document01 block) out) (pass_refused 12 0 out)).answer ≡ PassRefused number place → OneTo 10 number ⊎ (number ≡ 12)
     go true w = let z : ◌≡◌ {A = ℕ} 0 1 = cc in absurd (omega arith)
-    go false w = let m : number ≡ 12 = cc in inr m
+    go false w = let m : 12 ≡ number = same_number w in inr (sym m)
 
 pub apart : Apart
 unfolding run_by pass_by

@@ -2,7 +2,7 @@
 use mathlib.Core.Path.{◌≡◌, refl, sym, ap, ◌∙◌}
 use mathlib.Core.Bool.{Bool, true, false, cond, not, ◌||◌}
 use mathlib.Core.List.{List, [], ◌∷◌}
-use mathlib.Core.Option.{Option, none, some}
+use Rattle.std.specs.Prelude.{Option, None, Some, option_and_then}
 use Prim.Native.Nat.{ℕ, suc, ◌*◌, ◌≤◌}
 use native.Mathlib.Omega.{arith}
 use lib.Dec.{leb}
@@ -10,7 +10,7 @@ use lib.ListN.{length, length-append}
 use borrow.Author.Tests.{eqb-true, leb-true}
 use Rattle.theory.specs.Machine.{Lang, Prog, head_or, computes, inputs, reads}
 use Rattle.theory.specs.Sets.{Vars}
-use Rattle.theory.specs.Fold.{Known, on, put, nothing, learned, fold, emit, tried, bind_o, all_known, base_rule}
+use Rattle.theory.specs.Fold.{Known, on, put, nothing, learned, fold, emit, tried, all_known, base_rule}
 use Rattle.theory.specs.Prune.{dead, prune_by, live}
 use Rattle.theory.proofs.Sets.{and_r}
 use Rattle.memory.proofs.Numbers.{length_bytes}
@@ -68,15 +68,15 @@ fold_by : (o : List ℕ) (r : Prog L) (k : Known ℕ) → whole row_of o ≡ tru
     → (b : Bool) → foldable_row (row_of (kind_of o)) ≡ b → (v : Option (List ℕ))
     → 3 * size (emit L (base_rule L (folding document01)) k (fold L (base_rule L (folding document01)) r) (cond b (tried L (folding document01) o v) (put o))) ≤ 10 * size (o ∷ r)
 fold_by o r k w ih false e v = fold_one o o r (learned k (L.view o)) (omega arith) (ih (learned k (L.view o)))
-fold_by o r k w ih true e none = fold_one o o r (learned k (L.view o)) (omega arith) (ih (learned k (L.view o)))
-fold_by o r k w ih true e (some vs) =
+fold_by o r k w ih true e None = fold_one o o r (learned k (L.view o)) (omega arith) (ih (learned k (L.view o)))
+fold_by o r k w ih true e (Some vs) =
     let p : List ℕ = (folding document01).const o (head_or 0 vs) in
     fold_one o p r (learned k (L.view p)) (omega (arith, length_bytes 8 (head_or 0 vs), foldable_long o w e)) (ih (learned k (L.view p)))
 
 fold_bound : (os : Prog L) (k : Known ℕ) → AllWhole row_of os → 3 * size (folded os k) ≤ 10 * size os
 fold_bound [] k w = omega arith
 fold_bound (o ∷ r) k w =
-    fold_by o r k w.0 (λ (m : Known ℕ). fold_bound r m w.1) (foldable_row (row_of (kind_of o))) refl (bind_o (computes (L.view o)) (all_known (reads k (inputs (L.view o)))))
+    fold_by o r k w.0 (λ (m : Known ℕ). fold_bound r m w.1) (foldable_row (row_of (kind_of o))) refl (option_and_then (computes (L.view o)) (all_known (reads k (inputs (L.view o)))))
 
 -- what prune leaves
 prune_bound : (note : Prog L → Vars) (os : Prog L) → size (prune_by L note os) ≤ size os

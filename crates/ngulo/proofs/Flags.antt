@@ -2,7 +2,7 @@
 use mathlib.Core.Path.{◌≡◌, refl, ap, subst}
 use mathlib.Core.Bool.{Bool, true, false, cond, not, ◌&&◌}
 use mathlib.Core.List.{List, [], ◌∷◌}
-use mathlib.Core.Option.{Option, none, some}
+use Rattle.std.specs.Prelude.{Option, None, Some}
 use Prim.Native.Nat.{ℕ, zero, suc, ◌+◌, ◌*◌, ◌<◌}
 use native.Mathlib.Omega.{arith}
 use lib.Dec.{ltb, leb}
@@ -13,8 +13,8 @@ use Rattle.theory.specs.Sets.{All}
 use Rattle.word.proofs.Tests.{cond_all}
 use Rattle.theory.proofs.Checker.{checks}
 use Rattle.theory.proofs.Sets.{and_l, and_r}
-use Rattle.memory.specs.declared.Access.{Access}
-use Rattle.memory.specs.declared.Access.TheVariants.{Served, Fails}
+use Rattle.std.specs.Prelude.{Result, Ok, Err, ⊤}
+use Rattle.memory.specs.declared.Reason.{Reason}
 use Rattle.memory.specs.Access.{size_of, sign_extends, flags_ok, access_at, loaded, stored}
 use Rattle.ops.specs.Rows.{Role, unknown, declares, sets_label, jumps_to, exits, branches, loads, stores, constant, computing, Row, at, test_ok, role_of}
 use Rattle.ops.specs.Ops.{Fault, at_types, eval_of, view_for, view_of, tcg}
@@ -26,7 +26,7 @@ use Rattle.ops.proofs.Document01.{lawful}
 use Rattle.block.specs.Checks.{check_of}
 use Rattle.block.specs.Records.{records_of, declarations, ops_from}
 use Rattle.block.specs.Rules.{Seen, start, rule6, passed}
-use Rattle.block.specs.declared.Verdict.TheVariants.{Accepted}
+use Rattle.block.specs.Checks.{Accepted}
 use Rattle.block.proofs.Checker.{op_ok, checker, declared_in}
 use Rattle.block.proofs.Parts.{parts}
 use Rattle.runs.specs.Runs.{entry, ops_run}
@@ -74,8 +74,8 @@ calc_fits : (outs ins : List ℕ) (f : List ℕ → Option (List ℕ)) (s : St (
 calc_fits outs ins f s = go (f (reads s.env ins))
   where
     go : (x : Option (List ℕ)) → EffectFits (after_calc 0 outs s x)
-    go none = tt
-    go (some vs) = tt
+    go None = tt
+    go (Some vs) = tt
 
 access_fits : (outs ins : List ℕ) (f : List ℕ → List ℕ → Touch ℕ (List ℕ) Fault) → ((m vs : List ℕ) → TouchFits (f m vs)) → (s : St (tcg document01)) → EffectFits (effect 0 (access outs ins f) s)
 access_fits outs ins f h s = go (f s.mem (reads s.env ins)) (h s.mem (reads s.env ins))
@@ -87,9 +87,9 @@ access_fits outs ins f h s = go (f s.mem (reads s.env ins)) (h s.mem (reads s.en
 branch_fits : (ins : List ℕ) (f : List ℕ → List ℕ → Bool) (k : ℕ) (s : St (tcg document01)) → EffectFits (effect 0 (flow ins (when f) (to k)) s)
 branch_fits ins f k s = cond_all EffectFits (f s.mem (reads s.env ins)) tt tt
 
-touched_fits : (store : Bool) (address : ℕ) (given : Touch ℕ (List ℕ) Fault) {flags : ℕ} → flags < 256 → TouchFits given → (a : Access) → TouchFits (touched store address flags given a)
-touched_fits store address given l g Served = g
-touched_fits store address given l g (Fails reason) = l
+touched_fits : (store : Bool) (address : ℕ) (given : Touch ℕ (List ℕ) Fault) {flags : ℕ} → flags < 256 → TouchFits given → (a : Result ⊤ Reason) → TouchFits (touched store address flags given a)
+touched_fits store address given l g (Ok served) = g
+touched_fits store address given l g (Err reason) = l
 
 load_fits : (k : ℕ) (bytes : List ℕ) → at bytes 0 < 256 → (m vs : List ℕ) → TouchFits (load_of k bytes m vs)
 unfolding load_of

@@ -25,17 +25,15 @@ use Rattle.block.specs.Records.{records_of, record_bytes, is_declaration, declar
 use Rattle.block.proofs.Checker.{room3, room9}
 use Rattle.block.proofs.Meaning.{refused_means}
 use Rattle.block.proofs.Parts.{parts}
-use Rattle.runs.specs.Runs.{fits, entry, Ran, ran_as, answer_of, ran_of, ops_run, run_ops, run_refused, run_checked, run_of, run_by}
-use Rattle.passes.specs.Passes.{pass_ops, result_of, pass_refused, written, pass_checked, pass_of, pass_by}
+use Rattle.runs.specs.Runs.{fits, entry, Answer, Ran, ran_as, answer_of, ran_of, ops_run, run_ops, run_refused, run_checked, run_of, run_by}
+use Rattle.passes.specs.Passes.{Written, pass_ops, result_of, pass_refused, written, pass_checked, pass_of, pass_by}
 use Rattle.passes.proofs.Result.{parts_size, kept_parts, result_of_lem}
 use Rattle.ngulo.specs.Numbers.{run_number, access_number, report_of, RunAnswer}
 use Rattle.block.specs.Rules.{Seen, start, rule3, declared, passed, next}
-use Rattle.block.specs.declared.Verdict.{Verdict}
-use Rattle.block.specs.declared.Verdict.TheVariants.{Accepted, Refused}
+use Rattle.std.specs.Prelude.{Ok, Err}
+use Rattle.block.specs.Checks.{Verdict, Accepted, Refused}
+use Rattle.block.specs.declared.Refusal.{Refusal}
 use Rattle.runs.specs.declared.Ending.{Ending}
-use Rattle.runs.specs.declared.Ending.TheVariants.{Refused as RunRefused, Exit, Fault, NoResult}
-use Rattle.passes.specs.declared.Written.{Written}
-use Rattle.passes.specs.declared.Written.TheVariants.{Refused as PassRefused, Length}
 
 next_is : (s : Seen) (r : List ℕ) (b : Bool) → is_declaration r ≡ b → next row_of s r ≡ cond b (declared s r) (passed row_of s r)
 unfolding next
@@ -78,16 +76,16 @@ place_small block number place e =
 
 -- the numbers of an answer fit
 abbrev pub SmallVerdict : Verdict → Type 0
-SmallVerdict Accepted = Unit {0}
-SmallVerdict (Refused number place) = place ≤ max_bytes
+SmallVerdict (Ok accepted) = Unit {0}
+SmallVerdict (Err broken) = broken.place ≤ max_bytes
 
 pub verdict_small : (block : List ℕ) (v : Verdict) → v ≡ check_of block → SmallVerdict v
-verdict_small block Accepted e = tt
-verdict_small block (Refused number place) e = omega (arith, place_small block number place (sym e))
+verdict_small block (Ok accepted) e = tt
+verdict_small block (Err broken) e = omega (arith, place_small block broken.number broken.place (sym e))
 
 abbrev pub SmallWritten : Written → Type 0
-SmallWritten (PassRefused number place) = place ≤ max_bytes
-SmallWritten (Length n) = n ≤ max_bytes
+SmallWritten (Ok n) = n ≤ max_bytes
+SmallWritten (Err broken) = broken.place ≤ max_bytes
 
 pub result_small : (block : List ℕ) → check_of block ≡ Accepted → length (result_of document01 block) ≤ max_bytes
 result_small block h =
@@ -98,8 +96,8 @@ result_small block h =
 
 written_by : (block out : List ℕ) (v : Verdict) → check_of block ≡ v → SmallWritten (pass_checked (result_of document01 block) out v).answer
 unfolding pass_checked
-written_by block out (Refused number place) e = omega (arith, place_small block number place e)
-written_by block out Accepted e = go (leb (length (result_of document01 block)) (length out))
+written_by block out (Err broken) e = omega (arith, place_small block broken.number broken.place e)
+written_by block out (Ok accepted) e = go (leb (length (result_of document01 block)) (length out))
   where
     go : (b : Bool) → SmallWritten (cond b (written (result_of document01 block) out) (pass_refused 12 0 out)).answer
     go true = omega (arith, result_small block e)
@@ -109,60 +107,63 @@ pub written_small : (block out : List ℕ) (w : Written) → w ≡ (pass_of bloc
 unfolding pass_by
 written_small block out w e = subst SmallWritten (sym e) (written_by block out (check_of block) refl)
 
-abbrev pub SmallEnding : Ending → Type 0
-SmallEnding (RunRefused number place) = place ≤ max_bytes
-SmallEnding (Exit value count) = Unit {0}
-SmallEnding (Fault store address flags reason count) = Unit {0}
-SmallEnding (NoResult position count) = Unit {0}
+abbrev pub SmallAnswer : Answer → Type 0
+SmallAnswer (Ok ending) = Unit {0}
+SmallAnswer (Err broken) = broken.place ≤ max_bytes
 
-ran_small : (ops : ℕ) (globals : ℕ) (r : Result (tcg document01)) → SmallEnding (ran_of document01 ops globals r).answer
+ran_small : (ops : ℕ) (globals : ℕ) (r : Result (tcg document01)) → SmallAnswer (ran_of document01 ops globals r).answer
 ran_small ops globals r = go r.end
   where
-    go : (e : End ℕ (tcg document01).Flt) → SmallEnding (answer_of e (ops - length r.left) r.count)
+    go : (e : End ℕ (tcg document01).Flt) → SmallAnswer (answer_of e (ops - length r.left) r.count)
     go (exit v) = tt
     go (fault f) = tt
     go unstated = tt
     go fell = omega arith
     go spent = omega arith
 
-ending_by : (block globals memory : List ℕ) (v : Verdict) → check_of block ≡ v → SmallEnding (run_checked document01 (records_of row_of block) globals memory v).answer
+ending_by : (block globals memory : List ℕ) (v : Verdict) → check_of block ≡ v → SmallAnswer (run_checked document01 (records_of row_of block) globals memory v).answer
 unfolding run_checked run_ops
-ending_by block globals memory (Refused number place) e = omega (arith, place_small block number place e)
-ending_by block globals memory Accepted e = go (fits (declarations (records_of row_of block)) globals memory)
+ending_by block globals memory (Err broken) e = omega (arith, place_small block broken.number broken.place e)
+ending_by block globals memory (Ok accepted) e = go (fits (declarations (records_of row_of block)) globals memory)
   where
-    go : (b : Bool) → SmallEnding (cond b (run_ops document01 (ops_from (records_of row_of block)) globals memory) (run_refused 11 0 globals memory)).answer
+    go : (b : Bool) → SmallAnswer (cond b (run_ops document01 (ops_from (records_of row_of block)) globals memory) (run_refused 11 0 globals memory)).answer
     go true = ran_small (length (ops_from (records_of row_of block))) (length globals) (ops_run document01 (ops_from (records_of row_of block)) (entry document01 globals memory))
     go false = omega arith
 
-pub ending_small : (block globals memory : List ℕ) (w : Ending) → w ≡ (run_of block globals memory).answer → SmallEnding w
+pub ending_small : (block globals memory : List ℕ) (w : Answer) → w ≡ (run_of block globals memory).answer → SmallAnswer w
 unfolding run_by
-ending_small block globals memory w e = subst SmallEnding (sym e) (ending_by block globals memory (check_of block) refl)
+ending_small block globals memory w e = subst SmallAnswer (sym e) (ending_by block globals memory (check_of block) refl)
 
 -- a refusal's place, as the calls answer it
-pub check_place : (block : List ℕ) {v : Verdict} {number place : ℕ} → v ≡ check_of block → v ≡ Refused number place → place ≤ max_bytes
-check_place block {v} {number} {place} e q = verdict_small block (Refused number place) (sym q ∙ e)
+pub check_place : (block : List ℕ) {v : Verdict} {broken : Refusal} → v ≡ check_of block → v ≡ Err broken → broken.place ≤ max_bytes
+check_place block {v} {broken} e q = verdict_small block (Err broken) (sym q ∙ e)
 
-pub pass_place : (block out : List ℕ) {w : Written} {number place : ℕ} → w ≡ (pass_of block out).answer → w ≡ PassRefused number place → place ≤ max_bytes
-pass_place block out {w} {number} {place} e q = written_small block out (PassRefused number place) (sym q ∙ e)
+pub pass_place : (block out : List ℕ) {w : Written} {broken : Refusal} → w ≡ (pass_of block out).answer → w ≡ Err broken → broken.place ≤ max_bytes
+pass_place block out {w} {broken} e q = written_small block out (Err broken) (sym q ∙ e)
 
-pub pass_length : (block out : List ℕ) {w : Written} {n : ℕ} → w ≡ (pass_of block out).answer → w ≡ Length n → n ≤ max_bytes
-pass_length block out {w} {n} e q = written_small block out (Length n) (sym q ∙ e)
+pub pass_length : (block out : List ℕ) {w : Written} {n : ℕ} → w ≡ (pass_of block out).answer → w ≡ Ok n → n ≤ max_bytes
+pass_length block out {w} {n} e q = written_small block out (Ok n) (sym q ∙ e)
 
-pub run_place : (block globals memory : List ℕ) {w : Ending} {globals' memory' : List ℕ} {number place : ℕ} → ran_as w globals' memory' ≡ run_of block globals memory → w ≡ RunRefused number place → place ≤ max_bytes
-run_place block globals memory {w} {globals'} {memory'} {number} {place} e q =
-    ending_small block globals memory (RunRefused number place) (sym q ∙ ap (λ (r : Ran). r.answer) e)
+pub run_place : (block globals memory : List ℕ) {w : Answer} {globals' memory' : List ℕ} {broken : Refusal} → ran_as w globals' memory' ≡ run_of block globals memory → w ≡ Err broken → broken.place ≤ max_bytes
+run_place block globals memory {w} {globals'} {memory'} {broken} e q =
+    ending_small block globals memory (Err broken) (sym q ∙ ap (λ (r : Ran). r.answer) e)
 
 -- what the calls answer, from what the functions do
-pub run_answers : {ran : Ran} {w v : Ending} {r : ℕ} {report report' globals memory : List ℕ} → ran_as w globals memory ≡ ran → w ≡ v → r ≡ run_number v → report' ≡ report_of v report
+pub run_answers : {ran : Ran} {w v : Answer} {r : ℕ} {report report' globals memory : List ℕ} → ran_as w globals memory ≡ ran → w ≡ v → r ≡ run_number v → report' ≡ report_of v report
     → RunAnswer ran r report report' globals memory
 run_answers {ran} {w} {v} {r} {report} {report'} e q n p =
     let z : v ≡ ran.answer = sym q ∙ ap (λ (x : Ran). x.answer) e in
     record {
       number_is = n ∙ ap run_number z;
-      report_is = p ∙ ap (λ (x : Ending). report_of x report) z;
+      report_is = p ∙ ap (λ (x : Answer). report_of x report) z;
       globals_are = ap (λ (x : Ran). x.globals) e;
       memory_is = ap (λ (x : Ran). x.memory) e;
     }
+
+-- the same of a run that is not refused
+pub ended_answers : {ran : Ran} {w : Answer} {ending end : Ending} {report report' globals memory : List ℕ} → ran_as w globals memory ≡ ran → w ≡ Ok ending → ending ≡ end
+    → report' ≡ report_of (Ok end) report → RunAnswer ran 0 report report' globals memory
+ended_answers e q z p = run_answers e (q ∙ ap (λ (x : Ending). Ok x) z) refl p
 
 -- the access of a fault, from the flags and the number of the reason
 module _ (reason : Reason) {store : Bool} {x y flags : ℕ} (q : x ≡ flags) (h : y ≡ reason_number reason) where

@@ -1,16 +1,13 @@
 -- The answers of the calls for C can be told apart: each is read back from its numbers. Proved in proofs/Apart.antt. Assumes nothing.
-use Rattle.std.specs.Prelude.{◌≡◌, cond, List, ◌⊎◌, ℕ, ◌/◌, ◌%◌, ◌≤◌, eqb, get_or}
+use Rattle.std.specs.Prelude.{◌≡◌, cond, List, ◌⊎◌, ℕ, ◌/◌, ◌%◌, ◌≤◌, eqb, get_or, Ok}
 use Rattle.memory.specs.declared.Reason.{Reason}
 use Rattle.memory.specs.declared.Reason.TheVariants.{Bounds, Alignment}
 use Rattle.block.specs.Checks.{check_of}
-use Rattle.block.specs.declared.Verdict.{Verdict}
-use Rattle.block.specs.declared.Verdict.TheVariants.{Accepted, Refused}
-use Rattle.runs.specs.Runs.{run_of}
+use Rattle.block.specs.Checks.{Verdict, Accepted, Refused}
+use Rattle.runs.specs.Runs.{Answer, Refused as RunRefused, run_of}
 use Rattle.runs.specs.declared.Ending.{Ending}
-use Rattle.runs.specs.declared.Ending.TheVariants.{Refused as RunRefused, Exit, Fault, NoResult}
-use Rattle.passes.specs.Passes.{pass_of}
-use Rattle.passes.specs.declared.Written.{Written}
-use Rattle.passes.specs.declared.Written.TheVariants.{Refused as PassRefused, Length}
+use Rattle.runs.specs.declared.Ending.TheVariants.{Exit, Fault, NoResult}
+use Rattle.passes.specs.Passes.{Written, Length, Refused as PassRefused, pass_of}
 use Rattle.ngulo.specs.Numbers.{check_number, pass_number, run_number, report_of}
 
 -- a refusal's number is the low byte of an answer, its place the rest
@@ -37,9 +34,9 @@ reported ending x y count =
     (cond (eqb ending 2) (Fault (eqb (above_byte y % 2) 1) x (low_byte y) (reason_of (y / 65536)) count)
     (NoResult x count))
 
-abbrev pub ending_of : ℕ → List ℕ → Ending
+abbrev pub ending_of : ℕ → List ℕ → Answer
 ending_of x report =
-    cond (eqb (low_byte x) 0) (reported (get_or report 0 0) (get_or report 1 0) (get_or report 2 0) (get_or report 3 0)) (RunRefused (low_byte x) (above_byte x))
+    cond (eqb (low_byte x) 0) (Ok (reported (get_or report 0 0) (get_or report 1 0) (get_or report 2 0) (get_or report 3 0))) (RunRefused (low_byte x) (above_byte x))
 
 abbrev pub OneTo : ℕ → ℕ → Type 0
 OneTo last number = (1 ≤ number) × (number ≤ last)
@@ -57,7 +54,7 @@ pub record PassApart (w : Written) : Type 0 where
   pub read_back : written_of (pass_number w) ≡ w
 
 -- what the run answers: a refusal is numbered 1 to 11, and 0 is the answer exactly if the run is not refused; then the report tells how it ended
-pub record RunApart (w : Ending) : Type 0 where
+pub record RunApart (w : Answer) : Type 0 where
   pub numbered : (number place : ℕ) → w ≡ RunRefused number place → OneTo 11 number
   pub read_back : (report : List ℕ) → ending_of (run_number w) (report_of w report) ≡ w
   pub zero_ended : run_number w ≡ 0 → (number place : ℕ) → w ≡ RunRefused number place → ⊥

@@ -1,7 +1,7 @@
 -- The header's ngulo_result_bound: how long a result can be, by the length of its block. Proved in proofs/Bound.antt. Assumes nothing.
 use Rattle.std.specs.Prelude.{◌≡◌, List, ℕ, ◌*◌, ◌≤◌, length}
 use Rattle.block.specs.Checks.{check_of}
-use Rattle.block.specs.declared.Verdict.TheVariants.{Accepted}
+use Rattle.block.specs.Checks.{Accepted}
 use Rattle.ops.specs.Kinds.{document01}
 use Rattle.ops.specs.Limits.{max_bytes}
 use Rattle.passes.specs.Passes.{result_of}

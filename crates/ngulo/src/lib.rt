@@ -8,26 +8,19 @@ ghost use Rattle.runs.specs.Runs.{run_of};
 ghost use Rattle.passes.specs.Passes.{pass_of};
 ghost use Rattle.ngulo.specs.Numbers.{refusal, check_number, pass_number, access_number, RunAnswer, version};
 
-use block::Verdict;
+use block::Refusal;
 use checker::check;
-use memory::{Reason, reason_number};
+use memory::Reason;
 use pass::pass;
-use passes::Written;
 use run::run;
 use runs::Ending;
 
-fn wide(x: u8) -> u64
-    ensures { result ≡ x }
-{
-    x as u64
-}
-
 // A refusal as a number.
-fn refused(number: u8, place: usize) -> u64
-    requires { place ≤ max_bytes }
-    ensures { result ≡ refusal number place }
+fn refused(broken: Refusal) -> u64
+    requires { broken.place ≤ max_bytes }
+    ensures { result ≡ refusal broken.number broken.place }
 {
-    wide(number) + 256 * place as u64
+    u64::from(broken.number) + 256 * broken.place as u64
 }
 
 // The version of the library, as a number.
@@ -45,8 +38,8 @@ pub extern "C" fn ngulo_check(block: &[u8]) -> u64
 {
     let verdict = check(block);
     match verdict {
-        Verdict::Accepted => 0,
-        Verdict::Refused { number, place } => refused(number, place),
+        Ok(()) => 0,
+        Err(broken) => refused(broken),
     }
 }
 
@@ -57,8 +50,8 @@ pub extern "C" fn ngulo_pass(block: &[u8], out: &mut [u8]) -> u64
 {
     let written = pass(block, out);
     match written {
-        Written::Refused { number, place } => refused(number, place),
-        Written::Length(n) => 256 * n as u64,
+        Ok(n) => 256 * n as u64,
+        Err(broken) => refused(broken),
     }
 }
 
@@ -73,7 +66,7 @@ fn report_as(report: &mut [u64; 4], ending: u64, x: u64, y: u64, count: u64)
 fn fault_access(store: bool, flags: u8, reason: Reason) -> u64
     ensures { result ≡ access_number store flags reason }
 {
-    let told = wide(flags) + 65536 * reason_number(reason);
+    let told = u64::from(flags) + 65536 * u64::from(reason);
     if store {
         return told + 256;
     }
@@ -90,11 +83,11 @@ pub extern "C" fn ngulo_run(
 ) -> u64
     ensures { RunAnswer (run_of block.now globals.old memory.old) result report.old report.new globals.new memory.new }
 {
-    let ending = run(block, globals, memory);
+    let ending = match run(block, globals, memory) {
+        Ok(ending) => ending,
+        Err(broken) => return refused(broken),
+    };
     match ending {
-        Ending::Refused { number, place } => {
-            return refused(number, place);
-        }
         Ending::Exit { value, count } => report_as(report, 1, value, 0, count),
         Ending::Fault {
             store,

@@ -1,7 +1,7 @@
 -- Document 01's table and dialect are lawful. Assumes nothing.
 use mathlib.Core.Path.{◌≡◌, refl, sym, ap, ◌∙◌, fun_ext}
 use mathlib.Core.Bool.{true, cond, ◌||◌}
-use mathlib.Core.Option.{Option, none, some}
+use Rattle.std.specs.Prelude.{Option, None, Some}
 use mathlib.Core.List.{List, [], ◌∷◌}
 use mathlib.Core.Logic.{◌⊎◌, inl, inr}
 use Prim.Native.Nat.{ℕ, zero, suc, ◌^◌, ◌<◌}
@@ -81,7 +81,7 @@ movi_row_lem zero h = refl
 movi_row_lem (suc zero) h = refl
 movi_row_lem (suc (suc t)) h = absurd (omega arith)
 
-movi_states : (t : ℕ) (bytes vs : List ℕ) → t < 2 → eval_of document01 (movi_kind t) bytes vs ≡ some (low_first bytes 0 8 ∷ [])
+movi_states : (t : ℕ) (bytes vs : List ℕ) → t < 2 → eval_of document01 (movi_kind t) bytes vs ≡ Some (low_first bytes 0 8 ∷ [])
 unfolding eval_of states_of
 movi_states zero bytes vs h = refl
 movi_states (suc zero) bytes vs h = refl
@@ -106,7 +106,7 @@ movi_facts t d x small h =
     record {
       view =
           ap (λ (y : Row). view_for document01 y.role y (movi_of t d x)) row
-          ∙ ap (calc (d ∷ []) []) (fun_ext (λ ys. movi_states t (bytes_of 8 x) ys small ∙ ap (λ (n : ℕ). some (n ∷ [])) e));
+          ∙ ap (calc (d ∷ []) []) (fun_ext (λ ys. movi_states t (bytes_of 8 x) ys small ∙ ap (λ (n : ℕ). Some (n ∷ [])) e));
       is_known = ap (λ (y : Row). is_known y.role) row;
       long = ap (λ (n : ℕ). suc (suc n)) (length_bytes 8 x) ∙ ap (λ (y : Row). suc (body_of y)) (sym row);
       outs = ap (λ (y : Row). outs_by y (movi_of t d x)) row;
@@ -117,12 +117,12 @@ movi_facts t d x small h =
     }
 
 -- an op that may fold states one value, and it fits
-folds : (k : ℕ) → foldable_row (row_of k) ≡ true → (bytes xs vs : List ℕ) → eval_of document01 k bytes xs ≡ some vs → States document01 (row_of k) vs
+folds : (k : ℕ) → foldable_row (row_of k) ≡ true → (bytes xs vs : List ℕ) → eval_of document01 k bytes xs ≡ Some vs → States document01 (row_of k) vs
 folds k t bytes xs vs g = go (computed_of k bytes (at_types (row_of k).ins xs)) refl (sym (evaluated k t bytes xs) ∙ g)
   where
-    go : (y : Option ℕ) → computed_of k bytes (at_types (row_of k).ins xs) ≡ y → one y ≡ some vs → States document01 (row_of k) vs
-    go none q e = no_some e
-    go (some x) q e =
+    go : (y : Option ℕ) → computed_of k bytes (at_types (row_of k).ins xs) ≡ y → one y ≡ Some vs → States document01 (row_of k) vs
+    go None q e = no_some e
+    go (Some x) q e =
         record {
           type = at (row_of k).outs 0;
           value = x;

@@ -1,7 +1,7 @@
 -- What an op that may fold states fits its output's type, for every kind. Assumes nothing.
 use mathlib.Core.Path.{◌≡◌, refl, sym, subst}
 use mathlib.Core.Bool.{Bool, true, false, cond, not, ◌&&◌, ◌||◌}
-use mathlib.Core.Option.{Option, some}
+use Rattle.std.specs.Prelude.{Option, Some}
 use mathlib.Core.List.{List, [], ◌∷◌}
 use mathlib.Core.Logic.{◌⊎◌, inl, inr}
 use Prim.Native.Nat.{ℕ, zero, suc, ◌+◌, ◌-◌, ◌*◌, ◌%◌, ◌^◌, ◌≤◌, ◌<◌}
@@ -35,9 +35,9 @@ use Rattle.ops.specs.Folds.{foldable_row}
 
 -- a stated number fits the width
 abbrev Below : ℕ → Option ℕ → Type 0
-Below w o = (x : ℕ) → o ≡ some x → x < 2 ^ w
+Below w o = (x : ℕ) → o ≡ Some x → x < 2 ^ w
 
-below : (w y : ℕ) → y < 2 ^ w → Below w (some y)
+below : (w y : ℕ) → y < 2 ^ w → Below w (Some y)
 below w y h x e = let p : y ≡ x = cc in subst (λ (n : ℕ). n < 2 ^ w) p h
 
 -- of a choice, by its sides
@@ -250,7 +250,7 @@ module _ (k : ℕ) (h : foldable_row (row_of k) ≡ true) where
   pub out_small : at (row_of k).outs 0 < 2
   out_small = rw out_is (cond_all (λ (n : ℕ). n < 2) (between 0x05 0x06 k) (lit< tt) (cond_all (λ (n : ℕ). n < 2) (leb 0x80 k) (lit< tt) (lit< tt)))
 
-  pub folded_fits : (bytes vs : List ℕ) (x : ℕ) → computed_of k bytes (at_types (row_of k).ins vs) ≡ some x → x < 2 ^ bits_of (at (row_of k).outs 0)
+  pub folded_fits : (bytes vs : List ℕ) (x : ℕ) → computed_of k bytes (at_types (row_of k).ins vs) ≡ Some x → x < 2 ^ bits_of (at (row_of k).outs 0)
   folded_fits bytes vs x e =
       rw out_is
       (computed_below k bytes (at_types (row_of k).ins vs)

@@ -1,7 +1,7 @@
 -- The constant that fold puts in an op's place, in a lawful dialect. Assumes nothing.
 use mathlib.Core.Path.{◌≡◌, refl, sym, ap, ◌∙◌}
 use mathlib.Core.Bool.{true, false}
-use mathlib.Core.Option.{some}
+use Rattle.std.specs.Prelude.{Some}
 use mathlib.Core.List.{List, [], ◌∷◌}
 use Prim.Native.Nat.{ℕ}
 use native.Mathlib.Omega.{arith}
@@ -42,7 +42,7 @@ folds_view : (D : Dialect) (o : List ℕ) → (let row = row_at D.rows o in fold
 unfolding view_of
 folds_view D o h = let row = row_at D.rows o in ap (λ (r : Role). view_for D r row o) (computing_role row.role (and_l (is_computing row.role) _ h))
 
-module _ {D : Dialect} (law : Lawful D) (o xs vs : List ℕ) (t : foldable_row (row_at D.rows o) ≡ true) (g : stated (view_of D o) xs ≡ some vs) where
+module _ {D : Dialect} (law : Lawful D) (o xs vs : List ℕ) (t : foldable_row (row_at D.rows o) ≡ true) (g : stated (view_of D o) xs ≡ Some vs) where
   pub states : States D (row_at D.rows o) vs
   states = law.folds (kind_of o) t (rest_by (row_at D.rows o) o) xs vs (sym (ap (λ w. stated w xs) (folds_view D o t)) ∙ g)
 
@@ -53,10 +53,10 @@ module _ {D : Dialect} (law : Lawful D) (o xs vs : List ℕ) (t : foldable_row (
   one_out : outputs (view_of D o) ≡ at o 1 ∷ []
   one_out = ap outputs (folds_view D o t) ∙ ap (λ (ts : List ℕ). bytes_at o 1 (length ts)) (single (row_at D.rows o) t)
 
-  pub const_view : view_of D ((folding D).const o (head_or 0 vs)) ≡ calc (at o 1 ∷ []) [] (λ ys. some (head_or 0 vs ∷ []))
+  pub const_view : view_of D ((folding D).const o (head_or 0 vs)) ≡ calc (at o 1 ∷ []) [] (λ ys. Some (head_or 0 vs ∷ []))
   const_view =
       let s = states in
-      ap (view_of D) (constant_for s) ∙ (s.constant_of (at o 1)).view ∙ ap (λ (n : ℕ). calc (at o 1 ∷ []) [] (λ ys. some (n ∷ []))) (sym (ap (head_or 0) s.one_value))
+      ap (view_of D) (constant_for s) ∙ (s.constant_of (at o 1)).view ∙ ap (λ (n : ℕ). calc (at o 1 ∷ []) [] (λ ys. Some (n ∷ []))) (sym (ap (head_or 0) s.one_value))
 
 pub constants : {D : Dialect} → Lawful D → Constants (tcg D) (folding D)
 constants {D} law = record { out = λ o. at o 1; one_out = one_out law; const_view = const_view law; const_fixed = λ o v t. law.fixed (head_or 0 (row_at D.rows o).outs) (at o 1) v }

@@ -2,7 +2,7 @@
 use mathlib.Core.Path.{◌≡◌, refl, sym, ap, ap₂, ◌∙◌, subst}
 use mathlib.Core.Logic.{◌⊎◌, inl, inr}
 use mathlib.Core.Bool.{Bool, true, false, cond, not, ◌&&◌, ◌||◌}
-use mathlib.Core.Option.{Option, none, some}
+use Rattle.std.specs.Prelude.{Option, None, Some}
 use mathlib.Core.List.{List, [], ◌∷◌}
 use Prim.Native.Nat.{ℕ, zero, suc, ◌-◌, ◌%◌, ◌^◌, ◌≤◌, ◌<◌}
 use native.Mathlib.Nat.{zero-mod}
@@ -141,18 +141,18 @@ all_counted = refl
 
 -- every other kind states nothing
 abbrev is_none : Option ℕ → Bool
-is_none none = true
-is_none (some x) = false
+is_none None = true
+is_none (Some x) = false
 
-is_none_lem : (o : Option ℕ) → is_none o ≡ true → o ≡ none
-is_none_lem none h = refl
-is_none_lem (some x) h = absurd (subst T (sym h) tt)
+is_none_lem : (o : Option ℕ) → is_none o ≡ true → o ≡ None
+is_none_lem None h = refl
+is_none_lem (Some x) h = absurd (subst T (sym h) tt)
 
 unstated_so : (bytes vs : List ℕ) → every_from (λ k. foldable_row (row_of k) || is_none (computed_of k bytes vs)) 0 256 ≡ true
 unfolding computed_of wide_of swap_of table_of kind_table role_no types_of
 unstated_so bytes vs = refl
 
-pub unstated_kind : (k : ℕ) → k < 256 → foldable_row (row_of k) ≡ false → (bytes vs : List ℕ) → computed_of k bytes vs ≡ none
+pub unstated_kind : (k : ℕ) → k < 256 → foldable_row (row_of k) ≡ false → (bytes vs : List ℕ) → computed_of k bytes vs ≡ None
 unstated_kind k h f bytes vs =
     let t : (foldable_row (row_of k) || is_none (computed_of k bytes vs)) ≡ true =
     ranged (λ j. foldable_row (row_of j) || is_none (computed_of j bytes vs)) 256 0 (unstated_so bytes vs) k (omega arith) (omega arith) in
@@ -269,7 +269,7 @@ two_inputs k n bytes a b x y x' y' = go (tell (foldable_row (row_of k)))
     alike l (suc (suc i)) h = absurd (omega arith)
 
     go : (foldable_row (row_of k) ≡ true) ⊎ (foldable_row (row_of k) ≡ false)
-        → cond (foldable_row (row_of k)) (computed_of k bytes (at_types ts (a ∷ b ∷ x ∷ y ∷ []))) none ≡ cond (foldable_row (row_of k)) (computed_of k bytes (at_types ts (a ∷ b ∷ x' ∷ y' ∷ []))) none
+        → cond (foldable_row (row_of k)) (computed_of k bytes (at_types ts (a ∷ b ∷ x ∷ y ∷ []))) None ≡ cond (foldable_row (row_of k)) (computed_of k bytes (at_types ts (a ∷ b ∷ x' ∷ y' ∷ []))) None
     go (inr f) = rw f
     go (inl f) =
         let t : (not (foldable_row (row_of k)) || (eqb (k % 0x80) 0x29 || leb (length ts) 2)) ≡ true =
@@ -282,9 +282,9 @@ constant_kinds : every_from (λ k. not (eqb (number_of (role_of row_of k)) 8) ||
 unfolding table_of kind_table role_no
 constant_kinds = refl
 
-pub constant_states : (k : ℕ) → role_of row_of k ≡ constant → (bytes vs : List ℕ) → eval_of document01 k bytes vs ≡ some (low_first bytes 0 8 ∷ [])
+pub constant_states : (k : ℕ) → role_of row_of k ≡ constant → (bytes vs : List ℕ) → eval_of document01 k bytes vs ≡ Some (low_first bytes 0 8 ∷ [])
 unfolding eval_of states_of
-constant_states k e bytes vs = ap (λ (b : Bool). one (cond b (some (low_first bytes 0 8)) (computed_of k bytes (at_types (row_of k).ins vs)))) (go (tell (ltb k 256)))
+constant_states k e bytes vs = ap (λ (b : Bool). one (cond b (Some (low_first bytes 0 8)) (computed_of k bytes (at_types (row_of k).ins vs)))) (go (tell (ltb k 256)))
   where
     number : number_of (role_of row_of k) ≡ 8
     number = ap number_of e

@@ -1,7 +1,7 @@
 -- What the laws take of a dialect. Assumes nothing.
 use mathlib.Core.Path.{◌≡◌}
 use mathlib.Core.Bool.{true, false}
-use mathlib.Core.Option.{some}
+use Rattle.std.specs.Prelude.{Some}
 use mathlib.Core.List.{List, [], ◌∷◌}
 use Prim.Native.Nat.{ℕ, suc}
 use lib.ListN.{length}
@@ -14,7 +14,7 @@ use Rattle.ops.specs.Folds.{foldable_row, movi_of}
 
 -- m is a constant of the type t, with the output d and the value x: what it does, and what the check finds in it
 pub record Constant (D : Dialect) (t d x : ℕ) (m : List ℕ) : Type 0 where
-  pub view : view_of D m ≡ calc (d ∷ []) [] (λ ys. some (x ∷ []))
+  pub view : view_of D m ≡ calc (d ∷ []) [] (λ ys. Some (x ∷ []))
   pub is_known : known D.rows (kind_of m) ≡ true
   pub long : length m ≡ suc (body_length D.rows (kind_of m))
   pub outs : outs_by (row_at D.rows m) m ≡ d ∷ []
@@ -34,5 +34,5 @@ pub record States (D : Dialect) (row : Row) (vs : List ℕ) : Type 0 where
 pub record Lawful (D : Dialect) : Type 0 where
   pub table : LawfulTable D.rows
   -- an op that may fold states such a value, and a constant does not fold
-  pub folds : (k : ℕ) → foldable_row (D.rows k) ≡ true → (bytes xs vs : List ℕ) → eval_of D k bytes xs ≡ some vs → States D (D.rows k) vs
+  pub folds : (k : ℕ) → foldable_row (D.rows k) ≡ true → (bytes xs vs : List ℕ) → eval_of D k bytes xs ≡ Some vs → States D (D.rows k) vs
   pub fixed : (t d x : ℕ) → foldable_row (row_at D.rows (movi_of t d x)) ≡ false

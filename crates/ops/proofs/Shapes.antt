@@ -6,8 +6,10 @@ use Prim.Native.Nat.{ℕ, zero, suc, ◌%◌, ◌<◌}
 use native.Mathlib.Omega.{arith}
 use lib.Dec.{eqb, ltb}
 use lib.ListN.{get_or}
+use Rattle.std.proofs.lemmas.List.{get_or_default}
 use borrow.Author.Tests.{eqb-true, ltb-true, lt-ltb}
-use Rattle.ops.specs.Rows.{outs_in, ins_in, rest_in, role_in, types_in, role_no, number_of, is_computing, is_setting, is_jumping}
+use Rattle.ops.specs.Rows.{Role, roles, unknown, computing, outs_in, ins_in, rest_in, role_in, types_in, role_no, number_of, is_computing, is_setting, is_jumping}
+use Rattle.ops.specs.Roles.{role_or}
 use Rattle.ops.specs.Table.{kind_table}
 use Rattle.ops.specs.Plans.{each}
 use Rattle.ops.specs.Shapes.{shape_of, shape_table, outs_as, type_as, ins_as, rest_as, role_as, computes_as, sets_as, jumps_as}
@@ -86,6 +88,14 @@ number_as k q =
 
 pub role_as_lem : (k : ℕ) {s r : ℕ} → s ≡ shape_of (get_or kind_table k 0) → r ≡ role_as s → r ≡ number_of (role_no (role_in (get_or kind_table k 0)))
 role_as_lem k q h = h ∙ number_as k q
+
+-- the number of the role that is read of it
+pub role_or_lem : (k : ℕ) {s : ℕ} {r : Role} → s ≡ shape_of (get_or kind_table k 0) → r ≡ role_or (role_as s) computing → number_of r ≡ number_of (role_no (role_in (get_or kind_table k 0)))
+unfolding role_no
+role_or_lem k q h =
+    let p = shape k q in
+    let n = role_in (get_or kind_table k 0) in
+    ap number_of (h ∙ ap (λ (m : ℕ). role_or m computing) p.role_so ∙ get_or_default roles n computing unknown p.role_small)
 
 pub computes_as_lem : (k : ℕ) {s : ℕ} → s ≡ shape_of (get_or kind_table k 0) → computes_as s ≡ is_computing (role_no (role_in (get_or kind_table k 0)))
 computes_as_lem k q = ap (λ (n : ℕ). ltb 8 n) (number_as k q)

@@ -1,7 +1,7 @@
 -- What the theory sees of a record, by the columns of its role. Assumes nothing.
 use mathlib.Core.Path.{◌≡◌, refl, sym, ap}
 use mathlib.Core.Bool.{Bool, true, false, cond}
-use mathlib.Core.Option.{none, some}
+use Rattle.std.specs.Prelude.{None, Some}
 use mathlib.Core.List.{List, []}
 use Prim.Native.Nat.{ℕ, ◌+◌}
 use lib.ListN.{length}
@@ -20,8 +20,8 @@ module _ (D : Dialect) (row : Row) (r : List ℕ) where
   Columns x =
       (closes (view_for D x row r) ≡ is_closing x)
       × (pure (view_for D x row r) ≡ is_pure x)
-      × (label_of (view_for D x row r) ≡ cond (is_setting x) (some (label_by row r)) none)
-      × (target (view_for D x row r) ≡ cond (is_jumping x) (some (label_by row r)) none)
+      × (label_of (view_for D x row r) ≡ cond (is_setting x) (Some (label_by row r)) None)
+      × (target (view_for D x row r) ≡ cond (is_jumping x) (Some (label_by row r)) None)
 
   columns : (x : Role) → Columns x
   columns unknown = (refl, refl, refl, refl)
@@ -68,11 +68,11 @@ module _ (D : Dialect) (r : List ℕ) where
   unfolding view_of
   pure_at = (columns D (row_at D.rows r) r (row_at D.rows r).role).1
 
-  pub label_at : label_of (view_of D r) ≡ cond (is_setting (row_at D.rows r).role) (some (label_by (row_at D.rows r) r)) none
+  pub label_at : label_of (view_of D r) ≡ cond (is_setting (row_at D.rows r).role) (Some (label_by (row_at D.rows r) r)) None
   unfolding view_of
   label_at = (columns D (row_at D.rows r) r (row_at D.rows r).role).2
 
-  pub target_at : target (view_of D r) ≡ cond (is_jumping (row_at D.rows r).role) (some (label_by (row_at D.rows r) r)) none
+  pub target_at : target (view_of D r) ≡ cond (is_jumping (row_at D.rows r).role) (Some (label_by (row_at D.rows r) r)) None
   unfolding view_of
   target_at = (columns D (row_at D.rows r) r (row_at D.rows r).role).3
 

@@ -1,6 +1,5 @@
 -- What the pure ops compute, by kind, once over the width: none where no result is stated. Assumes nothing.
-use Rattle.std.specs.Prelude.{ℕ, ◌*◌, ◌/◌, ◌%◌, ◌^◌, cond, eqb, leb}
-use Rattle.std.proofs.Math.Option.{Option, none, some}
+use Rattle.std.specs.Prelude.{ℕ, ◌*◌, ◌/◌, ◌%◌, ◌^◌, cond, eqb, leb, Option, None, Some}
 use Rattle.std.specs.Int.Bits.{bit_and, bit_or, bit_xor}
 use Rattle.word.specs.Word.{add_w, sub_w, mul_w, neg_w, not_w, andc_w, orc_w, eqv_w, nand_w, nor_w, shl_w, shr_w, sar_w, rotl_w, rotr_w, divs_w, rems_w, extend_w}
 use Rattle.word.specs.Word.{by_divisor, by_signed, by_count}
@@ -10,26 +9,26 @@ use Rattle.word.specs.Swaps.{by_input, bswap_w, clz_w, ctz_w, ctpop_w}
 
 -- 05, 06, 07: "ext_i32_i64, extu_i32_i64, trunc_i64_i32: d, a"
 unfoldable pub convert_of : ℕ → ℕ → Option ℕ
-convert_of k a = cond (eqb k 0x05) (some (extend_w 32 64 a)) (cond (eqb k 0x06) (some a) (some (a % 2 ^ 32)))
+convert_of k a = cond (eqb k 0x05) (Some (extend_w 32 64 a)) (cond (eqb k 0x06) (Some a) (Some (a % 2 ^ 32)))
 
 -- 11, 12, 13: "mov, neg, not: d, a"
 unfoldable pub unary_of : ℕ → ℕ → ℕ → Option ℕ
-unary_of w k a = cond (eqb k 0x11) (some a) (cond (eqb k 0x12) (some (neg_w w a)) (some (not_w w a)))
+unary_of w k a = cond (eqb k 0x11) (Some a) (cond (eqb k 0x12) (Some (neg_w w a)) (Some (not_w w a)))
 
 -- 14 to 1E: "add, sub, mul, and, or, xor, andc, orc, eqv, nand, nor: d, a, b"
 unfoldable pub logic_of : ℕ → ℕ → ℕ → ℕ → Option ℕ
 logic_of w k a b =
-    cond (eqb k 0x14) (some (add_w w a b))
-    (cond (eqb k 0x15) (some (sub_w w a b))
-    (cond (eqb k 0x16) (some (mul_w w a b))
-    (cond (eqb k 0x17) (some (bit_and a b))
-    (cond (eqb k 0x18) (some (bit_or a b))
-    (cond (eqb k 0x19) (some (bit_xor a b))
-    (cond (eqb k 0x1A) (some (andc_w w a b))
-    (cond (eqb k 0x1B) (some (orc_w w a b))
-    (cond (eqb k 0x1C) (some (eqv_w w a b))
-    (cond (eqb k 0x1D) (some (nand_w w a b))
-    (some (nor_w w a b)))))))))))
+    cond (eqb k 0x14) (Some (add_w w a b))
+    (cond (eqb k 0x15) (Some (sub_w w a b))
+    (cond (eqb k 0x16) (Some (mul_w w a b))
+    (cond (eqb k 0x17) (Some (bit_and a b))
+    (cond (eqb k 0x18) (Some (bit_or a b))
+    (cond (eqb k 0x19) (Some (bit_xor a b))
+    (cond (eqb k 0x1A) (Some (andc_w w a b))
+    (cond (eqb k 0x1B) (Some (orc_w w a b))
+    (cond (eqb k 0x1C) (Some (eqv_w w a b))
+    (cond (eqb k 0x1D) (Some (nand_w w a b))
+    (Some (nor_w w a b)))))))))))
 
 -- 1F to 22: "divs, divu, rems, remu (in 000: div, divu, rem, remu): d, a, b"
 unfoldable pub divide_of : ℕ → ℕ → ℕ → ℕ → Option ℕ
@@ -50,11 +49,11 @@ shift_of w k a b =
 
 -- 28: "setcond: d, a, b, cond", 1 where the condition holds, else 0
 unfoldable pub setcond_of : ℕ → ℕ → ℕ → ℕ → Option ℕ
-setcond_of w c a b = some (cond (cond_w w c a b) 1 0)
+setcond_of w c a b = Some (cond (cond_w w c a b) 1 0)
 
 -- 29: "movcond: d, c1, c2, v1, v2, cond", v1 where the condition holds of c1 and c2, else v2
 unfoldable pub movcond_of : ℕ → ℕ → ℕ → ℕ → ℕ → ℕ → Option ℕ
-movcond_of w c c1 c2 v1 v2 = some (cond (cond_w w c c1 c2) v1 v2)
+movcond_of w c c1 c2 v1 v2 = Some (cond (cond_w w c c1 c2) v1 v2)
 
 -- 2D: "deposit_i32/i64 dest, t1, t2, pos, len"
 unfoldable pub deposit_of : ℕ → ℕ → ℕ → ℕ → ℕ → Option ℕ
@@ -74,12 +73,12 @@ abbrev pub swapped_bytes : ℕ → ℕ
 swapped_bytes k = cond (eqb k 0x31) 2 (cond (eqb k 0x32) 4 8)
 
 unfoldable pub swap_of : ℕ → ℕ → ℕ → ℕ → Option ℕ
-swap_of w k flags a = let n = swapped_bytes k in cond (leb (8 * n) w) (by_input n flags a (bswap_w w n flags a)) none
+swap_of w k flags a = let n = swapped_bytes k in cond (leb (8 * n) w) (by_input n flags a (bswap_w w n flags a)) None
 
 -- 34, 35: "clz_i32/i64 t0, t1, t2", "ctz_i32/i64 t0, t1, t2"
 unfoldable pub count_of : ℕ → ℕ → ℕ → ℕ → Option ℕ
-count_of w k a b = cond (eqb k 0x34) (some (clz_w w a b)) (some (ctz_w w a b))
+count_of w k a b = cond (eqb k 0x34) (Some (clz_w w a b)) (Some (ctz_w w a b))
 
 -- 36: "ctpop_i32/i64 t0, t1"
 unfoldable pub ctpop_of : ℕ → ℕ → Option ℕ
-ctpop_of w a = some (ctpop_w w a)
+ctpop_of w a = Some (ctpop_w w a)

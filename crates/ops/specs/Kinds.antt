@@ -1,11 +1,9 @@
 -- Document 01's dialect, as the requests left it: what the ops of a kind do. Assumes nothing.
-use Rattle.std.specs.Prelude.{ℕ, ◌-◌, Bool, true, false, cond, ◌&&◌, ◌||◌, List, [], ◌∷◌, eqb, ltb, leb, length}
-use Rattle.std.proofs.Math.Option.{Option, none, some}
+use Rattle.std.specs.Prelude.{ℕ, ◌-◌, Bool, true, false, cond, ◌&&◌, ◌||◌, List, [], ◌∷◌, eqb, ltb, leb, length, Option, None, Some, Result, Ok, Err, ⊤}
 use Rattle.theory.specs.Machine.{Touch, faults, gives}
 use Rattle.word.specs.Condition.{cond_w}
 use Rattle.memory.specs.Bytes.{low_first}
-use Rattle.memory.specs.declared.Access.{Access}
-use Rattle.memory.specs.declared.Access.TheVariants.{Served, Fails}
+use Rattle.memory.specs.declared.Reason.{Reason}
 use Rattle.memory.specs.Access.{access_at, loaded, stored}
 use Rattle.memory.specs.Answer.{access_width}
 use Rattle.ops.specs.Eval.{convert_of, unary_of, logic_of, divide_of, shift_of, setcond_of, movcond_of, deposit_of, extract_of, extract2_of, swap_of, count_of, ctpop_of}
@@ -18,8 +16,8 @@ between lo hi k = leb lo k && leb k hi
 
 -- an op with one output
 abbrev pub one : Option ℕ → Option (List ℕ)
-one none = none
-one (some x) = some (x ∷ [])
+one None = None
+one (Some x) = Some (x ∷ [])
 
 -- the kinds 11 to 29 and 2D to 36 at a width, from the bytes after the operands and the inputs' values; none for every other kind
 unfoldable pub wide_of : ℕ → ℕ → List ℕ → List ℕ → Option ℕ
@@ -36,7 +34,7 @@ wide_of w k bytes vs =
     (cond (between 0x31 0x33 k) (swap_of w k (at bytes 0) (at vs 0))
     (cond (between 0x34 0x35 k) (count_of w k (at vs 0) (at vs 1))
     (cond (eqb k 0x36) (ctpop_of w (at vs 0))
-    none)))))))))))
+    None)))))))))))
 
 -- the kinds 05 to 07, and those in either width
 unfoldable pub computed_of : ℕ → List ℕ → List ℕ → Option ℕ
@@ -45,16 +43,16 @@ computed_of k bytes vs =
 
 -- what a pure op of kind k states; none for every other kind
 unfoldable pub states_of : ℕ → List ℕ → List ℕ → Option (List ℕ)
-states_of k bytes vs = one (cond (eqb k 0x10 || eqb k 0x90) (some (low_first bytes 0 8)) (computed_of k bytes vs))
+states_of k bytes vs = one (cond (eqb k 0x10 || eqb k 0x90) (Some (low_first bytes 0 8)) (computed_of k bytes vs))
 
 -- the op's width
 abbrev pub op_width : ℕ → ℕ
 op_width k = access_width (leb 0x80 k)
 
 -- an access gives this if it is served, else it faults
-abbrev pub touched : Bool → ℕ → ℕ → Touch ℕ (List ℕ) Fault → Access → Touch ℕ (List ℕ) Fault
-touched store address flags given Served = given
-touched store address flags given (Fails reason) = faults (fault_of store address flags reason)
+abbrev pub touched : Bool → ℕ → ℕ → Touch ℕ (List ℕ) Fault → Result ⊤ Reason → Touch ℕ (List ℕ) Fault
+touched store address flags given (Ok served) = given
+touched store address flags given (Err reason) = faults (fault_of store address flags reason)
 
 -- "qemu_ld: d, address, flags", of this width
 abbrev pub load_at : ℕ → ℕ → List ℕ → ℕ → Touch ℕ (List ℕ) Fault

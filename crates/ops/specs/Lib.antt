@@ -1,5 +1,6 @@
 pub mod Limits
 pub mod Rows
+pub mod Roles
 pub mod Bounds
 pub mod Fields
 pub mod Table

@@ -1,6 +1,5 @@
 -- What a record does in a dialect, and the language of ops. Assumes nothing.
-use Rattle.std.specs.Prelude.{ℕ, ◌%◌, ◌^◌, Bool, List, [], ◌∷◌}
-use Rattle.std.proofs.Math.Option.{Option}
+use Rattle.std.specs.Prelude.{ℕ, ◌%◌, ◌^◌, Bool, List, [], ◌∷◌, Option}
 use Rattle.theory.specs.Machine.{always, when, to, out, View, calc, access, label, flow, Touch, Lang, head_or}
 use Rattle.memory.specs.declared.Reason.{Reason}
 use Rattle.ops.specs.Rows.{Role, unknown, declares, sets_label, jumps_to, exits, branches, loads, stores, constant, computing, Row, Table, bits_of}

@@ -76,8 +76,8 @@ table_of kinds k = row_in (get_or kinds k 0)
 abbrev pub body_of : Row → ℕ
 body_of row = length row.outs + length row.ins + row.rest
 
--- columns of a role, by its number: it is known; it is a pure op's, or one's that reads something ("An op of kinds 05 to 07 or 11 to 29
--- (either width)", and 2D to 36); it ends the extended basic block ("Set_label, br and exit_tb end everything as before"); it sets a label; it may jump to one
+-- columns of a role, by its number: it is known; it is a pure op's, of these one's that reads nothing, or something ("An op of kinds 05 to 07 or
+-- 11 to 29 (either width)", and 2D to 36); it ends the extended basic block ("Set_label, br and exit_tb end everything as before"); it sets a label; it may jump to one
 abbrev pub number_of : Role → ℕ
 number_of unknown = 0
 number_of declares = 1
@@ -95,6 +95,9 @@ is_known r = ltb 0 (number_of r)
 
 abbrev pub is_pure : Role → Bool
 is_pure r = ltb 7 (number_of r)
+
+abbrev pub is_constant : Role → Bool
+is_constant r = eqb (number_of r) 8
 
 abbrev pub is_computing : Role → Bool
 is_computing r = ltb 8 (number_of r)

@@ -23,7 +23,7 @@ use Rattle.passes.specs.Demand.{Fit, unstated_end, SameEnd, same_exit, same_faul
 use Rattle.passes.specs.Passes.{pass_ops}
 use Rattle.passes.proofs.Result.{ops_preserved}
 use Rattle.block.specs.Rules.{globals_in, kept_in}
-use Rattle.block.specs.declared.Verdict.TheVariants.{Accepted}
+use Rattle.block.specs.Checks.{Accepted}
 use Rattle.block.specs.Checks.{check_by}
 use Rattle.ops.proofs.Lawful.{Lawful}
 

@@ -15,7 +15,7 @@ use Rattle.passes.specs.Passes.{pass_ops, result_of, written}
 use Rattle.passes.proofs.Alike.{blocks_alike}
 use Rattle.passes.proofs.Result.{rule, ops_preserved, parts_size, kept_parts, result_of_lem, pass_answers}
 use Rattle.block.specs.Rules.{globals_in, kept_in}
-use Rattle.block.specs.declared.Verdict.TheVariants.{Accepted}
+use Rattle.block.specs.Checks.{Accepted}
 use Rattle.block.specs.Checks.{check_by}
 use Rattle.ops.proofs.Lawful.{Lawful}
 use Rattle.ops.proofs.Document01.{lawful}

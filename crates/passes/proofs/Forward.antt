@@ -1,6 +1,7 @@
 -- Fold, op by op from the first, and what it leaves. Assumes nothing.
 use mathlib.Core.Path.{◌≡◌, refl, sym, ap, ◌∙◌, subst}
 use mathlib.Core.Bool.{true, false}
+use Rattle.std.specs.Prelude.{Option, None, Some}
 use mathlib.Core.List.{List, [], ◌∷◌}
 use mathlib.Core.Logic.{◌⊎◌, inl, inr}
 use Prim.Native.Nat.{ℕ, suc, ◌+◌, ◌≤◌, ◌<◌}
@@ -27,8 +28,6 @@ use Rattle.passes.specs.Knows.{known_of, left_by, Folds, folded_ops, Folded}
 use Rattle.passes.proofs.Knowing.{none_known}
 use Rattle.passes.proofs.Placing.{ops_long, op_here}
 use Rattle.passes.proofs.Result.{rule}
-use Rattle.word.specs.declared.Stated.TheVariants.{Value, NoResult}
-use Rattle.word.specs.declared.Stated.{Stated}
 
 -- fold leaves one op for each
 left_long : (os : List (List ℕ)) (k : Known ℕ) → length (fold_ops (tcg document01) (rule document01) os (on k)) ≡ length os
@@ -70,7 +69,7 @@ module _ {b P marks constants : List ℕ} {known : Vars} {values : List ℕ} {op
   os = ops_at b P 0 ops
 
   -- what fold leaves of the i-th, and of the rest
-  module _ (h : i < ops) {known' : Vars} {values' : List ℕ} {r : Stated} (f : Folds b (get_or P i 0) known values known' values' r) where
+  module _ (h : i < ops) {known' : Vars} {values' : List ℕ} {r : Option ℕ} (f : Folds b (get_or P i 0) known values known' values' r) where
     abbrev o : List ℕ
     o = record_at row_of b (get_or P i 0)
 
@@ -87,14 +86,14 @@ module _ {b P marks constants : List ℕ} {known : Vars} {values : List ℕ} {op
     this : get_or (folded_ops (ops_at b P 0 ops)) i [] ≡ left_by r (record_at row_of b (get_or P i 0))
     this = ap (λ (n : ℕ). get_or (folded_ops os) n []) (sym (add-zero i)) ∙ sym (get_or-drop i (folded_ops os) 0 []) ∙ ap (λ (q : List (List ℕ)). get_or q 0 []) here
 
-    stays_so : r ≡ NoResult → (value : ℕ) → Leaves b (get_or P i 0) 0 value (get_or (folded_ops (ops_at b P 0 ops)) i [])
-    stays_so e value = record { stays = λ z. this ∙ ap (λ (t : Stated). left_by t o) e; becomes = λ z. absurd (omega arith) }
+    stays_so : r ≡ None → (value : ℕ) → Leaves b (get_or P i 0) 0 value (get_or (folded_ops (ops_at b P 0 ops)) i [])
+    stays_so e value = record { stays = λ z. this ∙ ap (λ (t : Option ℕ). left_by t o) e; becomes = λ z. absurd (omega arith) }
 
-    becomes_so : {x : ℕ} → r ≡ Value x → Leaves b (get_or P i 0) 1 x (get_or (folded_ops (ops_at b P 0 ops)) i [])
+    becomes_so : {x : ℕ} → r ≡ Some x → Leaves b (get_or P i 0) 1 x (get_or (folded_ops (ops_at b P 0 ops)) i [])
     becomes_so {x} e =
         record {
           stays = λ z. absurd (omega arith);
-          becomes = λ z. subst (Constant b (get_or P i 0) x) (sym (this ∙ ap (λ (t : Stated). left_by t o) e)) (f.constant_so x e);
+          becomes = λ z. subst (Constant b (get_or P i 0) x) (sym (this ∙ ap (λ (t : Option ℕ). left_by t o) e)) (f.constant_so x e);
         }
 
     -- its mark is stored, and a constant's value
@@ -112,11 +111,11 @@ module _ {b P marks constants : List ℕ} {known : Vars} {values : List ℕ} {op
       next_so : Leaves b (get_or P i 0) m (get_or constants' i 0) (get_or (folded_ops (ops_at b P 0 ops)) i []) → FoldingSo b P marks' constants' known' values' ops (i + 1)
       next_so w = record { left_so = left_next; done = λ j l. done_next (rw em w) j (below_next i j l); few = λ j l. few_next j (below_next i j l) }
 
-    pub folding_stays : i < length marks → r ≡ NoResult → FoldingSo b P (set marks i 0) constants known' values' ops (i + 1)
+    pub folding_stays : i < length marks → r ≡ None → FoldingSo b P (set marks i 0) constants known' values' ops (i + 1)
     folding_stays long e =
         next_so (set marks i 0) constants (get_or-set_same marks i 0 0 long) (omega arith) (λ j l. get_or-set_other marks i j 0 0 (λ z. omega arith)) (λ j l. refl) (stays_so e (get_or constants i 0))
 
-    pub folding_puts : i < length marks → i < length constants → {x : ℕ} → r ≡ Value x → FoldingSo b P (set marks i 1) (set constants i x) known' values' ops (i + 1)
+    pub folding_puts : i < length marks → i < length constants → {x : ℕ} → r ≡ Some x → FoldingSo b P (set marks i 1) (set constants i x) known' values' ops (i + 1)
     folding_puts long longer {x} e =
         next_so (set marks i 1) (set constants i x) (get_or-set_same marks i 1 0 long) (omega arith) (λ j l. get_or-set_other marks i j 1 0 (λ z. omega arith))
         (λ j l. get_or-set_other constants i j x 0 (λ z. omega arith)) (rw (get_or-set_same constants i x 0 longer) (becomes_so e))

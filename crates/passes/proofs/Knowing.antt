@@ -2,7 +2,7 @@
 use mathlib.Core.Path.{◌≡◌, refl, sym, ap, ap₂, ◌∙◌, subst, fun_ext}
 use mathlib.Core.Bool.{Bool, true, false, cond, not, ◌&&◌, ◌||◌, true≢false}
 use mathlib.Core.Logic.{◌⊎◌, inl, inr}
-use mathlib.Core.Option.{Option, none, some}
+use Rattle.std.specs.Prelude.{Option, None, Some, option_map, option_and_then}
 use mathlib.Core.List.{List, [], ◌∷◌}
 use Prim.Native.Nat.{ℕ, zero, suc, ◌+◌, ◌-◌, ◌≤◌, ◌<◌}
 use native.Mathlib.Omega.{arith}
@@ -10,14 +10,14 @@ use lib.Arith.{lt_of_le-ne}
 use lib.Dec.{eqb, ltb}
 use lib.ListN.{get_or}
 use borrow.Author.Tests.{ltb-true, lt-ltb, le-ltb}
-use Rattle.theory.specs.Fold.{Known, nothing, put, learned, given, gain, cons_o, all_known, bind_o, tried, base_rule}
+use Rattle.theory.specs.Fold.{Known, nothing, put, learned, given, gain, all_known, tried, base_rule}
 use Rattle.theory.specs.Machine.{View, calc, access, label, flow, computes as stated, inputs, outputs, pure, closes, reads, writes}
 use Rattle.theory.specs.Sets.{upd, Vars, empty, has, without}
 use Rattle.theory.proofs.Sets.{and_l, and_r, tell, clash}
 use Rattle.theory.proofs.Views.{no_some}
 use Rattle.memory.specs.Bytes.{low_first}
 use Rattle.ops.specs.Rows.{constant, computing, role_no, Row, outs_in, ins_in, role_in, number_of, is_pure, is_computing, is_closing, at}
-use Rattle.ops.specs.Kinds.{document01}
+use Rattle.ops.specs.Kinds.{one, document01}
 use Rattle.ops.specs.Table.{kind_table, row_of}
 use Rattle.ops.specs.Rows.{role_of}
 use Rattle.ops.specs.Ops.{Fault, view_of, tcg}
@@ -29,7 +29,7 @@ use Rattle.block.specs.Scan.{record_at, Stands, SetAt, marked}
 use Rattle.block.proofs.MarkSets.{at_place}
 use Rattle.block.proofs.Operands.{each_by}
 use Rattle.block.proofs.Views.{body_from_lem, byte, row_at_lem, constant_view_lem, pure_view_lem}
-use Rattle.runs.specs.Evaluates.{Computed, inputs_at, states_at, values_of, env_of}
+use Rattle.runs.specs.Evaluates.{Computed, inputs_at, states_at, env_of}
 use Rattle.runs.proofs.Roles.{role_by}
 use Rattle.runs.proofs.Variables.{env_alone}
 use Rattle.ops.proofs.Table.{number_of_lem}
@@ -40,16 +40,14 @@ use Rattle.passes.specs.Laid.{Constant}
 use Rattle.passes.proofs.Before.{its_role, its_outputs}
 use Rattle.passes.proofs.Constants.{computing_folds, one_output_lem}
 use Rattle.passes.proofs.Counts.{few_outs, none_else}
-use Rattle.word.specs.declared.Stated.TheVariants.{Value, NoResult}
-use Rattle.word.specs.declared.Stated.{Stated}
 
 -- a variable that is known, with its value
 pub put_known : {known known' values values' : List ℕ} {v x : ℕ} → SetAt known v 1 known' → SetAt values v x values'
-    → known_of (marked known') values' ≡ upd (known_of (marked known) values) v (some x)
+    → known_of (marked known') values' ≡ upd (known_of (marked known) values) v (Some x)
 put_known {known} {known'} {values} {values'} {v} {x} s t =
-    fun_ext (λ u. ap₂ (λ (n m : ℕ). cond (eqb n 1) (some m) none) (at_place s u) (at_place t u) ∙ go (eqb v u) u)
+    fun_ext (λ u. ap₂ (λ (n m : ℕ). cond (eqb n 1) (Some m) None) (at_place s u) (at_place t u) ∙ go (eqb v u) u)
   where
-    go : (b : Bool) (u : ℕ) → cond (eqb (cond b 1 (get_or known u 0)) 1) (some (cond b x (get_or values u 0))) none ≡ cond b (some x) (known_of (marked known) values u)
+    go : (b : Bool) (u : ℕ) → cond (eqb (cond b 1 (get_or known u 0)) 1) (Some (cond b x (get_or values u 0))) None ≡ cond b (Some x) (known_of (marked known) values u)
     go true u = refl
     go false u = refl
 
@@ -65,20 +63,20 @@ pub none_known : {known : Vars} (values : List ℕ) → known ≡ empty → know
 none_known values e = ap (λ (l : Vars). known_of l values) e
 
 -- variables that leave the set become unknown
-writes_none : (k : Known ℕ) (outs : List ℕ) (v : ℕ) → writes none k outs [] v ≡ cond (has outs v) none (k v)
+writes_none : (k : Known ℕ) (outs : List ℕ) (v : ℕ) → writes None k outs [] v ≡ cond (has outs v) None (k v)
 writes_none k [] v = refl
-writes_none k (o ∷ outs) v = writes_none (upd k o none) outs v ∙ go (eqb o v) (has outs v)
+writes_none k (o ∷ outs) v = writes_none (upd k o None) outs v ∙ go (eqb o v) (has outs v)
   where
-    go : (t h : Bool) → cond h none (cond t none (k v)) ≡ cond (t || h) none (k v)
+    go : (t h : Bool) → cond h None (cond t None (k v)) ≡ cond (t || h) None (k v)
     go true true = refl
     go true false = refl
     go false h = refl
 
-forgets : (known known' : Vars) (values outs : List ℕ) → known' ≡ without known outs → known_of known' values ≡ writes none (known_of known values) outs []
+forgets : (known known' : Vars) (values outs : List ℕ) → known' ≡ without known outs → known_of known' values ≡ writes None (known_of known values) outs []
 forgets known known' values outs e =
-    fun_ext (λ v. ap (λ (l : Vars). cond (l v) (some (get_or values v 0)) none) e ∙ go (has outs v) (known v) (get_or values v 0) ∙ sym (writes_none (known_of known values) outs v))
+    fun_ext (λ v. ap (λ (l : Vars). cond (l v) (Some (get_or values v 0)) None) e ∙ go (has outs v) (known v) (get_or values v 0) ∙ sym (writes_none (known_of known values) outs v))
   where
-    go : (h m : Bool) (x : ℕ) → cond (not h && m) (some x) none ≡ cond h none (cond m (some x) none)
+    go : (h m : Bool) (x : ℕ) → cond (not h && m) (Some x) None ≡ cond h None (cond m (Some x) None)
     go true m x = refl
     go false m x = refl
 
@@ -122,19 +120,19 @@ ends_unknown b p (suc n) l h f = go (tell (every_in (bytes_at b p (suc n)) l))
         absurd (clash _ both (rw last at f))
 
 -- the values of inputs that are all known
-inputs_known : (known : Vars) (values xs : List ℕ) → every_in xs known ≡ true → all_known (reads (known_of known values) xs) ≡ some (reads (λ v. get_or values v 0) xs)
+inputs_known : (known : Vars) (values xs : List ℕ) → every_in xs known ≡ true → all_known (reads (known_of known values) xs) ≡ Some (reads (λ v. get_or values v 0) xs)
 inputs_known known values [] h = refl
 inputs_known known values (x ∷ xs) h =
-    ap (λ (t : Bool). all_known (cond t (some (get_or values x 0)) none ∷ reads (known_of known values) xs)) (and_l (known x) (every_in xs known) h)
-    ∙ ap (cons_o (get_or values x 0)) (inputs_known known values xs (and_r (known x) (every_in xs known) h))
+    ap (λ (t : Bool). all_known (cond t (Some (get_or values x 0)) None ∷ reads (known_of known values) xs)) (and_l (known x) (every_in xs known) h)
+    ∙ ap (option_map (λ vs. get_or values x 0 ∷ vs)) (inputs_known known values xs (and_r (known x) (every_in xs known) h))
 
-inputs_unknown : (known : Vars) (values xs : List ℕ) → every_in xs known ≡ false → all_known (reads (known_of known values) xs) ≡ none
+inputs_unknown : (known : Vars) (values xs : List ℕ) → every_in xs known ≡ false → all_known (reads (known_of known values) xs) ≡ None
 inputs_unknown known values [] h = absurd (true≢false h)
 inputs_unknown known values (x ∷ xs) h = go (known x) h (inputs_unknown known values xs)
   where
-    go : (t : Bool) → (t && every_in xs known) ≡ false → (every_in xs known ≡ false → all_known (reads (known_of known values) xs) ≡ none)
-        → all_known (cond t (some (get_or values x 0)) none ∷ reads (known_of known values) xs) ≡ none
-    go true e ih = ap (cons_o (get_or values x 0)) (ih e)
+    go : (t : Bool) → (t && every_in xs known) ≡ false → (every_in xs known ≡ false → all_known (reads (known_of known values) xs) ≡ None)
+        → all_known (cond t (Some (get_or values x 0)) None ∷ reads (known_of known values) xs) ≡ None
+    go true e ih = ap (option_map (λ vs. get_or values x 0 ∷ vs)) (ih e)
     go false e ih = refl
 
 -- an op is a pure one that reads something, by its kind's entry
@@ -149,38 +147,38 @@ module _ {b : List ℕ} {p k : ℕ} (c : Computed b p k) {e : ℕ} (q : e ≡ ge
       let z : p + 1 + n ≡ p + 2 = omega (arith, one_output_lem k q c.role_is) in
       w ∙ ap₂ (λ (i j : ℕ). every_in (bytes_at b i j) known) z (em ∙ sym (digits kind_table q).ins)
 
-  stated_is : stated_by (known_of known values) (record_at row_of b p) ≡ bind_o (states_at b p k) (all_known (reads (known_of known values) (inputs_at b p k)))
+  stated_is : stated_by (known_of known values) (record_at row_of b p) ≡ option_and_then (states_at b p k) (all_known (reads (known_of known values) (inputs_at b p k)))
   stated_is = rw (ap foldable_row (row_at_lem c.stands) ∙ computing_folds k c.role_is, pure_view_lem c.stands c.role_is)
 
-  pub states_known : {r : Stated} → t ≡ true → states_at b p k (reads (env_of [] values) (inputs_at b p k)) ≡ values_of r → StatesKnown b p known values r
+  pub states_known : {r : Option ℕ} → t ≡ true → states_at b p k (reads (env_of [] values) (inputs_at b p k)) ≡ one r → StatesKnown b p known values r
   states_known h s =
-      record { states_so = stated_is ∙ ap (bind_o (states_at b p k)) (inputs_known known values (inputs_at b p k) (sym these ∙ h)) ∙ ap (λ (env : ℕ → ℕ). states_at b p k (reads env (inputs_at b p k))) (sym (env_alone values)) ∙ s }
+      record { states_so = stated_is ∙ ap (option_and_then (states_at b p k)) (inputs_known known values (inputs_at b p k) (sym these ∙ h)) ∙ ap (λ (env : ℕ → ℕ). states_at b p k (reads env (inputs_at b p k))) (sym (env_alone values)) ∙ s }
 
-  pub unknown_states : t ≡ false → StatesKnown b p known values NoResult
-  unknown_states h = record { states_so = stated_is ∙ ap (bind_o (states_at b p k)) (inputs_unknown known values (inputs_at b p k) (sym these ∙ h)) }
+  pub unknown_states : t ≡ false → StatesKnown b p known values None
+  unknown_states h = record { states_so = stated_is ∙ ap (option_and_then (states_at b p k)) (inputs_unknown known values (inputs_at b p k) (sym these ∙ h)) }
 
 -- no other op is known to state anything
 pub others_state : {b : List ℕ} {p k e : ℕ} → Stands row_of b p k → e ≡ get_or kind_table k 0 → (known : Vars) (values : List ℕ) → is_computing (role_no (role_in e)) ≡ false
-    → StatesKnown b p known values NoResult
+    → StatesKnown b p known values None
 others_state {b} {p} s q known values h = record { states_so = rw (its_role s q, h) }
 
 -- fold's rule, by what is known to be stated
 rule_is : (k : Known ℕ) (o : List ℕ) → base_rule (tcg document01) (folding document01) k o ≡ tried (tcg document01) (folding document01) o (stated_by k o)
-rule_is k o = go (foldable_row (row_at row_of o)) (bind_o (stated (view_of document01 o)) (all_known (reads k (inputs (view_of document01 o)))))
+rule_is k o = go (foldable_row (row_at row_of o)) (option_and_then (stated (view_of document01 o)) (all_known (reads k (inputs (view_of document01 o)))))
   where
-    go : (t : Bool) (x : Option (List ℕ)) → cond t (tried (tcg document01) (folding document01) o x) (put o) ≡ tried (tcg document01) (folding document01) o (cond t x none)
+    go : (t : Bool) (x : Option (List ℕ)) → cond t (tried (tcg document01) (folding document01) o x) (put o) ≡ tried (tcg document01) (folding document01) o (cond t x None)
     go true x = refl
     go false x = refl
 
 -- an op that is known to state a value
-module _ {b : List ℕ} {p : ℕ} (s : Stands row_of b p (get_or b p 0)) {known : Vars} {values : List ℕ} {r : Stated} {x : ℕ} (w : StatesKnown b p known values r) (e : r ≡ Value x) where
-  value_so : stated_by (known_of known values) (record_at row_of b p) ≡ some (x ∷ [])
-  value_so = w.states_so ∙ ap values_of e
+module _ {b : List ℕ} {p : ℕ} (s : Stands row_of b p (get_or b p 0)) {known : Vars} {values : List ℕ} {r : Option ℕ} {x : ℕ} (w : StatesKnown b p known values r) (e : r ≡ Some x) where
+  value_so : stated_by (known_of known values) (record_at row_of b p) ≡ Some (x ∷ [])
+  value_so = w.states_so ∙ ap one e
 
   may_fold : foldable_row (row_at row_of (record_at row_of b p)) ≡ true
-  may_fold = go (foldable_row (row_at row_of (record_at row_of b p))) (bind_o (stated (view_of document01 (record_at row_of b p))) (all_known (reads (known_of known values) (inputs (view_of document01 (record_at row_of b p)))))) value_so
+  may_fold = go (foldable_row (row_at row_of (record_at row_of b p))) (option_and_then (stated (view_of document01 (record_at row_of b p))) (all_known (reads (known_of known values) (inputs (view_of document01 (record_at row_of b p)))))) value_so
     where
-      go : (t : Bool) (y : Option (List ℕ)) → cond t y none ≡ some (x ∷ []) → t ≡ true
+      go : (t : Bool) (y : Option (List ℕ)) → cond t y None ≡ Some (x ∷ []) → t ≡ true
       go true y h = refl
       go false y h = no_some h
 
@@ -188,15 +186,15 @@ module _ {b : List ℕ} {p : ℕ} (s : Stands row_of b p (get_or b p 0)) {known 
   computes_so =
       sym (ap (λ (row : Row). row.role) (row_at_lem s)) ∙ computing_role (row_at row_of (record_at row_of b p)).role (and_l (is_computing (row_at row_of (record_at row_of b p)).role) _ may_fold)
 
-  const_shape : view_of document01 ((folding document01).const (record_at row_of b p) x) ≡ calc (at b (p + 1) ∷ []) [] (λ ys. some (x ∷ []))
+  const_shape : view_of document01 ((folding document01).const (record_at row_of b p) x) ≡ calc (at b (p + 1) ∷ []) [] (λ ys. Some (x ∷ []))
   const_shape = go (all_known (reads (known_of known values) (inputs (view_of document01 (record_at row_of b p))))) (rw may_fold at value_so)
     where
-      go : (ks : Option (List ℕ)) → bind_o (stated (view_of document01 (record_at row_of b p))) ks ≡ some (x ∷ []) → view_of document01 ((folding document01).const (record_at row_of b p) x) ≡ calc (at b (p + 1) ∷ []) [] (λ ys. some (x ∷ []))
-      go none h = no_some h
-      go (some xs) h =
-          const_view lawful (record_at row_of b p) xs (x ∷ []) may_fold h ∙ ap (λ (n : ℕ). calc (n ∷ []) [] (λ ys. some (x ∷ []))) (byte s 1 (body_from_lem computing (get_or b p 0) computes_so))
+      go : (ks : Option (List ℕ)) → option_and_then (stated (view_of document01 (record_at row_of b p))) ks ≡ Some (x ∷ []) → view_of document01 ((folding document01).const (record_at row_of b p) x) ≡ calc (at b (p + 1) ∷ []) [] (λ ys. Some (x ∷ []))
+      go None h = no_some h
+      go (Some xs) h =
+          const_view lawful (record_at row_of b p) xs (x ∷ []) may_fold h ∙ ap (λ (n : ℕ). calc (n ∷ []) [] (λ ys. Some (x ∷ []))) (byte s 1 (body_from_lem computing (get_or b p 0) computes_so))
 
-  pub folds_value : {known' : Vars} {values' : List ℕ} → known_of known' values' ≡ upd (known_of known values) (at b (p + 1)) (some x) → Folds b p known values known' values' (Value x)
+  pub folds_value : {known' : Vars} {values' : List ℕ} → known_of known' values' ≡ upd (known_of known values) (at b (p + 1)) (Some x) → Folds b p known values known' values' (Some x)
   folds_value u =
       record {
         rule_so = rule_is (known_of known values) (record_at row_of b p) ∙ ap (tried (tcg document01) (folding document01) (record_at row_of b p)) value_so;
@@ -204,43 +202,40 @@ module _ {b : List ℕ} {p : ℕ} (s : Stands row_of b p (get_or b p 0)) {known 
         constant_so = λ y z. let q : x ≡ y = cc in subst (λ (n : ℕ). Constant b p n ((folding document01).const (record_at row_of b p) n)) q (record { op_is = refl; role_is = computes_so; view_is = const_shape });
       }
 
-no_value : (x : ℕ) → NoResult ≡ Value x → ⊥
-no_value x e = let z : ◌≡◌ {A = ℕ} 0 1 = cc in omega arith
-
 -- any other op stays
-pub folds_none : {b : List ℕ} {p : ℕ} {known known' : Vars} {values values' : List ℕ} → StatesKnown b p known values NoResult
-    → Stays b p known values known' values' → Folds b p known values known' values' NoResult
+pub folds_none : {b : List ℕ} {p : ℕ} {known known' : Vars} {values values' : List ℕ} → StatesKnown b p known values None
+    → Stays b p known values known' values' → Folds b p known values known' values' None
 folds_none {b} {p} {known} {values = values} w u =
     record {
       rule_so = rule_is (known_of known values) (record_at row_of b p) ∙ ap (tried (tcg document01) (folding document01) (record_at row_of b p)) w.states_so;
       known_so = u.known_after;
-      constant_so = λ x z. absurd (no_value x z);
+      constant_so = λ x z. no_some z;
     }
 
 -- an op that states nothing of what is known gives no value
-no_gain : (k : Known ℕ) (ins : List ℕ) (f : List ℕ → Option (List ℕ)) → bind_o f (all_known (reads k ins)) ≡ none → gain ins f ≡ []
+no_gain : (k : Known ℕ) (ins : List ℕ) (f : List ℕ → Option (List ℕ)) → option_and_then f (all_known (reads k ins)) ≡ None → gain ins f ≡ []
 no_gain k [] f h = ap given h
 no_gain k (i ∷ ins) f h = refl
 
 -- an op that is not pure computes nothing
-impure : (w : View ℕ (List ℕ) ℕ Fault) → pure w ≡ false → (ks : Option (List ℕ)) → bind_o (stated w) ks ≡ none
+impure : (w : View ℕ (List ℕ) ℕ Fault) → pure w ≡ false → (ks : Option (List ℕ)) → option_and_then (stated w) ks ≡ None
 impure (calc outs ins f) h ks = clash true refl h
-impure (access outs ins f) h none = refl
-impure (access outs ins f) h (some xs) = refl
-impure (label l) h none = refl
-impure (label l) h (some xs) = refl
-impure (flow ins c y) h none = refl
-impure (flow ins c y) h (some xs) = refl
+impure (access outs ins f) h None = refl
+impure (access outs ins f) h (Some xs) = refl
+impure (label l) h None = refl
+impure (label l) h (Some xs) = refl
+impure (flow ins c y) h None = refl
+impure (flow ins c y) h (Some xs) = refl
 
 -- what is known after an op that stays, by the number of its role
 module _ {b : List ℕ} {p k : ℕ} (s : Stands row_of b p k) {e n : ℕ} (q : e ≡ get_or kind_table k 0) (m : n ≡ number_of (role_no (role_in e))) (known : Vars) (values : List ℕ) where
   pub is_constant : n ≡ 8 → role_of row_of k ≡ constant
   is_constant h = role_by constant k q m h
 
-  pub over_constant : {known' : Vars} {values' : List ℕ} {x : ℕ} → n ≡ 8 → x ≡ low_first b (p + 2) 8 → known_of known' values' ≡ upd (known_of known values) (at b (p + 1)) (some x)
+  pub over_constant : {known' : Vars} {values' : List ℕ} {x : ℕ} → n ≡ 8 → x ≡ low_first b (p + 2) 8 → known_of known' values' ≡ upd (known_of known values) (at b (p + 1)) (Some x)
       → Stays b p known values known' values'
   over_constant h y u =
-      record { known_after = u ∙ ap (λ (z : ℕ). upd (known_of known values) (at b (p + 1)) (some z)) y ∙ sym (ap (learned (known_of known values)) (constant_view_lem s (is_constant h))) }
+      record { known_after = u ∙ ap (λ (z : ℕ). upd (known_of known values) (at b (p + 1)) (Some z)) y ∙ sym (ap (learned (known_of known values)) (constant_view_lem s (is_constant h))) }
 
   closing : closes (view_of document01 (record_at row_of b p)) ≡ is_closing (role_no (role_in e))
   closing = closes_at document01 (record_at row_of b p) ∙ ap is_closing (its_role s q)
@@ -248,14 +243,14 @@ module _ {b : List ℕ} {p k : ℕ} (s : Stands row_of b p k) {e n : ℕ} (q : e
   pub over_end : {known' : Vars} → n < 5 → known' ≡ empty → Stays b p known values known' values
   over_end h z = record { known_after = none_known values z ∙ rw (closing ∙ lt-ltb (number_of (role_no (role_in e))) 5 (omega arith)) }
 
-  module _ (h : 5 ≤ n) (i : n ≡ 8 → ⊥) (w : StatesKnown b p known values NoResult) where
+  module _ (h : 5 ≤ n) (i : n ≡ 8 → ⊥) (w : StatesKnown b p known values None) where
     abbrev o : List ℕ
     o = record_at row_of b p
 
-    nothing_stated : bind_o (stated (view_of document01 o)) (all_known (reads (known_of known values) (inputs (view_of document01 o)))) ≡ none
+    nothing_stated : option_and_then (stated (view_of document01 o)) (all_known (reads (known_of known values) (inputs (view_of document01 o)))) ≡ None
     nothing_stated = go (tell (ltb 7 (number_of (role_no (role_in e)))))
       where
-        go : (is_pure (role_no (role_in e)) ≡ true) ⊎ (is_pure (role_no (role_in e)) ≡ false) → bind_o (stated (view_of document01 o)) (all_known (reads (known_of known values) (inputs (view_of document01 o)))) ≡ none
+        go : (is_pure (role_no (role_in e)) ≡ true) ⊎ (is_pure (role_no (role_in e)) ≡ false) → option_and_then (stated (view_of document01 o)) (all_known (reads (known_of known values) (inputs (view_of document01 o)))) ≡ None
         go (inl t) =
             let j : 7 < n = omega (arith, ltb-true 7 (number_of (role_no (role_in e))) t) in
             let nine : n ≡ 9 = omega (arith, (number_of_lem (role_no (role_in e))).1, lt_of_le-ne {i = 8} {k = n} (omega arith) (λ z. i (sym z))) in
@@ -270,7 +265,7 @@ module _ {b : List ℕ} {p k : ℕ} (s : Stands row_of b p k) {e n : ℕ} (q : e
         record {
           known_after =
               forgets known known' values (bytes_at b (p + 1) (outs_in e)) u
-              ∙ sym (rw (closing ∙ stays) (ap₂ (λ (xs : List ℕ) (ys : List (Option ℕ)). writes none (known_of known values) xs ys) outs (no_gain (known_of known values) (inputs (view_of document01 o)) (stated (view_of document01 o)) nothing_stated)));
+              ∙ sym (rw (closing ∙ stays) (ap₂ (λ (xs : List ℕ) (ys : List (Option ℕ)). writes None (known_of known values) xs ys) outs (no_gain (known_of known values) (inputs (view_of document01 o)) (stated (view_of document01 o)) nothing_stated)));
         }
 
     -- by how many outputs it has
@@ -282,7 +277,7 @@ module _ {b : List ℕ} {p k : ℕ} (s : Stands row_of b p k) {e n : ℕ} (q : e
 
 -- a computing op that states nothing of what is known: its output is known no longer
 pub over_computing : {b : List ℕ} {p e : ℕ} → Stands row_of b p (get_or b p 0) → e ≡ get_or kind_table (get_or b p 0) 0 → is_computing (role_no (role_in e)) ≡ true
-    → (known : Vars) (values : List ℕ) {known' : Vars} → StatesKnown b p known values NoResult → known' ≡ without known (get_or b (p + 1) 0 ∷ []) → Stays b p known values known' values
+    → (known : Vars) (values : List ℕ) {known' : Vars} → StatesKnown b p known values None → known' ≡ without known (get_or b (p + 1) 0 ∷ []) → Stays b p known values known' values
 over_computing {b} {p} {e} s q h known values w u =
     let l = ltb-true 8 (number_of (role_no (role_in e))) h in
     over_output s q refl known values (omega arith) (λ z. omega arith) w (sym (one_output_lem (get_or b p 0) q (computed_at s q h).role_is)) refl u

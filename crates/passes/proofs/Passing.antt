@@ -17,7 +17,7 @@ use Rattle.ops.specs.Table.{row_of}
 use Rattle.block.specs.Checks.{check_of, check_by}
 use Rattle.block.specs.Records.{cut_of, records_of, record_bytes, declarations, ops_from, classes_of}
 use Rattle.block.specs.Rules.{start as unread, globals_in, kept_in}
-use Rattle.block.specs.Scan.{Approved, Scanned}
+use Rattle.block.specs.Scan.{Approved}
 use Rattle.ops.specs.Limits.{max_ops, max_bytes}
 use Rattle.ops.proofs.Bounds.{limits_fit}
 use Rattle.block.proofs.Places.{places_long}
@@ -27,17 +27,17 @@ use Rattle.block.proofs.Cut.{split_records}
 use Rattle.block.proofs.Declaring.{classes_length}
 use Rattle.block.proofs.Meaning.{cut_together}
 use Rattle.block.proofs.Parts.{Parts, parts}
-use Rattle.block.proofs.Scanned.{approve}
 use Rattle.passes.specs.Knows.{folded_ops}
 use Rattle.passes.specs.Laid.{ops_at, kept_from}
 use Rattle.passes.specs.Live.{Keeps, emitted}
-use Rattle.passes.specs.Passes.{pass_ops, result_of, Passed, pass_refused, written, pass_checked, pass_of, pass_by}
+use Rattle.passes.specs.Passes.{pass_ops, result_of, Written, Length, Refused, Passed, pass_refused, written, pass_checked, pass_of, pass_by}
 use Rattle.passes.specs.Ready.{class_in, ClassesOf, ReadyToPass}
 use Rattle.passes.proofs.Classes.{globals_first, classes_so}
 use Rattle.passes.proofs.Placing.{scan_laid, scan_ops, scan_first}
 use Rattle.passes.proofs.Result.{declarations_size, ops_size, concat_append, parts_size, kept_parts, result_of_lem, pass_answers}
-use Rattle.block.specs.declared.Verdict.TheVariants.{Accepted, Refused as CheckRefused}
-use Rattle.passes.specs.declared.Written.TheVariants.{Refused, Length}
+use Rattle.std.specs.Prelude.{Err}
+use Rattle.block.specs.Checks.{Verdict, Accepted}
+use Rattle.block.specs.declared.Refusal.{Refusal}
 use Rattle.ops.proofs.Document01.{lawful}
 
 -- an accepted block is its declarations and its ops
@@ -154,8 +154,8 @@ module _ {block places₀ base places labels : List ℕ} {start n globals ops : 
       classes_so of globals a.coded (λ v. globals_first row_of unread declared its.all_declared its.met v ∙ ap (ltb v) (sym a.globals_are))
       (λ v. c v ∙ ap (λ (m : ℕ). cond (ltb v m) (class_in base globals v) 2) (sym (classes_length declared ∙ a.variables)))
 
-  ready : (of : List ℕ) → ((v : ℕ) → get_or of v 2 ≡ cond (ltb v n) (class_in base globals v) 2) → ReadyToPass block places of start ops
-  ready of c =
+  pub ready_by : (of : List ℕ) → ((v : ℕ) → get_or of v 2 ≡ cond (ltb v n) (class_in base globals v) 2) → ReadyToPass block places of start ops
+  ready_by of c =
       let room : length ops_in ≤ length places₀ = omega (arith, a.held, a.count_is) in
       record {
         accepted = a.accepted;
@@ -168,23 +168,15 @@ module _ {block places₀ base places labels : List ℕ} {start n globals ops : 
         classes_are = classed of c;
       }
 
-  few : n ≤ 256
-  few = omega (arith, limits_fit.variables, a.few)
+  pub few_by : n ≤ 256
+  few_by = omega (arith, limits_fit.variables, a.few)
 
--- of an accepted block
-module _ {block places₀ base places labels : List ℕ} {start n globals ops : ℕ} where
-  pub ready_by : {rule place : ℕ} → Scanned row_of block places₀ base places labels rule place start n globals ops → rule ≡ 0 → (of : List ℕ)
-      → ((v : ℕ) → get_or of v 2 ≡ cond (ltb v n) (class_in base globals v) 2) → ReadyToPass block places of start ops
-  ready_by s e of c = ready (approve s e) of c
-
-  pub few_by : {rule place : ℕ} → Scanned row_of block places₀ base places labels rule place start n globals ops → rule ≡ 0 → n ≤ 256
-  few_by s e = few (approve s e)
-
-refused_pass : (block out : List ℕ) (number place : ℕ) → CheckRefused number place ≡ check_of block → pass_of block out ≡ pass_refused number place out
+-- of a refused block
+refused_pass : (block out : List ℕ) (refusal : Refusal) → ◌≡◌ {A = Verdict} (Err refusal) (check_of block) → pass_of block out ≡ pass_refused refusal.number refusal.place out
 unfolding pass_by pass_checked
-refused_pass block out number place e = ap (pass_checked (result_of document01 block) out) (sym e)
+refused_pass block out refusal e = ap (pass_checked (result_of document01 block) out) (sym e)
 
-pub pass_refuses : (block out : List ℕ) {number place : ℕ} → CheckRefused number place ≡ check_of block
-    → (Refused number place ≡ (pass_of block out).answer) × (out ≡ (pass_of block out).out)
-pass_refuses block out {number} {place} e =
-    let q = refused_pass block out number place e in (sym (ap (λ (p : Passed). p.answer) q), sym (ap (λ (p : Passed). p.out) q))
+pub pass_refuses : (block out : List ℕ) {refusal : Refusal} → ◌≡◌ {A = Verdict} (Err refusal) (check_of block)
+    → (◌≡◌ {A = Written} (Err refusal) (pass_of block out).answer) × (out ≡ (pass_of block out).out)
+pass_refuses block out {refusal} e =
+    let q = refused_pass block out refusal e in (sym (ap (λ (p : Passed). p.answer) q), sym (ap (λ (p : Passed). p.out) q))

@@ -8,8 +8,9 @@ use native.Mathlib.Omega.{arith}
 use native.Mathlib.Nat.{add-zero, zero-add, mod-eq_of_lt}
 use native.Mathlib.Numerals.{add-one}
 use lib.Dec.{ltb}
-use lib.ListN.{length, get_or, drop, length-append}
-use lib.Seq.{drop-cons}
+use lib.ListN.{length, get_or, take, drop, length-append}
+use lib.Seq.{drop-cons, length-take-le}
+use Rattle.std.proofs.lemmas.List.{get_or-take}
 use borrow.Author.Tests.{ltb-true, ltb-false, lt-ltb, le-ltb}
 use Rattle.theory.proofs.Sets.{tell}
 use Rattle.ops.specs.Rows.{body_length}
@@ -19,6 +20,7 @@ use Rattle.block.specs.Scan.{record_at, records_at, places_from, Stands}
 use Rattle.block.proofs.Places.{Standing, standing, span_of, records_from, places_at}
 use Rattle.block.proofs.Steps.{record_length}
 use Rattle.passes.specs.Laid.{ops_at, place_of, Laid}
+use Rattle.passes.specs.Ready.{ReadyToPass}
 
 module _ (b P : List ℕ) where
   pub ops_long : (i n : ℕ) → length (ops_at b P i n) ≡ n
@@ -63,6 +65,42 @@ module _ {b P : List ℕ} {ops i : ℕ} (l : Laid b P ops) (h : i < ops) where
 
   pub op_long : length (record_at row_of b (get_or P i 0)) ≡ suc (body_length row_of (get_or b (get_or P i 0) 0))
   op_long = record_length row_of b (get_or P i 0) op_inside (l.stands i h).whole
+
+-- the places of the ops alone
+module _ (b P : List ℕ) (ops : ℕ) where
+  first_place : (i : ℕ) → place_of b (take ops P) ops i ≡ place_of b P ops i
+  first_place i = go (tell (ltb i ops))
+    where
+      go : (ltb i ops ≡ true) ⊎ (ltb i ops ≡ false) → place_of b (take ops P) ops i ≡ place_of b P ops i
+      go (inl q) = rw q (get_or-take ops P i 0 (ltb-true i ops q))
+      go (inr q) = rw q
+
+  first_laid : Laid b P ops → Laid b (take ops P) ops
+  first_laid l =
+      record {
+        stands = λ i h. rw (get_or-take ops P i 0 h) (l.stands i h);
+        next_is = λ i h. rw (get_or-take ops P i 0 h) (first_place (i + 1) ∙ l.next_is i h);
+      }
+
+  first_ops : (i n : ℕ) → i + n ≤ ops → ops_at b (take ops P) i n ≡ ops_at b P i n
+  unfolding ops_at
+  first_ops i zero h = refl
+  first_ops i (suc n) h = ap₂ (λ (m : ℕ) (xs : List (List ℕ)). record_at row_of b m ∷ xs) (get_or-take ops P i 0 (omega arith)) (first_ops (suc i) n (omega arith))
+
+-- an accepted block has the places of its ops alone
+pub ready_first : {b P Q classes : List ℕ} {start ops : ℕ} → Q ≡ take ops P → ReadyToPass b P classes start ops → ReadyToPass b Q classes start (length Q)
+ready_first {b} {P} {Q} {classes} {start} {ops} q r =
+    let long : length (take ops P) ≡ ops = length-take-le ops P r.held in
+    rw (q, long) (record {
+      accepted = r.accepted;
+      start_is = r.start_is;
+      first_is = first_place b P ops 0 ∙ r.first_is;
+      laid = first_laid b P ops r.laid;
+      ops_are = first_ops b P ops 0 ops (omega arith) ∙ r.ops_are;
+      count_is = r.count_is;
+      held = omega (arith, long);
+      classes_are = r.classes_are;
+    })
 
 span_next : (j : ℕ) (os : List (List ℕ)) → j < length os → span_of (suc j) os ≡ span_of j os + length (get_or os j [])
 span_next j [] h = absurd (omega arith)

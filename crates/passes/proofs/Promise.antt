@@ -6,11 +6,9 @@ use lib.ListN.{length, take, drop}
 use lib.Seq.{take-append_seam, drop-append_seam}
 use Rattle.runs.specs.Runs.{Ran}
 use Rattle.passes.specs.Demand.{unstated_end, Alike, Demand3}
-use Rattle.passes.specs.Passes.{Passed, pass_of, Optimised}
+use Rattle.passes.specs.Passes.{Written, Length, Passed, pass_of, Optimised}
 use Rattle.passes.specs.Promise.{Wrote, Promised}
 use Rattle.passes.proofs.Demand.{demand_3}
-use Rattle.passes.specs.declared.Written.{Written}
-use Rattle.passes.specs.declared.Written.TheVariants.{Length}
 use Rattle.ops.specs.Kinds.{document01}
 
 -- a pass that answered, where the definition gives a length and that many bytes

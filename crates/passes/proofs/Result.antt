@@ -30,7 +30,7 @@ use Rattle.passes.specs.Passes.{pass_ops, result_of, pass_refused, written, pass
 use Rattle.block.specs.Rules.{start, globals_in, kept_in}
 use Rattle.block.proofs.Checker.{checker, declared_in, few_declared, few_ops}
 use Rattle.block.proofs.Cut.{whole, AllWhole, AllDeclared}
-use Rattle.block.specs.declared.Verdict.TheVariants.{Accepted}
+use Rattle.block.specs.Checks.{Accepted}
 use Rattle.block.specs.Checks.{check_by}
 
 pub globals_kept : (classes : List ℕ) (v : ℕ) → globals_in classes v ≡ true → kept_in classes v ≡ true

@@ -1,6 +1,6 @@
 -- Demand 3, of what the check, the run and the pass answer. Proved in proofs/Demand.antt. Assumes nothing.
 -- The words in quotation marks are the demand's, document 01's on what they mean, and request 04's.
-use Rattle.std.specs.Prelude.{ℕ, ◌≤◌, ◌≡◌, Bool, true, false, List, ◌++◌, length, drop}
+use Rattle.std.specs.Prelude.{ℕ, ◌≤◌, ◌≡◌, Bool, true, false, List, ◌++◌, length, drop, Ok, Err}
 use Rattle.theory.specs.Prune.{AllUsed, live_all}
 use Rattle.theory.specs.Fold.{nothing, base_rule, Still}
 use Rattle.memory.specs.declared.Reason.{Reason}
@@ -8,15 +8,13 @@ use Rattle.ops.specs.Ops.{tcg, Dialect}
 use Rattle.ops.specs.Kinds.{document01}
 use Rattle.ops.specs.Folds.{folding}
 use Rattle.ops.specs.Limits.{max_bytes}
-use Rattle.block.specs.declared.Verdict.TheVariants.{Accepted}
+use Rattle.block.specs.Checks.{Accepted}
 use Rattle.block.specs.Records.{records_of, declarations, ops_from, classes_of}
 use Rattle.block.specs.Rules.{globals_in, kept_in}
 use Rattle.block.specs.Checks.{check_by}
-use Rattle.runs.specs.declared.Ending.{Ending}
-use Rattle.runs.specs.declared.Ending.TheVariants.{Refused, Exit, Fault, NoResult}
-use Rattle.runs.specs.Runs.{Ran, fits, run_by}
-use Rattle.passes.specs.declared.Written.TheVariants.{Length}
-use Rattle.passes.specs.Passes.{result_of, pass_by}
+use Rattle.runs.specs.declared.Ending.TheVariants.{Exit, Fault, NoResult}
+use Rattle.runs.specs.Runs.{Answer, Ran, fits, run_by}
+use Rattle.passes.specs.Passes.{Length, result_of, pass_by}
 
 -- "A block is accepted if the check gives it no refusal."
 abbrev pub IsAccepted : Dialect → List ℕ → Type 0
@@ -31,18 +29,18 @@ abbrev pub Room : List ℕ → List ℕ → Type 0
 Room result out = length result ≤ length out
 
 -- "A run meets an op without a stated result exactly when it ends in that way."
-abbrev pub unstated_end : Ending → Bool
-unstated_end (Refused number place) = false
-unstated_end (Exit value count) = false
-unstated_end (Fault store address flags reason count) = false
-unstated_end (NoResult position count) = true
+abbrev pub unstated_end : Answer → Bool
+unstated_end (Err refusal) = false
+unstated_end (Ok (Exit value count)) = false
+unstated_end (Ok (Fault store address flags reason count)) = false
+unstated_end (Ok (NoResult position count)) = true
 
 -- "Same exit: the same value. Same fault: load or store alike, the same address and the same flags." "Demand 3's "same fault" includes it", the
 -- reason. In no more ops
-pub data SameEnd : Ending → Ending → Type 0 where
-  same_exit : {value m n : ℕ} → n ≤ m → SameEnd (Exit value m) (Exit value n)
+pub data SameEnd : Answer → Answer → Type 0 where
+  same_exit : {value m n : ℕ} → n ≤ m → SameEnd (Ok (Exit value m)) (Ok (Exit value n))
   same_fault : {store : Bool} {address flags : ℕ} {reason : Reason} {m n : ℕ} → n ≤ m
-      → SameEnd (Fault store address flags reason m) (Fault store address flags reason n)
+      → SameEnd (Ok (Fault store address flags reason m)) (Ok (Fault store address flags reason n))
 
 -- "Each block runs on its own copy of the same globals and memory; what the runs leave there is compared, temporaries are not.
 -- The numbers of ops compared are those that the runs answer."

@@ -1,23 +1,19 @@
 -- What fold knows and leaves. Assumes nothing.
-use Rattle.std.specs.Prelude.{◌≡◌, Bool, true, ◌&&◌, cond, List, [], ◌∷◌, ℕ, ◌<◌, get_or}
-use Rattle.std.proofs.Math.Option.{Option, none, some}
+use Rattle.std.specs.Prelude.{◌≡◌, Bool, true, ◌&&◌, cond, List, [], ◌∷◌, ℕ, ◌<◌, get_or, Option, None, Some, option_and_then}
 use Rattle.theory.specs.Machine.{inputs, computes, reads}
 use Rattle.theory.specs.Sets.{Vars}
-use Rattle.theory.specs.Fold.{Known, nothing, put, on, learned, fold, base_rule, bind_o, all_known}
+use Rattle.theory.specs.Fold.{Known, nothing, put, on, learned, fold, base_rule, all_known}
 use Rattle.ops.specs.Ops.{view_of, tcg}
 use Rattle.ops.specs.Fields.{row_at}
-use Rattle.ops.specs.Kinds.{document01}
+use Rattle.ops.specs.Kinds.{one, document01}
 use Rattle.ops.specs.Table.{row_of}
 use Rattle.ops.specs.Folds.{foldable_row, folding}
 use Rattle.block.specs.Scan.{record_at}
-use Rattle.runs.specs.Evaluates.{values_of}
 use Rattle.passes.specs.Laid.{ops_at, Constant, Leaves}
-use Rattle.word.specs.declared.Stated.{Stated}
-use Rattle.word.specs.declared.Stated.TheVariants.{Value, NoResult}
 
 -- the values that are known: those of the variables in the set
 abbrev pub known_of : Vars → List ℕ → Known ℕ
-known_of known values = λ v. cond (known v) (some (get_or values v 0)) none
+known_of known values = λ v. cond (known v) (Some (get_or values v 0)) None
 
 -- each of the variables is in the set
 abbrev pub every_in : List ℕ → Vars → Bool
@@ -26,25 +22,25 @@ every_in (x ∷ xs) l = l x && every_in xs l
 
 -- what an op that may fold states, where all its inputs are known
 abbrev pub stated_by : Known ℕ → List ℕ → Option (List ℕ)
-stated_by known o = cond (foldable_row (row_at row_of o)) (bind_o (computes (view_of document01 o)) (all_known (reads known (inputs (view_of document01 o))))) none
+stated_by known o = cond (foldable_row (row_at row_of o)) (option_and_then (computes (view_of document01 o)) (all_known (reads known (inputs (view_of document01 o))))) None
 
-pub record StatesKnown (block : List ℕ) (place : ℕ) (known : Vars) (values : List ℕ) (r : Stated) : Type 0 where
-  pub states_so : stated_by (known_of known values) (record_at row_of block place) ≡ values_of r
+pub record StatesKnown (block : List ℕ) (place : ℕ) (known : Vars) (values : List ℕ) (r : Option ℕ) : Type 0 where
+  pub states_so : stated_by (known_of known values) (record_at row_of block place) ≡ one r
 
 -- the op that fold leaves: the constant where a value is stated
-abbrev pub left_by : Stated → List ℕ → List ℕ
-left_by (Value x) o = (folding document01).const o x
-left_by NoResult o = o
+abbrev pub left_by : Option ℕ → List ℕ → List ℕ
+left_by (Some x) o = (folding document01).const o x
+left_by None o = o
 
 -- what is known after an op that stays as it is
 pub record Stays (block : List ℕ) (place : ℕ) (known : Vars) (values : List ℕ) (known' : Vars) (values' : List ℕ) : Type 0 where
   pub known_after : known_of known' values' ≡ learned (known_of known values) (view_of document01 (record_at row_of block place))
 
 -- fold at one op: what it leaves, and what is known after it
-pub record Folds (block : List ℕ) (place : ℕ) (known : Vars) (values : List ℕ) (known' : Vars) (values' : List ℕ) (r : Stated) : Type 0 where
+pub record Folds (block : List ℕ) (place : ℕ) (known : Vars) (values : List ℕ) (known' : Vars) (values' : List ℕ) (r : Option ℕ) : Type 0 where
   pub rule_so : base_rule (tcg document01) (folding document01) (known_of known values) (record_at row_of block place) ≡ put (left_by r (record_at row_of block place))
   pub known_so : known_of known' values' ≡ learned (known_of known values) (view_of document01 (left_by r (record_at row_of block place)))
-  pub constant_so : (x : ℕ) → r ≡ Value x → Constant block place x ((folding document01).const (record_at row_of block place) x)
+  pub constant_so : (x : ℕ) → r ≡ Some x → Constant block place x ((folding document01).const (record_at row_of block place) x)
 
 -- the ops that fold leaves
 abbrev pub folded_ops : List (List ℕ) → List (List ℕ)

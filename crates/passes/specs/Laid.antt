@@ -1,6 +1,5 @@
 -- Ops at places of a block, what fold leaves of them, and those that are kept. Assumes nothing.
-use Rattle.std.specs.Prelude.{◌≡◌, ℕ, zero, suc, ◌+◌, ◌<◌, cond, List, [], ◌∷◌, eqb, ltb, length, get_or}
-use Rattle.std.proofs.Math.Option.{some}
+use Rattle.std.specs.Prelude.{◌≡◌, ℕ, zero, suc, ◌+◌, ◌<◌, cond, List, [], ◌∷◌, eqb, ltb, length, get_or, Some}
 use Rattle.theory.specs.Machine.{calc}
 use Rattle.ops.specs.Rows.{body_length, role_of, computing}
 use Rattle.ops.specs.Ops.{view_of}
@@ -27,7 +26,7 @@ pub record Laid (block places : List ℕ) (ops : ℕ) : Type 0 where
 pub record Constant (block : List ℕ) (place value : ℕ) (op : List ℕ) : Type 0 where
   pub op_is : op ≡ (folding document01).const (record_at row_of block place) value
   pub role_is : role_of row_of (get_or block place 0) ≡ computing
-  pub view_is : view_of document01 op ≡ calc (get_or block (place + 1) 0 ∷ []) [] (λ ys. some (value ∷ []))
+  pub view_is : view_of document01 op ≡ calc (get_or block (place + 1) 0 ∷ []) [] (λ ys. Some (value ∷ []))
 
 -- what fold leaves of the op at a place, by its mark: 0, the op as it is; 1, a constant
 pub record Leaves (block : List ℕ) (place mark value : ℕ) (op : List ℕ) : Type 0 where

@@ -1,17 +1,13 @@
 -- The pass: its answer, and the bytes that it leaves in the output buffer. Assumes nothing.
-use Rattle.std.specs.Prelude.{ℕ, cond, ◌≡◌, List, ◌++◌, leb, length, drop}
+use Rattle.std.specs.Prelude.{ℕ, cond, ◌≡◌, List, ◌++◌, leb, length, drop, Ok, Err}
 use Rattle.theory.specs.Machine.{Prog}
 use Rattle.theory.specs.Fold.{base_rule, pass}
 use Rattle.ops.specs.Ops.{tcg, Dialect}
 use Rattle.ops.specs.Kinds.{document01}
 use Rattle.ops.specs.Folds.{folding}
-use Rattle.block.specs.declared.Verdict.{Verdict}
-use Rattle.block.specs.declared.Verdict.TheVariants.{Accepted, Refused as CheckRefused}
 use Rattle.block.specs.Records.{records_of, record_bytes, declarations, ops_from, classes_of}
 use Rattle.block.specs.Rules.{globals_in, kept_in}
-use Rattle.block.specs.Checks.{check_by}
-use Rattle.passes.specs.declared.Written.{Written}
-use Rattle.passes.specs.declared.Written.TheVariants.{Refused, Length}
+use Rattle.block.specs.Checks.{OrRefused, Verdict, check_by}
 
 -- the ops that fold and prune leave, of variables of these classes
 unfoldable pub pass_ops : (D : Dialect) → List ℕ → Prog (tcg D) → Prog (tcg D)
@@ -23,6 +19,16 @@ result_records D records = declarations records ++ pass_ops D (classes_of (decla
 
 unfoldable pub result_of : Dialect → List ℕ → List ℕ
 result_of D block = record_bytes (result_records D (records_of D.rows block))
+
+-- the pass's answer: the length of the result, or a refusal
+abbrev pub Written : Type 0
+Written = OrRefused ℕ
+
+abbrev pub Length : ℕ → Written
+Length n = Ok n
+
+abbrev pub Refused : ℕ → ℕ → Written
+Refused number place = Err (record { number = number; place = place })
 
 -- what the pass answers, and what it leaves in the lent buffer
 pub record Passed : Type 0 where
@@ -38,8 +44,8 @@ written result out = record { answer = Length (length result); out = result ++ d
 
 -- first the check's rules, then 12: "output buffer shorter than the result"
 unfoldable pub pass_checked : List ℕ → List ℕ → Verdict → Passed
-pass_checked result out (CheckRefused number place) = pass_refused number place out
-pass_checked result out Accepted = cond (leb (length result) (length out)) (written result out) (pass_refused 12 0 out)
+pass_checked result out (Err refusal) = pass_refused refusal.number refusal.place out
+pass_checked result out (Ok accepted) = cond (leb (length result) (length out)) (written result out) (pass_refused 12 0 out)
 
 unfoldable pub pass_by : Dialect → List ℕ → List ℕ → Passed
 pass_by D block out = pass_checked (result_of D block) out (check_by D.rows block)

@@ -11,14 +11,11 @@ use Rattle.ops.specs.Limits.{max_bytes}
 use Rattle.block.specs.Checks.{Checked}
 use Rattle.block.specs.Records.{records_of, declarations, ops_from, classes_of}
 use Rattle.block.specs.Rules.{globals_in, kept_in}
-use Rattle.runs.specs.Runs.{Run}
+use Rattle.runs.specs.Runs.{Answer, Run}
 use Rattle.passes.specs.Demand.{Fit, Room, unstated_end, SameEnd}
-use Rattle.passes.specs.Passes.{result_of, Optimised}
-use Rattle.block.specs.declared.Verdict.{Verdict}
-use Rattle.block.specs.declared.Verdict.TheVariants.{Accepted}
-use Rattle.runs.specs.declared.Ending.{Ending}
-use Rattle.passes.specs.declared.Written.{Written}
-use Rattle.passes.specs.declared.Written.TheVariants.{Length}
+use Rattle.passes.specs.Passes.{result_of, Written, Length, Optimised}
+use Rattle.block.specs.Checks.{Verdict}
+use Rattle.block.specs.Checks.{Accepted}
 
 -- the answer is the result's length, the result is the first bytes, and "bytes of the buffer after it stay as they were"
 pub record Wrote (size : ℕ) (result out : List ℕ) (answer : Written) (out' : List ℕ) : Type 0 where
@@ -37,7 +34,7 @@ pub record Promise (block out : List ℕ) (answer : Written) (out' : List ℕ) :
   -- "its result is accepted"
   pub accepted : (verdict : Verdict) → Checked result verdict → verdict ≡ Accepted
   -- "runs to the same exit or fault with the same globals and memory in no more ops (unless the source run meets an op without a stated result)"
-  pub alike : (globals memory : List ℕ) (ending ending' : Ending) (globals₁ memory₁ globals₂ memory₂ : List ℕ) → Fit document01 block globals memory
+  pub alike : (globals memory : List ℕ) (ending ending' : Answer) (globals₁ memory₁ globals₂ memory₂ : List ℕ) → Fit document01 block globals memory
       → Run block globals memory ending globals₁ memory₁ → Run result globals memory ending' globals₂ memory₂
       → unstated_end ending ≡ false → SameEnd ending ending' × (globals₂ ≡ globals₁) × (memory₂ ≡ memory₁)
   -- "nothing foldable and no dead pure op remains"

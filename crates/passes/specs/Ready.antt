@@ -4,7 +4,7 @@ use Rattle.block.specs.Checks.{check_of}
 use Rattle.block.specs.Records.{records_of, record_bytes, declarations, ops_from, classes_of}
 use Rattle.block.specs.Rules.{globals_in, kept_in}
 use Rattle.block.specs.Scan.{codes_in}
-use Rattle.block.specs.declared.Verdict.TheVariants.{Accepted}
+use Rattle.block.specs.Checks.{Accepted}
 use Rattle.ops.specs.Table.{row_of}
 use Rattle.passes.specs.Laid.{ops_at, place_of, Laid}
 use Rattle.passes.specs.Live.{Classed}

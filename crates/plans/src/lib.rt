@@ -1,8 +1,11 @@
 // The rank of each kind and the plan of each rank: what the fast test of an op goes by, worked out from its entry.
 #![tactic(auto)]
 
-ghost use Rattle.std.specs.Prelude.{◌≡◌, eqb, ltb, leb, get_or};
-ghost use Rattle.ops.specs.Plans.{rank_table, length_table, plan_at, length_in, out_ask_in, first_ask_in, second_ask_in, first_at_in, second_at_in, byte_at_in, byte_ask_in, more_in, test_as, straight_end, flow_rank, exit_rank, setting_rank, has_label};
+ghost use Rattle.std.specs.Prelude.{◌≡◌, ℕ, eqb, ltb, leb, get_or};
+ghost use Rattle.ops.specs.Table.{kind_table};
+ghost use Rattle.ops.specs.Plans.{rank_of, length_by, rank_table, length_table, plan_at, length_in, out_ask_in, first_ask_in, second_ask_in, first_at_in, second_at_in, byte_at_in, byte_ask_in, more_in, test_as, straight_end, flow_rank, exit_rank, setting_rank, has_label};
+
+use std::marker::Model;
 
 // The rank of each kind; kinds with the same entry have the same, and 255 is no op's. The table is made where the loop over the ops starts, and a byte for a kind is soon made.
 const RANKS: [u8; 256] = [
@@ -524,40 +527,71 @@ const LENGTHS: [u8; 256] = [
     15, // ff
 ];
 
-// The first rank of an op that directs the run.
+// The first rank of an op that directs the run. Ranks are numbered from the entries (ops/specs/Plans): the ends of their ranges are numbers.
 const FLOW: u8 = 26;
 
 // The rank of exit_tb.
-pub const EXIT: u8 = 28;
+const EXIT: u8 = 28;
 
-pub fn ranks() -> [u8; 256]
-    ensures { result ≡ rank_table }
-{
-    RANKS
+// The ranks, which a call makes once and lends.
+#[derive(Drop)]
+pub struct Ranks {
+    rows: [u8; 256],
+    ghost is_table: { rows ≡ rank_table },
 }
 
-pub fn rank(ranks: &[u8; 256], kind: u8) -> u8
+impl Ranks {
+    pub fn new() -> Ranks {
+        Ranks { rows: RANKS }
+    }
+
+    // The rank of a kind.
+    pub fn rank(&self, kind: u8) -> Rank
+        ensures { result ≡ rank_of (get_or kind_table kind 0) }
+    {
+        rank_in(&self.rows, kind)
+    }
+}
+
+// The rank of a kind in any table.
+pub fn rank_in(ranks: &[u8; 256], kind: u8) -> Rank
     ensures { result ≡ get_or ranks.now kind 0 }
 {
-    ranks[kind as usize]
+    Rank {
+        number: ranks[kind as usize],
+    }
 }
 
-pub fn lengths() -> [u8; 256]
-    ensures { result ≡ length_table }
-{
-    LENGTHS
+// The lengths, which a call makes once and lends.
+#[derive(Drop)]
+pub struct Lengths {
+    rows: [u8; 256],
+    ghost is_table: { rows ≡ length_table },
 }
 
+impl Lengths {
+    pub fn new() -> Lengths {
+        Lengths { rows: LENGTHS }
+    }
+
+    // The length of a kind's record.
+    pub fn record_length(&self, kind: u8) -> usize
+        ensures { result ≡ length_by (get_or kind_table kind 0) }
+    {
+        record_length(&self.rows, kind)
+    }
+}
+
+// The length of a kind's record in any table.
 pub fn record_length(lengths: &[u8; 256], kind: u8) -> usize
     ensures { result ≡ get_or lengths.now kind 0 }
 {
-    let of: &[u8] = lengths;
-    of[kind as usize] as usize
+    lengths[kind as usize] as usize
 }
 
 // The plan of a rank, in bits from the lowest: 4 for the record's length, 15 if it is no op; 4, 5 and 5 for what the output, the first and the second input ask; 2 and 2 for where
 // these inputs stand; 3 for where the byte stands that is tested, and 8 for its test, a bit for the number; 3 for what else is asked; 4 for the number of the test. As a `match` it is one load from constant memory.
-pub fn plan(rank: u8) -> u64
+fn plan_digits(rank: u8) -> u64
     ensures { result ≡ plan_at rank }
 {
     match rank {
@@ -596,98 +630,149 @@ pub fn plan(rank: u8) -> u64
     }
 }
 
-pub fn length(h: u64) -> usize
-    ensures { result ≡ length_in h }
-{
-    (h % 16) as usize
+// A kind's rank, seen as its number.
+#[derive(Clone, Copy)]
+pub struct Rank {
+    pub number: u8,
 }
 
-pub fn out_ask(h: u64) -> u32
-    ensures { result ≡ out_ask_in h }
-{
-    (h / 16 % 16) as u32
+impl Model for Rank {
+    ghost Value = { ℕ };
+
+    ghost view = { λ r. r.number };
+
+    ghost inverse = { λ n. record { number = n } };
 }
 
-pub fn first_ask(h: u64) -> u32
-    ensures { result ≡ first_ask_in h }
-{
-    (h / 256 % 32) as u32
+impl Rank {
+    // That of what is no op.
+    pub const NONE: Rank = Rank { number: 255 };
+
+    // Its plan.
+    pub fn plan(self) -> Plan
+        ensures { result ≡ plan_at self }
+    {
+        Plan {
+            digits: plan_digits(self.number),
+        }
+    }
+
+    // Nothing else is asked of the op, and it goes on with the next.
+    pub fn is_straight(self) -> bool
+        ensures { result ≡ ltb self straight_end }
+    {
+        self.number < 13
+    }
+
+    // It directs the run: it sets a label, jumps or leaves.
+    pub fn directs(self) -> bool
+        ensures { result ≡ leb flow_rank self }
+    {
+        FLOW <= self.number
+    }
+
+    // It ends the extended basic block.
+    pub fn closes(self) -> bool
+        ensures { result ≡ leb exit_rank self }
+    {
+        EXIT <= self.number
+    }
+
+    // It leaves the block: exit_tb.
+    pub fn exits(self) -> bool
+        ensures { result ≡ eqb self exit_rank }
+    {
+        self.number == EXIT
+    }
+
+    // It has a label.
+    pub fn has_label(self) -> bool
+        ensures { result ≡ has_label self }
+    {
+        (FLOW <= self.number) & (self.number != EXIT)
+    }
+
+    // It sets its label.
+    pub fn sets_label(self) -> bool
+        ensures { result ≡ eqb self setting_rank }
+    {
+        self.number == 30
+    }
 }
 
-pub fn second_ask(h: u64) -> u32
-    ensures { result ≡ second_ask_in h }
-{
-    (h / 8192 % 32) as u32
+// A plan, seen as the number that its digits make.
+#[derive(Clone, Copy)]
+pub struct Plan {
+    pub digits: u64,
 }
 
-pub fn first_at(h: u64) -> usize
-    ensures { result ≡ first_at_in h }
-{
-    (h / 262144 % 4) as usize
+impl Model for Plan {
+    ghost Value = { ℕ };
+
+    ghost view = { λ h. h.digits };
+
+    ghost inverse = { λ n. record { digits = n } };
 }
 
-pub fn second_at(h: u64) -> usize
-    ensures { result ≡ second_at_in h }
-{
-    (h / 1048576 % 4) as usize
-}
+impl Plan {
+    pub fn length(self) -> usize
+        ensures { result ≡ length_in self }
+    {
+        (self.digits % 16) as usize
+    }
 
-pub fn byte_at(h: u64) -> usize
-    ensures { result ≡ byte_at_in h }
-{
-    (h / 4194304 % 8) as usize
-}
+    pub fn out_ask(self) -> u32
+        ensures { result ≡ out_ask_in self }
+    {
+        (self.digits / 16 % 16) as u32
+    }
 
-pub fn byte_ask(h: u64) -> u32
-    ensures { result ≡ byte_ask_in h }
-{
-    (h / 33554432 % 256) as u32
-}
+    pub fn first_ask(self) -> u32
+        ensures { result ≡ first_ask_in self }
+    {
+        (self.digits / 256 % 32) as u32
+    }
 
-pub fn more(h: u64) -> u32
-    ensures { result ≡ more_in h }
-{
-    (h / 8589934592 % 8) as u32
-}
+    pub fn second_ask(self) -> u32
+        ensures { result ≡ second_ask_in self }
+    {
+        (self.digits / 8192 % 32) as u32
+    }
 
-// The number of the test of the bytes after the operands.
-pub fn test(h: u64) -> u32
-    ensures { result ≡ test_as h }
-{
-    (h / 68719476736 % 16) as u32
-}
+    pub fn first_at(self) -> usize
+        ensures { result ≡ first_at_in self }
+    {
+        (self.digits / 262144 % 4) as usize
+    }
 
-// Nothing else is asked of the op, and it goes on with the next.
-pub fn straight(rank: u8) -> bool
-    ensures { result ≡ ltb rank straight_end }
-{
-    rank < 13
-}
+    pub fn second_at(self) -> usize
+        ensures { result ≡ second_at_in self }
+    {
+        (self.digits / 1048576 % 4) as usize
+    }
 
-// It directs the run: it sets a label, jumps or leaves.
-pub fn directs(rank: u8) -> bool
-    ensures { result ≡ leb flow_rank rank }
-{
-    FLOW <= rank
-}
+    pub fn byte_at(self) -> usize
+        ensures { result ≡ byte_at_in self }
+    {
+        (self.digits / 4194304 % 8) as usize
+    }
 
-// It ends the extended basic block.
-pub fn closes(rank: u8) -> bool
-    ensures { result ≡ leb exit_rank rank }
-{
-    EXIT <= rank
-}
+    pub fn byte_ask(self) -> u32
+        ensures { result ≡ byte_ask_in self }
+    {
+        (self.digits / 33554432 % 256) as u32
+    }
 
-// It has a label.
-pub fn labelled(rank: u8) -> bool
-    ensures { result ≡ has_label rank }
-{
-    (FLOW <= rank) & (rank != EXIT)
-}
+    pub fn more(self) -> u32
+        ensures { result ≡ more_in self }
+    {
+        (self.digits / 8589934592 % 8) as u32
+    }
 
-// It sets its label.
-pub fn sets(rank: u8) -> bool
-    ensures { result ≡ eqb rank setting_rank }
-{
-    rank == 30
+    // The number of the test of the bytes after the operands.
+    pub fn test(self) -> u32
+        ensures { result ≡ test_as self }
+    {
+        (self.digits / 68719476736 % 16) as u32
+    }
 }

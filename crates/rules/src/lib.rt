@@ -1,4 +1,4 @@
-// The rules of one op, each by itself, and the first that it breaks. e is the entry of its kind.
+// The rules of one op, each by itself, and the first that it breaks.
 #![tactic(auto)]
 
 ghost use Rattle.std.specs.Prelude.{◌≡◌, true, false, not, ◌&&◌, ◌||◌, ◌+◌, ◌%◌, ◌≤◌, ◌<◌, eqb, length, get_or};
@@ -9,12 +9,13 @@ ghost use Rattle.ops.specs.Fields.{bytes_at};
 ghost use Rattle.ops.specs.Plans.{ask};
 ghost use Rattle.block.specs.Checks.{first_broken};
 ghost use Rattle.block.specs.Rules.{label_free, all_set};
-ghost use Rattle.block.specs.Scan.{codes_in, declared_all, meets, operands_fit, marked, numbered, op_tests, entry_rule};
+ghost use Rattle.block.specs.Scan.{codes_in, declared_all, meets, operands_fit, marked, numbered, op_tests, entry_rule, refusal_table};
 
 use immediates::{field_ok, no_flags_ok, position_ok, swap_flags_ok};
-use kinds::{body_length, is_jumping, is_known, is_setting, operand_count, rest, test, types};
+use kinds::Entry;
 use limits::{LABELS, is_label, op_fits};
 use memory::{byte_at, flags_ok, from_little_endian};
+use refusals::Refusals;
 
 pub mod refusals;
 
@@ -31,14 +32,9 @@ fn all_declared(block: &[u8], p: usize, count: usize, vars: &[u8; 256]) -> bool
     requires { p + count ≤ length block.now }
     ensures { result ≡ declared_all vars.now (bytes_at block.now p count) }
 {
-    let mut i = 0;
-    while i < count {
-        if code(vars, block[p + i]) % 16 == 15 {
-            return false;
-        }
-        i += 1;
-    }
-    true
+    block[p..p + count]
+        .iter()
+        .all(|v| code(vars, *v) % 16 != 15)
 }
 
 // Whether none of the bits that are asked for is in a variable's byte.
@@ -60,14 +56,12 @@ fn all_typed(block: &[u8], p: usize, count: usize, codes: u32, vars: &[u8; 256])
     requires { p + count ≤ length block.now }
     ensures { result ≡ operands_fit vars.now count codes (bytes_at block.now p count) }
 {
-    let mut i = 0;
     let mut rest = codes;
-    while i < count {
-        if !meets(type_ask(rest), code(vars, block[p + i])) {
+    for v in &block[p..p + count] {
+        if !meets(type_ask(rest), code(vars, *v)) {
             return false;
         }
-        i += 1;
-        rest = rest / 4;
+        rest /= 4;
     }
     true
 }
@@ -78,7 +72,8 @@ fn branch_ok(c: u8, l: u8) -> bool
     c <= 9 && is_label(l)
 }
 
-// Rule 6: the bytes that follow the operands, by the number of their test.
+// Rule 6: the bytes that follow the operands, by the number of their test. A `match`: each test takes other bytes.
+#[tactic(auto, unfolding(ops::specs::Rows::test_ok))]
 pub fn rest_ok(t: u32, bytes: &[u8]) -> bool
     ensures { result ≡ test_ok t bytes.now }
 {
@@ -101,18 +96,11 @@ pub fn rest_ok(t: u32, bytes: &[u8]) -> bool
     }
 }
 
-// The tests that refuse a byte, in a table of those of each.
-fn refused_by(refusals: &[u8; 256], x: u8) -> u8
-    ensures { result ≡ get_or refusals.now x 0 }
-{
-    refusals[x as usize]
-}
-
 // Whether none of the tests that are asked for, a bit each, refuses the byte.
-pub fn byte_ok(refusals: &[u8; 256], asked: u32, x: u8) -> bool
-    ensures { result ≡ eqb (bit_and (get_or refusals.now x 0) asked) 0 }
+pub fn byte_ok(refusals: &Refusals, asked: u32, x: u8) -> bool
+    ensures { result ≡ eqb (bit_and (get_or refusal_table x 0) asked) 0 }
 {
-    (refused_by(refusals, x) as u32 & asked) == 0
+    refusals.pass(asked, x)
 }
 
 // Whether a label is set.
@@ -127,12 +115,12 @@ pub fn is_set(labels: &[u16; LABELS], l: u8) -> bool
 }
 
 // Rule 7: the label of the op that starts at a place, its last byte, is not set yet.
-fn label_free(e: u32, block: &[u8], at: usize, labels: &[u16; LABELS]) -> bool
-    requires { at + (outs_in e + ins_in e + rest_in e) < length block.now }
-    ensures { result ≡ label_free (row_in e) (numbered labels.now) (get_or block.now (at + (outs_in e + ins_in e + rest_in e)) 0) }
+fn label_free(entry: Entry, block: &[u8], at: usize, labels: &[u16; LABELS]) -> bool
+    requires { at + (outs_in entry + ins_in entry + rest_in entry) < length block.now }
+    ensures { result ≡ label_free (row_in entry) (numbered labels.now) (get_or block.now (at + (outs_in entry + ins_in entry + rest_in entry)) 0) }
 {
-    if is_setting(e) | is_jumping(e) {
-        return !is_set(labels, block[at + body_length(e)]);
+    if entry.is_setting() | entry.is_jumping() {
+        return !is_set(labels, block[at + entry.body_length()]);
     }
     true
 }
@@ -144,74 +132,74 @@ fn settled(target: u8, number: u16) -> bool
     (target != 1) | (number != 0)
 }
 
-// Rule 7 at the end: each label that is jumped to is set.
+// Rule 7 at the end: each label that is jumped to is set. No way out early, so that the compiler makes vectors of it.
 pub fn all_set(targets: &[u8; LABELS], labels: &[u16; LABELS]) -> bool
     ensures { result ≡ all_set (marked targets.now) (numbered labels.now) label_count }
 {
     let mut all = true;
-    let mut i: usize = 0;
-    while i < LABELS {
-        all = settled(targets[i], labels[i]) & all;
-        i += 1;
+    for (target, number) in targets.iter().zip(labels.iter()) {
+        all &= settled(*target, *number);
     }
     all
 }
 
-// The rule from 9 on that it breaks, where the fast test fails: 8 if no other. e is the entry of its kind.
+// The rule from 9 on that it breaks, where the fast test fails: 8 if no other.
+#[tactic(auto, unfolding(block::specs::Checks::first_broken))]
 fn broken_rule(
-    e: u32,
+    entry: Entry,
     block: &[u8],
     at: usize,
     ops: usize,
     vars: &[u8; 256],
     labels: &[u16; LABELS],
 ) -> u8
-    requires { at + (outs_in e + ins_in e + rest_in e) < length block.now }
-    ensures { result ≡ first_broken (op_tests e block.now at ops vars.now labels.now false) }
+    requires { at + (outs_in entry + ins_in entry + rest_in entry) < length block.now }
+    ensures { result ≡ first_broken (op_tests entry block.now at ops vars.now labels.now false) }
 {
     if !op_fits(ops) {
         return 9;
     }
-    let count = operand_count(e);
+    let count = entry.operand_count();
     if !all_declared(block, at + 1, count, vars) {
         return 4;
     }
-    if !all_typed(block, at + 1, count, types(e), vars) {
+    if !all_typed(block, at + 1, count, entry.types(), vars) {
         return 5;
     }
     let p = at + 1 + count;
-    let end = p + rest(e);
-    if !rest_ok(test(e), &block[p..end]) {
+    let end = p + entry.rest();
+    if !rest_ok(entry.test(), &block[p..end]) {
         return 6;
     }
-    if !label_free(e, block, at, labels) {
+    if !label_free(entry, block, at, labels) {
         return 7;
     }
     8
 }
 
-// The rule that the record at a place breaks, after ops ops, where a test fails.
+// The rule that the record at a place breaks, after ops ops, where a test fails. A rule is its number, as document 01 and C name it.
+#[tactic(auto, unfolding(block::specs::Scan::entry_rule))]
 pub fn record_rule(
-    e: u32,
+    entry: Entry,
     block: &[u8],
     at: usize,
     ops: usize,
     vars: &[u8; 256],
     labels: &[u16; LABELS],
 ) -> u8
-    ensures { result ≡ entry_rule e block.now at ops vars.now labels.now false }
+    ensures { result ≡ entry_rule entry block.now at ops vars.now labels.now false }
 {
-    if !is_known(e) {
+    if !entry.is_known() {
         return 2;
     }
     if block.len() <= at {
         return 1;
     }
-    if block.len() - at <= body_length(e) {
+    if block.len() - at <= entry.body_length() {
         return 1;
     }
     if block[at] == 1 {
         return 3;
     }
-    broken_rule(e, block, at, ops, vars, labels)
+    broken_rule(entry, block, at, ops, vars, labels)
 }

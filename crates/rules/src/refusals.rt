@@ -1,7 +1,9 @@
-// Of each byte those of the tests up to 7 that refuse it, a bit for the number of each; test 0 refuses none, test 1 all, and no other takes a byte above 31.
-ghost use Rattle.std.specs.Prelude.{◌≡◌};
+// The tests that refuse a byte, as a table.
+ghost use Rattle.std.specs.Prelude.{◌≡◌, eqb, get_or};
+ghost use Rattle.std.specs.Int.Bits.{bit_and};
 ghost use Rattle.block.specs.Scan.{refusal_table};
 
+// Of each byte those of the tests up to 7 that refuse it, a bit for the number of each; test 0 refuses none, test 1 all, and no other takes a byte above 31.
 const REFUSALS: [u8; 256] = [
     0x02, // 00
     0x02, // 01
@@ -261,8 +263,29 @@ const REFUSALS: [u8; 256] = [
     0xfe, // ff
 ];
 
-pub fn table() -> [u8; 256]
-    ensures { result ≡ refusal_table }
+// The table, which a call makes once and lends.
+#[derive(Drop)]
+pub struct Refusals {
+    rows: [u8; 256],
+    ghost is_table: { rows ≡ refusal_table },
+}
+
+impl Refusals {
+    pub fn new() -> Refusals {
+        Refusals { rows: REFUSALS }
+    }
+
+    // Whether none of the tests that are asked for, a bit each, refuses the byte.
+    pub fn pass(&self, asked: u32, x: u8) -> bool
+        ensures { result ≡ eqb (bit_and (get_or refusal_table x 0) asked) 0 }
+    {
+        pass(&self.rows, asked, x)
+    }
+}
+
+// The same by any table.
+pub fn pass(refusals: &[u8; 256], asked: u32, x: u8) -> bool
+    ensures { result ≡ eqb (bit_and (get_or refusals.now x 0) asked) 0 }
 {
-    REFUSALS
+    (refusals[x as usize] as u32 & asked) == 0
 }

@@ -29,7 +29,7 @@ use Rattle.block.proofs.Parts.{parts}
 use Rattle.runs.specs.Runs.{entry, ops_run}
 use Rattle.runs.proofs.Roles.{named_is, is_label_lem, is_jump_lem, jump_low, jumping_only, other_label, stays_marked, unmarked}
 use Rattle.block.proofs.Checker.{op_ok, checker, declared_in}
-use Rattle.block.specs.declared.Verdict.TheVariants.{Accepted}
+use Rattle.block.specs.Checks.{Accepted}
 use Rattle.ops.proofs.Lawful.{Lawful}
 
 -- a label that is not set yet is found in what is left

@@ -2,16 +2,17 @@
 use mathlib.Core.Path.{◌≡◌, refl, sym, ap, ap₂, ◌∙◌}
 use mathlib.Core.Bool.{not, Bool, true, false, cond, ◌&&◌, ◌||◌, beq}
 use mathlib.Core.List.{List, [], ◌∷◌}
-use mathlib.Core.Logic.{◌⊎◌, inl, inr}
 use Prim.Native.Nat.{ℕ, zero, suc, ◌+◌, ◌%◌, ◌^◌, ◌≤◌, ◌<◌}
 use native.Mathlib.Omega.{arith}
 use lib.Dec.{eqb, ltb, leb}
 use lib.ListN.{length, get_or, drop, drop_of_length-le}
 use lib.Seq.{drop-cons}
-use borrow.Author.Tests.{ltb-true, ltb-false, lt-ltb, eq-eqb, ne_eqb}
+use borrow.Author.Tests.{lt-ltb, eq-eqb, ne_eqb}
 use native.Mathlib.Nat.{zero-add}
-use native.Mathlib.Numerals.{add-one}
-use Rattle.theory.proofs.Sets.{and_l, and_r, tell}
+use Rattle.std.specs.Bool.{Decides}
+use Rattle.std.specs.Prelude.{◌↔◌, IsTrue}
+use Rattle.std.proofs.lemmas.Bool.Decides.{same_from_decides}
+use Rattle.theory.proofs.Sets.{and_l, and_r, and_i}
 use Rattle.ops.specs.Limits.{max_memory}
 use Rattle.ops.specs.Rows.{bits_of, narrow_ok}
 use Rattle.runs.specs.Runs.{globals_fit}
@@ -26,39 +27,25 @@ get_d_any [] v d e h = absurd (omega arith)
 get_d_any (x ∷ xs) zero d e h = refl
 get_d_any (x ∷ xs) (suc v) d e h = get_d_any xs v d e (omega arith)
 
--- the globals from the i-th on decide the whole
-pub record FitFrom (base globals : List ℕ) (i : ℕ) : Type 0 where
-  pub left : codes_fit (drop i base) (drop i globals) ≡ codes_fit base globals
+-- each global fits the byte of its variable
+abbrev EachFits : List ℕ → List ℕ → Type 0
+EachFits base globals = (k : ℕ) → k < length base → k < length globals → IsTrue (code_fits (get_or base k 0) (get_or globals k 0))
 
-pub fit_start : (base globals : List ℕ) → FitFrom base globals 0
-fit_start base globals = record { left = refl }
+fits_at : (c g : ℕ) (cs gs : List ℕ) → IsTrue (code_fits c g) → EachFits cs gs → EachFits (c ∷ cs) (g ∷ gs)
+fits_at c g cs gs t f zero h l = t
+fits_at c g cs gs t f (suc k) h l = f k (omega arith) (omega arith)
 
-module _ {base globals : List ℕ} {i : ℕ} (f : FitFrom base globals i) (h : i < length globals) (long : i < length base) where
-  turn : (code_fits (get_or base i 0) (get_or globals i 0) && codes_fit (drop (suc i) base) (drop (suc i) globals)) ≡ codes_fit base globals
-  turn = sym (ap₂ codes_fit (drop-cons base i 0 long) (drop-cons globals i 0 h)) ∙ f.left
+fit_decides : (base globals : List ℕ) → Decides (codes_fit base globals) (EachFits base globals)
+fit_decides base [] = (λ t k h l. absurd (omega arith), λ f. refl)
+fit_decides [] (g ∷ gs) = (λ t k h l. absurd (omega arith), λ f. refl)
+fit_decides (c ∷ cs) (g ∷ gs) =
+    let d = fit_decides cs gs in (
+      λ t. fits_at c g cs gs (and_l (code_fits c g) (codes_fit cs gs) t) (d.0 (and_r (code_fits c g) (codes_fit cs gs) t)),
+      λ f. and_i (code_fits c g) (codes_fit cs gs) (f 0 (omega arith) (omega arith)) (d.1 (λ k h l. f (suc k) (omega arith) (omega arith))),
+    )
 
-  module _ {t : Bool} (e : t ≡ code_fits (get_or base i 0) (get_or globals i 0)) where
-    pub fit_next : t ≡ true → FitFrom base globals (i + 1)
-    fit_next q = rw (add-one i) (record { left = rw (sym e ∙ q) at turn })
-
-    pub fit_stops : t ≡ false → false ≡ codes_fit base globals
-    fit_stops q = rw (sym e ∙ q) at turn
-
--- the loop's test
-pub fit_more : (i m n : ℕ) → (ltb i m && ltb i n) ≡ true → (i < m) × (i < n)
-fit_more i m n h = (ltb-true i m (and_l (ltb i m) (ltb i n) h), ltb-true i n (and_r (ltb i m) (ltb i n) h))
-
--- no byte is left, or no global
-pub fit_end : {base globals : List ℕ} {i : ℕ} → FitFrom base globals i → (ltb i (length base) && ltb i (length globals)) ≡ false → true ≡ codes_fit base globals
-fit_end {base} {globals} {i} f h = go (tell (ltb i (length base))) ∙ f.left
-  where
-    none : (gs : List ℕ) → true ≡ codes_fit [] gs
-    none [] = refl
-    none (g ∷ gs) = refl
-
-    go : (ltb i (length base) ≡ true) ⊎ (ltb i (length base) ≡ false) → true ≡ codes_fit (drop i base) (drop i globals)
-    go (inl t) = sym (ap (codes_fit (drop i base)) (drop_of_length-le globals (ltb-false i (length globals) (rw t at h))))
-    go (inr t) = none (drop i globals) ∙ sym (ap (λ (cs : List ℕ). codes_fit cs (drop i globals)) (drop_of_length-le base (ltb-false i (length base) t)))
+pub fit_so : (base globals : List ℕ) (r : Bool) → (IsTrue r ↔ ((k : ℕ) → k < length base → k < length globals → IsTrue (code_fits (get_or base k 0) (get_or globals k 0)))) → r ≡ codes_fit base globals
+fit_so base globals r h = same_from_decides r (codes_fit base globals) h (fit_decides base globals)
 
 -- rule 11, test by test
 module _ (base : List ℕ) (declared : ℕ) (globals memory : List ℕ) where

@@ -1,7 +1,7 @@
 -- What the run's answers mean: a run of an accepted block ends by one of its ops, and its answer is that op's. Assumes nothing.
 use mathlib.Core.Path.{◌≡◌, refl, sym, ap, ap₂, subst}
 use mathlib.Core.Bool.{Bool, true, false, cond, false≢true, true≢false}
-use mathlib.Core.Option.{Option, none, some}
+use Rattle.std.specs.Prelude.{Option, None, Some}
 use mathlib.Core.List.{List, [], ◌∷◌}
 use mathlib.Core.Logic.{◌⊎◌, inl, inr}
 use Prim.Native.Nat.{ℕ, zero, suc, ◌+◌, ◌-◌, ◌<◌}
@@ -19,17 +19,15 @@ use Rattle.ops.specs.Ops.{Dialect, Fault, view_of, tcg}
 use Rattle.ops.proofs.Lawful.{Lawful}
 use Rattle.block.specs.Checks.{check_by}
 use Rattle.block.specs.Records.{records_of, declarations, ops_from}
-use Rattle.block.specs.declared.Verdict.TheVariants.{Accepted}
-use Rattle.runs.specs.Runs.{fits, entry, Ran, no_answer, answer_of, ops_run, run_ops, run_checked, run_by}
+use Rattle.block.specs.Checks.{Accepted}
+use Rattle.runs.specs.Runs.{fits, entry, Answer, Refused, Ran, no_answer, answer_of, ops_run, run_ops, run_checked, run_by}
 use Rattle.runs.specs.Meaning.{PathTaken, here, on, Answers, exits, faults as faulted, unstated as stated_none, Ended, OpsMean, RunsMean}
-use Rattle.runs.specs.declared.Ending.{Ending}
-use Rattle.runs.specs.declared.Ending.TheVariants.{Refused}
 use Rattle.runs.proofs.Ends.{run_ends}
 
 -- only a pure op that states nothing ends a run so
 module _ {Val Mem Out Flt : Type 0} (z : Val) (s : State Val Mem) where
   abbrev Nothing : View Val Mem Out Flt → Type 0
-  Nothing w = (pure w ≡ true) × (computes w (reads s.env (inputs w)) ≡ none)
+  Nothing w = (pure w ≡ true) × (computes w (reads s.env (inputs w)) ≡ None)
 
   sends : (y : Way Val Out) (xs : List Val) → sent {Mem = Mem} {Flt = Flt} y xs ≡ stops unstated → ⊥
   sends (to k) xs e = let q : ◌≡◌ {A = ℕ} 0 1 = cc in omega arith
@@ -38,9 +36,9 @@ module _ {Val Mem Out Flt : Type 0} (z : Val) (s : State Val Mem) where
   states_none : (w : View Val Mem Out Flt) → effect z w s ≡ stops unstated → Nothing w
   states_none (calc outs ins f) e = (refl, go (f (reads s.env ins)) e)
     where
-      go : (x : Option (List Val)) → after_calc {Out = Out} {Flt = Flt} z outs s x ≡ stops unstated → x ≡ none
-      go none q = refl
-      go (some vs) q = let q : ◌≡◌ {A = ℕ} 0 1 = cc in absurd (omega arith)
+      go : (x : Option (List Val)) → after_calc {Out = Out} {Flt = Flt} z outs s x ≡ stops unstated → x ≡ None
+      go None q = refl
+      go (Some vs) q = let q : ◌≡◌ {A = ℕ} 0 1 = cc in absurd (omega arith)
   states_none (access outs ins f) e = absurd (go (f s.mem (reads s.env ins)) e)
     where
       go : (x : Touch Val Mem Flt) → after_access {Out = Out} z outs s x ≡ stops unstated → ⊥
@@ -158,7 +156,7 @@ module _ (D : Dialect) (os : List (List ℕ)) (s : St (tcg D)) where
   abbrev r : Result (tcg D)
   r = ops_run D os s
 
-  abbrev answer : Ending
+  abbrev answer : Answer
   answer = answer_of r.end (length os - length r.left) r.count
 
   ended_so : proper r.end ≡ true → Ended D os s answer r.state
@@ -190,13 +188,13 @@ runs_mean {D} law block globals memory accepted fit =
     let ran : run_by D block globals memory ≡ run_ops D os globals memory = rw (accepted, fit) in
     record {
       left = (ops_run D os s).state;
-      ended = subst (λ (a : Ending). Ended D os s a (ops_run D os s).state) (sym (ap (λ (x : Ran). x.answer) ran)) (ended_so D os s (run_ends law block globals memory accepted));
+      ended = subst (λ (a : Answer). Ended D os s a (ops_run D os s).state) (sym (ap (λ (x : Ran). x.answer) ran)) (ended_so D os s (run_ends law block globals memory accepted));
       globals_left = ap (λ (x : Ran). x.globals) ran;
       memory_left = ap (λ (x : Ran). x.memory) ran;
     }
 
 -- the answer is never a refusal: none stands among what an op answers
-never : {D : Dialect} {op : List ℕ} {s : St (tcg D)} {position completed : ℕ} {answer : Ending} {number place : ℕ} → Answers D op s position completed answer → answer ≡ Refused number place → ⊥
+never : {D : Dialect} {op : List ℕ} {s : St (tcg D)} {position completed : ℕ} {answer : Answer} {number place : ℕ} → Answers D op s position completed answer → answer ≡ Refused number place → ⊥
 never (exits h) e = let q : ◌≡◌ {A = ℕ} 0 1 = cc in omega arith
 never (faulted h) e = let q : ◌≡◌ {A = ℕ} 0 1 = cc in omega arith
 never (stated_none h) e = let q : ◌≡◌ {A = ℕ} 0 1 = cc in omega arith

@@ -1,6 +1,7 @@
 -- What each op does to the values and the memory, as the step's parts find it. Assumes nothing.
 use mathlib.Core.Path.{◌≡◌, refl, sym, ap, ap₂, ◌∙◌, subst}
 use mathlib.Core.Bool.{Bool, true, false, cond}
+use Rattle.std.specs.Prelude.{Option, None, Some}
 use mathlib.Core.List.{List, [], ◌∷◌}
 use Prim.Native.Nat.{ℕ, zero, suc, ◌+◌, ◌%◌, ◌^◌, ◌<◌}
 use native.Mathlib.Omega.{arith}
@@ -13,7 +14,7 @@ use Rattle.memory.specs.Access.{access_at, loaded, stored}
 use Rattle.memory.specs.Answer.{access_width, loaded_by, left_by}
 use Rattle.memory.specs.Bytes.{low_first}
 use Rattle.ops.specs.Rows.{unknown, declares, sets_label, jumps_to, exits, number_of, bits_of, at, outs_in, ins_in, rest_in, body_length}
-use Rattle.ops.specs.Kinds.{document01}
+use Rattle.ops.specs.Kinds.{one, document01}
 use Rattle.ops.specs.Table.{kind_table, row_of}
 use Rattle.ops.specs.Rows.{role_of}
 use Rattle.ops.specs.Ops.{leave, Fault, view_of, tcg}
@@ -22,15 +23,11 @@ use Rattle.block.specs.Scan.{record_at, Stands}
 use Rattle.block.proofs.Views.{unknown_view, declare_view, label_view, jump_view, leave_view, pure_view_lem}
 use Rattle.ops.proofs.Entry.{Digits, digits}
 use Rattle.ops.proofs.Table.{same_number}
-use Rattle.runs.specs.Evaluates.{Computed, inputs_at, states_at, values_of}
+use Rattle.runs.specs.Evaluates.{Computed, inputs_at, states_at}
 use Rattle.runs.specs.Steps.{effect_of, after_state, Performs, PerformsAlone, next_at, place_or, branch_op, load_op, store_op, constant_op}
 use Rattle.memory.specs.declared.Reason.{Reason}
-use Rattle.memory.specs.declared.Access.{Access}
-use Rattle.memory.specs.declared.Access.TheVariants.{Served, Fails}
-use Rattle.memory.specs.declared.Loaded.{Loaded}
-use Rattle.memory.specs.declared.Loaded.TheVariants.{Value, Fault as LoadFault}
-use Rattle.word.specs.declared.Stated.{Stated}
-use Rattle.word.specs.declared.Stated.TheVariants.{Value as StatedValue, NoResult as StatedNone}
+use Rattle.std.specs.Prelude.{Result, Ok, Err, ⊤}
+use Rattle.memory.proofs.Faults.{served}
 use Rattle.runs.specs.declared.Outcome.{Outcome}
 use Rattle.runs.specs.declared.Outcome.TheVariants.{Falls, JumpsTo, Stops}
 use Rattle.runs.specs.declared.Stop.TheVariants.{Leaves, Faults, Unstated}
@@ -86,56 +83,56 @@ module _ (b : List ℕ) (env : ℕ → ℕ) (p : ℕ) (wide : Bool) {x y : ℕ} 
   branch_falls t = branches_so false (Falls (p + 5)) t (λ m. refl) refl
 
 -- loads
-load_value : (a : Access) {x y : ℕ} → loaded_by a y ≡ Value x → (a ≡ Served) × (y ≡ x)
-load_value Served e = (refl, cc)
-load_value (Fails reason) e = let z : ◌≡◌ {A = ℕ} 0 1 = cc in absurd (omega arith)
+load_value : (a : Result ⊤ Reason) {x y : ℕ} → loaded_by a y ≡ Ok x → (a ≡ served) × (y ≡ x)
+load_value (Ok u) e = (refl, cc)
+load_value (Err reason) e = let z : ◌≡◌ {A = ℕ} 0 1 = cc in absurd (omega arith)
 
-load_fails : (a : Access) (y : ℕ) {reason : Reason} → loaded_by a y ≡ LoadFault reason → a ≡ Fails reason
-load_fails Served y e = let z : ◌≡◌ {A = ℕ} 0 1 = cc in absurd (omega arith)
-load_fails (Fails why) y e = cc
+load_fails : (a : Result ⊤ Reason) (y : ℕ) {reason : Reason} → loaded_by a y ≡ Err reason → a ≡ Err reason
+load_fails (Ok u) y e = let z : ◌≡◌ {A = ℕ} 0 1 = cc in absurd (omega arith)
+load_fails (Err why) y e = cc
 
-module _ (b : List ℕ) (env : ℕ → ℕ) (memory : List ℕ) (p : ℕ) (wide : Bool) {q : ℕ} {r : Loaded} (eq : q ≡ env (at b (p + 2)))
+module _ (b : List ℕ) (env : ℕ → ℕ) (memory : List ℕ) (p : ℕ) (wide : Bool) {q : ℕ} {r : Result ℕ Reason} (eq : q ≡ env (at b (p + 2)))
     (e : r ≡ loaded_by (access_at (length memory) q (at b (p + 3))) (loaded (access_width wide) (at b (p + 3)) memory q)) where
-  loads_so : (a : Access) → access_at (length memory) q (at b (p + 3)) ≡ a
+  loads_so : (a : Result ⊤ Reason) → access_at (length memory) q (at b (p + 3)) ≡ a
       → effect 0 (load_op b p wide) (holding env memory)
       ≡ after_access {Out = ℕ} 0 (at b (p + 1) ∷ []) (holding env memory) (touched false q (at b (p + 3)) (gives (loaded (access_width wide) (at b (p + 3)) memory q ∷ []) memory) a)
   loads_so a h =
       ap (λ (x : ℕ). after_access {Out = ℕ} 0 (at b (p + 1) ∷ []) (holding env memory) (load_at (access_width wide) (at b (p + 3)) memory x)) (sym eq)
-      ∙ ap (λ (x : Access). after_access {Out = ℕ} 0 (at b (p + 1) ∷ []) (holding env memory) (touched false q (at b (p + 3)) (gives (loaded (access_width wide) (at b (p + 3)) memory q ∷ []) memory) x)) h
+      ∙ ap (λ (x : Result ⊤ Reason). after_access {Out = ℕ} 0 (at b (p + 1) ∷ []) (holding env memory) (touched false q (at b (p + 3)) (gives (loaded (access_width wide) (at b (p + 3)) memory q ∷ []) memory) x)) h
 
-  pub load_falls : {x : ℕ} {env' : ℕ → ℕ} → r ≡ Value x → upd env (at b (p + 1)) x ≡ env' → Performs (load_op b p wide) (p + 4) (holding env memory) (holding env' memory) (Falls (p + 4))
+  pub load_falls : {x : ℕ} {env' : ℕ → ℕ} → r ≡ Ok x → upd env (at b (p + 1)) x ≡ env' → Performs (load_op b p wide) (p + 4) (holding env memory) (holding env' memory) (Falls (p + 4))
   load_falls {x} {env'} t s =
       let v = load_value (access_at (length memory) q (at b (p + 3))) (sym e ∙ t) in
       falls_to (load_op b p wide) (p + 4) (holding env memory) (holding env' memory)
-      (loads_so Served v.0 ∙ ap (λ (y : ℕ). falls (holding (upd env (at b (p + 1)) y) memory)) v.1 ∙ ap (λ (f : ℕ → ℕ). falls (holding f memory)) s)
+      (loads_so served v.0 ∙ ap (λ (y : ℕ). falls (holding (upd env (at b (p + 1)) y) memory)) v.1 ∙ ap (λ (f : ℕ → ℕ). falls (holding f memory)) s)
 
-  pub loads_fault : {reason : Reason} → r ≡ LoadFault reason → Performs (load_op b p wide) (p + 4) (holding env memory) (holding env memory) (Stops (Faults false q (at b (p + 3)) reason))
+  pub loads_fault : {reason : Reason} → r ≡ Err reason → Performs (load_op b p wide) (p + 4) (holding env memory) (holding env memory) (Stops (Faults false q (at b (p + 3)) reason))
   loads_fault {reason} t =
       stays (load_op b p wide) (p + 4) (holding env memory) (Stops (Faults false q (at b (p + 3)) reason))
-      (loads_so (Fails reason) (load_fails (access_at (length memory) q (at b (p + 3))) (loaded (access_width wide) (at b (p + 3)) memory q) (sym e ∙ t)))
+      (loads_so (Err reason) (load_fails (access_at (length memory) q (at b (p + 3))) (loaded (access_width wide) (at b (p + 3)) memory q) (sym e ∙ t)))
       refl
 
 -- stores
-module _ (b : List ℕ) (env : ℕ → ℕ) (memory : List ℕ) (p : ℕ) {x q : ℕ} {memory' : List ℕ} {r : Access} (ex : x ≡ env (at b (p + 1))) (eq : q ≡ env (at b (p + 2)))
+module _ (b : List ℕ) (env : ℕ → ℕ) (memory : List ℕ) (p : ℕ) {x q : ℕ} {memory' : List ℕ} {r : Result ⊤ Reason} (ex : x ≡ env (at b (p + 1))) (eq : q ≡ env (at b (p + 2)))
     (e : (r ≡ access_at (length memory) q (at b (p + 3))) × (memory' ≡ left_by r memory (stored (at b (p + 3)) memory q x))) where
-  stores_so : (a : Access) → r ≡ a
+  stores_so : (a : Result ⊤ Reason) → r ≡ a
       → effect 0 (store_op b p) (holding env memory) ≡ after_access {Out = ℕ} 0 [] (holding env memory) (touched true q (at b (p + 3)) (gives [] (stored (at b (p + 3)) memory q x)) a)
   stores_so a h =
       ap₂ (λ (u v : ℕ). after_access {Out = ℕ} 0 [] (holding env memory) (store_at (at b (p + 3)) memory v u)) (sym ex) (sym eq)
-      ∙ ap (λ (y : Access). after_access {Out = ℕ} 0 [] (holding env memory) (touched true q (at b (p + 3)) (gives [] (stored (at b (p + 3)) memory q x)) y)) (sym e.0 ∙ h)
+      ∙ ap (λ (y : Result ⊤ Reason). after_access {Out = ℕ} 0 [] (holding env memory) (touched true q (at b (p + 3)) (gives [] (stored (at b (p + 3)) memory q x)) y)) (sym e.0 ∙ h)
 
-  left_so : (a : Access) → r ≡ a → left_by a memory (stored (at b (p + 3)) memory q x) ≡ memory'
-  left_so a h = sym (e.1 ∙ ap (λ (y : Access). left_by y memory (stored (at b (p + 3)) memory q x)) h)
+  left_so : (a : Result ⊤ Reason) → r ≡ a → left_by a memory (stored (at b (p + 3)) memory q x) ≡ memory'
+  left_so a h = sym (e.1 ∙ ap (λ (y : Result ⊤ Reason). left_by y memory (stored (at b (p + 3)) memory q x)) h)
 
-  pub store_falls : r ≡ Served → Performs (store_op b p) (p + 4) (holding env memory) (holding env memory') (Falls (p + 4))
+  pub store_falls : r ≡ served → Performs (store_op b p) (p + 4) (holding env memory) (holding env memory') (Falls (p + 4))
   store_falls t =
       falls_to (store_op b p) (p + 4) (holding env memory) (holding env memory')
-      (stores_so Served t ∙ ap (λ (m : List ℕ). falls (holding env m)) (left_so Served t))
+      (stores_so served t ∙ ap (λ (m : List ℕ). falls (holding env m)) (left_so served t))
 
-  pub stores_fault : {reason : Reason} → r ≡ Fails reason → Performs (store_op b p) (p + 4) (holding env memory) (holding env memory') (Stops (Faults true q (at b (p + 3)) reason))
+  pub stores_fault : {reason : Reason} → r ≡ Err reason → Performs (store_op b p) (p + 4) (holding env memory) (holding env memory') (Stops (Faults true q (at b (p + 3)) reason))
   stores_fault {reason} t =
-      subst (λ (m : List ℕ). Performs (store_op b p) (p + 4) (holding env memory) (holding env m) (Stops (Faults true q (at b (p + 3)) reason))) (left_so (Fails reason) t)
-      (stays (store_op b p) (p + 4) (holding env memory) (Stops (Faults true q (at b (p + 3)) reason)) (stores_so (Fails reason) t) refl)
+      subst (λ (m : List ℕ). Performs (store_op b p) (p + 4) (holding env memory) (holding env m) (Stops (Faults true q (at b (p + 3)) reason))) (left_so (Err reason) t)
+      (stays (store_op b p) (p + 4) (holding env memory) (Stops (Faults true q (at b (p + 3)) reason)) (stores_so (Err reason) t) refl)
 
 -- constants
 pub constant_falls : (b : List ℕ) (env env' : ℕ → ℕ) (p : ℕ) {x : ℕ} → x ≡ low_first b (p + 2) 8 → upd env (at b (p + 1)) x ≡ env'
@@ -155,29 +152,29 @@ body_next s {e} q h =
     omega (arith, h, d.body, ap (body_length row_of) s.its_kind)
 
 -- pure ops that read something
-module _ {b : List ℕ} {p k : ℕ} (c : Computed b p k) (env : ℕ → ℕ) (r : Stated) (e : states_at b p k (reads env (inputs_at b p k)) ≡ values_of r) where
-  acts : (m : List ℕ) → effect 0 (view_of document01 (record_at row_of b p)) (holding env m) ≡ after_calc 0 (at b (p + 1) ∷ []) (holding env m) (values_of r)
+module _ {b : List ℕ} {p k : ℕ} (c : Computed b p k) (env : ℕ → ℕ) (r : Option ℕ) (e : states_at b p k (reads env (inputs_at b p k)) ≡ one r) where
+  acts : (m : List ℕ) → effect 0 (view_of document01 (record_at row_of b p)) (holding env m) ≡ after_calc 0 (at b (p + 1) ∷ []) (holding env m) (one r)
   acts m =
       ap (λ (w : View ℕ (List ℕ) ℕ Fault). effect 0 w (holding env m)) (pure_view_lem c.stands c.role_is)
       ∙ ap (after_calc 0 (at b (p + 1) ∷ []) (holding env m)) e
 
-  pub compute_falls : {x e n : ℕ} {env' : ℕ → ℕ} → r ≡ StatedValue x → upd env (at b (p + 1)) x ≡ env' → e ≡ get_or kind_table k 0 → n ≡ outs_in e + ins_in e + rest_in e
+  pub compute_falls : {x e n : ℕ} {env' : ℕ → ℕ} → r ≡ Some x → upd env (at b (p + 1)) x ≡ env' → e ≡ get_or kind_table k 0 → n ≡ outs_in e + ins_in e + rest_in e
       → PerformsAlone (view_of document01 (record_at row_of b p)) (next_at b p) env env' (Falls (p + 1 + n))
   compute_falls {x} {e} {n} {env'} t s q h =
       subst (λ (j : ℕ). PerformsAlone (view_of document01 (record_at row_of b p)) (next_at b p) env env' (Falls j)) (sym (body_next c.stands q h))
       (record {
         under = λ m.
             falls_to (view_of document01 (record_at row_of b p)) (next_at b p) (holding env m) (holding env' m)
-            (acts m ∙ ap (λ (o : Stated). after_calc 0 (at b (p + 1) ∷ []) (holding env m) (values_of o)) t
+            (acts m ∙ ap (λ (o : Option ℕ). after_calc 0 (at b (p + 1) ∷ []) (holding env m) (one o)) t
             ∙ ap (λ (v : ℕ → ℕ). falls (record { env = v; mem = m })) s);
       })
 
-  pub compute_unstated : r ≡ StatedNone → PerformsAlone (view_of document01 (record_at row_of b p)) (next_at b p) env env (Stops Unstated)
+  pub compute_unstated : r ≡ None → PerformsAlone (view_of document01 (record_at row_of b p)) (next_at b p) env env (Stops Unstated)
   compute_unstated t =
       record {
         under = λ m.
             stays (view_of document01 (record_at row_of b p)) (next_at b p) (holding env m) (Stops Unstated)
-            (acts m ∙ ap (λ (o : Stated). after_calc 0 (at b (p + 1) ∷ []) (holding env m) (values_of o)) t)
+            (acts m ∙ ap (λ (o : Option ℕ). after_calc 0 (at b (p + 1) ∷ []) (holding env m) (one o)) t)
             refl;
       }
 

@@ -14,24 +14,24 @@ use Rattle.ops.specs.Ops.{tcg}
 use Rattle.ops.specs.Kinds.{document01}
 use Rattle.ops.specs.Table.{row_of}
 use Rattle.block.specs.Records.{records_of, declarations, ops_from, classes_of, global_count}
-use Rattle.block.specs.Scan.{Approved, Scanned}
+use Rattle.std.specs.Prelude.{Ok, Err}
+use Rattle.block.specs.declared.Refusal.{Refusal}
+use Rattle.block.specs.Scan.{Approved, Rejected}
 use Rattle.block.proofs.Declaring.{classes_length, types_length}
-use Rattle.block.proofs.Scanned.{refuse_by, approve}
 use Rattle.runs.proofs.Lending.{codes_fit_lem}
 use Rattle.runs.proofs.Variables.{lent_env, globals_left}
-use Rattle.runs.specs.Runs.{fits, values_from, ran_as, answer_of, ran_of, ops_run, run_ops, run_refused, run_checked, run_of, run_by}
+use Rattle.runs.specs.Runs.{fits, values_from, Refused, ran_as, answer_of, ran_of, ops_run, run_ops, run_refused, run_checked, run_of, run_by}
 use Rattle.runs.specs.Steps.{state_of, ReadyToRun, Executed, lent_ok}
 use Rattle.runs.specs.declared.Ending.{Ending}
-use Rattle.runs.specs.declared.Ending.TheVariants.{Refused}
 
 -- the ops' run, on the lent globals and temporaries that start at zero
 pub ops_ran : {b : List ℕ} {ending : Ending} (globals temps memory globals' temps' memory' : List ℕ) → temps ≡ replicate 256 0 → length globals' ≡ length globals
-    → Executed b (state_of globals temps memory) (state_of globals' temps' memory') ending → ran_as ending globals' memory' ≡ run_ops document01 (ops_from (records_of row_of b)) globals memory
+    → Executed b (state_of globals temps memory) (state_of globals' temps' memory') ending → ran_as (Ok ending) globals' memory' ≡ run_ops document01 (ops_from (records_of row_of b)) globals memory
 unfolding run_ops
 ops_ran {b} {ending} globals temps memory globals' temps' memory' e n x =
     let os = ops_from (records_of row_of b) in
     let r : Result (tcg document01) = ops_run document01 os (state_of globals temps memory) in
-    let a : ending ≡ answer_of r.end (length os - length r.left) r.count = x.answers in
+    let a : Ok ending ≡ answer_of r.end (length os - length r.left) r.count = x.answers in
     let c : globals' ≡ values_from r.state.env 0 (length globals) = globals_left globals' temps' (length globals) n ∙ ap (λ (s : St (tcg document01)). values_from s.env 0 (length globals)) x.state_is in
     let m : memory' ≡ r.state.mem = ap (λ (s : St (tcg document01)). s.mem) x.state_is in
     (λ i. ran_as (a i) (c i) (m i))
@@ -46,47 +46,41 @@ global_few (c ∷ cs) = go (eqb c 0) (global_few cs)
     go true h = omega arith
     go false h = omega arith
 
-module _ {b places₀ base places labels : List ℕ} {rule place start n globals ops : ℕ} (s : Scanned row_of b places₀ base places labels rule place start n globals ops) where
-  -- a refusal
-  pub refused_ran : (rule ≡ 0 → ⊥) → (lent memory : List ℕ) → ran_as (Refused rule place) lent memory ≡ run_of b lent memory
-  unfolding run_by run_checked
-  refused_ran z lent memory = ap (run_checked document01 (records_of row_of b) lent memory) (refuse_by s z)
+-- a refusal
+pub refused_ran : {b places₀ base places labels : List ℕ} {refusal : Refusal} → Rejected row_of b places₀ base places labels refusal → (lent memory : List ℕ)
+    → ran_as (Err refusal) lent memory ≡ run_of b lent memory
+unfolding run_by run_checked
+refused_ran {b} s lent memory = ap (run_checked document01 (records_of row_of b) lent memory) s.scanned.answers
 
-  module _ (z : rule ≡ 0) where
-    approved_by : Approved row_of b places₀ base places labels start n globals ops
-    approved_by = approve s z
+module _ {b places₀ base places labels : List ℕ} {start n globals ops : ℕ} (a : Approved row_of b places₀ base places labels start n globals ops) where
+  abbrev declared : List (List ℕ)
+  declared = declarations (records_of row_of b)
 
-    abbrev declared : List (List ℕ)
-    declared = declarations (records_of row_of b)
+  pub ready_by : ReadyToRun b places labels start ops
+  ready_by = record { places₀ = places₀; base = base; n = n; globals = globals; approved = a }
 
-    pub ready_by : ReadyToRun b places labels start ops
-    ready_by = record { places₀ = places₀; base = base; n = n; globals = globals; approved = approved_by }
+  module _ (lent memory : List ℕ) {t : Bool} (e : t ≡ lent_ok base globals lent memory) where
+    -- as many are lent as are declared, or rule 11 is broken already
+    fits_so : fits declared lent memory ≡ lent_ok base globals lent memory
+    unfolding fits
+    fits_so = go (tell (eqb (length lent) globals))
+      where
+        go : (eqb (length lent) globals ≡ true) ⊎ (eqb (length lent) globals ≡ false) → fits declared lent memory ≡ lent_ok base globals lent memory
+        go (inr x) = rw (sym a.globals_are, x)
+        go (inl x) =
+            let few : length lent ≤ length (classes_of declared) = omega (arith, eqb-true (length lent) globals x, a.globals_are, global_few (classes_of declared)) in
+            let c = codes_fit_lem lent a.coded few (omega (arith, classes_length declared, types_length declared)) (omega (arith, classes_length declared, a.variables, a.few, a.long_base)) in
+            rw (sym a.globals_are, c)
 
-    module _ (lent memory : List ℕ) {t : Bool} (e : t ≡ lent_ok base globals lent memory) where
-      -- as many are lent as are declared, or rule 11 is broken already
-      fits_so : fits declared lent memory ≡ lent_ok base globals lent memory
-      unfolding fits
-      fits_so = go (tell (eqb (length lent) globals))
-        where
-          a : Approved row_of b places₀ base places labels start n globals ops
-          a = approved_by
+    choice : run_of b lent memory ≡ cond t (run_ops document01 (ops_from (records_of row_of b)) lent memory) (run_refused 11 0 lent memory)
+    unfolding run_by run_checked
+    choice =
+        ap (run_checked document01 (records_of row_of b) lent memory) a.accepted
+        ∙ ap (λ (x : Bool). cond x (run_ops document01 (ops_from (records_of row_of b)) lent memory) (run_refused 11 0 lent memory)) (fits_so ∙ sym e)
 
-          go : (eqb (length lent) globals ≡ true) ⊎ (eqb (length lent) globals ≡ false) → fits declared lent memory ≡ lent_ok base globals lent memory
-          go (inr x) = rw (sym a.globals_are, x)
-          go (inl x) =
-              let few : length lent ≤ length (classes_of declared) = omega (arith, eqb-true (length lent) globals x, a.globals_are, global_few (classes_of declared)) in
-              let c = codes_fit_lem lent a.coded few (omega (arith, classes_length declared, types_length declared)) (omega (arith, classes_length declared, a.variables, a.few, a.long_base)) in
-              rw (sym a.globals_are, c)
+    -- rule 11
+    pub unlent_ran : t ≡ false → ran_as (Refused 11 0) lent memory ≡ run_of b lent memory
+    unlent_ran f = sym (choice ∙ rw f)
 
-      choice : run_of b lent memory ≡ cond t (run_ops document01 (ops_from (records_of row_of b)) lent memory) (run_refused 11 0 lent memory)
-      unfolding run_by run_checked
-      choice =
-          ap (run_checked document01 (records_of row_of b) lent memory) approved_by.accepted
-          ∙ ap (λ (x : Bool). cond x (run_ops document01 (ops_from (records_of row_of b)) lent memory) (run_refused 11 0 lent memory)) (fits_so ∙ sym e)
-
-      -- rule 11
-      pub unlent_ran : t ≡ false → ran_as (Refused 11 0) lent memory ≡ run_of b lent memory
-      unlent_ran f = sym (choice ∙ rw f)
-
-      pub accepted_ran : t ≡ true → run_ops document01 (ops_from (records_of row_of b)) lent memory ≡ run_of b lent memory
-      accepted_ran f = sym (choice ∙ rw f)
+    pub accepted_ran : t ≡ true → run_ops document01 (ops_from (records_of row_of b)) lent memory ≡ run_of b lent memory
+    accepted_ran f = sym (choice ∙ rw f)

@@ -1,7 +1,7 @@
 -- Roles by their numbers, and the labels that ops set and jump to. Assumes nothing.
 use mathlib.Core.Path.{◌≡◌, refl, sym, ap, ◌∙◌, subst}
 use mathlib.Core.Bool.{Bool, true, false, cond, ◌||◌, false≢true, true≢false}
-use mathlib.Core.Option.{none, some}
+use Rattle.std.specs.Prelude.{None, Some}
 use mathlib.Core.List.{List}
 use Prim.Native.Nat.{ℕ, ◌<◌}
 use lib.Dec.{eqb}
@@ -31,7 +31,7 @@ role_by r {e} k q m n = let d : Digits row_of e k = digits kind_table q in ap (�
 
 -- the label m, where there is one, is k
 abbrev pub named : Bool → ℕ → ℕ → Bool
-named x m k = one_of k (cond x (some m) none)
+named x m k = one_of k (cond x (Some m) None)
 
 pub named_is : (x : Bool) (m k : ℕ) → named x m k ≡ true → (x ≡ true) × (m ≡ k)
 named_is true m k h = (refl, eqb-true m k h)

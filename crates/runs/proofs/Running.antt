@@ -32,6 +32,7 @@ use Rattle.ops.specs.Limits.{max_ops, label_count}
 use Rattle.ops.proofs.Bounds.{limits_fit}
 use Rattle.block.proofs.Checker.{checker, declared_in, few_ops}
 use Rattle.block.specs.Rules.{start as seen_first}
+use Rattle.std.specs.Prelude.{Ok}
 use Rattle.runs.specs.declared.Ending.{Ending}
 use Rattle.runs.specs.declared.Ending.TheVariants.{NoResult}
 use Rattle.runs.specs.declared.Outcome.{Outcome}
@@ -150,7 +151,7 @@ module _ {b : List ℕ} {s₀ s : St (tcg document01)} {op place count : ℕ} (u
     counts q = let e : count + suc q.count ≡ count + 1 + q.count = omega arith in ap (λ (n : ℕ). record { end = q.end; state = q.state; count = n; left = q.left }) e
 
     -- the op that ends the run
-    pub run_stops : {e : Stop} → o ≡ Stops e → {ending : Ending} → ending ≡ answer_of (end_of e) op (count + cost (end_of e)) → Executed b s₀ s' ending
+    pub run_stops : {e : Stop} → o ≡ Stops e → {ending : Ending} → Ok ending ≡ answer_of (end_of e) op (count + cost (end_of e)) → Executed b s₀ s' ending
     run_stops {e} k a =
         let q : effect_of o s' ≡ stops (end_of e) = ap (λ (x : Outcome). effect_of x s') k in
         let t : ops_run document01 (ops_of b) s₀ ≡ record { end = end_of e; state = s; count = count + cost (end_of e); left = drop op (ops_of b) } =
@@ -224,7 +225,7 @@ module _ {b : List ℕ} {s₀ s : St (tcg document01)} {places labels : List ℕ
     so : {x : Outcome} → o ≡ x → Performs (view_of document01 (record_at row_of b place)) (next_at b place) s s' x
     so e = subst (Performs (view_of document01 (record_at row_of b place)) (next_at b place) s s') e p
 
-    pub stops_now : {e : Stop} → o ≡ Stops e → {ending : Ending} → ending ≡ answer_of (end_of e) op (count + cost (end_of e)) → Executed b s₀ s' ending
+    pub stops_now : {e : Stop} → o ≡ Stops e → {ending : Ending} → Ok ending ≡ answer_of (end_of e) op (count + cost (end_of e)) → Executed b s₀ s' ending
     stops_now e a = run_stops t.running p e a
 
     pub falls_on : {next : ℕ} → o ≡ Falls next → {op' place' : ℕ} → op' ≡ op + 1 → place' ≡ next → (op < op') × Running b s₀ s' op' place' (count + 1)
@@ -254,5 +255,5 @@ module _ {b : List ℕ} {s₀ s : St (tcg document01)} {places labels : List ℕ
 pub ended_so : (op count : ℕ) {s t : Stop} → s ≡ t → answer_of (end_of t) op (count + cost (end_of t)) ≡ answer_of (end_of s) op (count + cost (end_of s))
 ended_so op count e = sym (ap (λ (s : Stop). answer_of (end_of s) op (count + cost (end_of s))) e)
 
-pub ended_uncounted : (op count : ℕ) {s : Stop} → s ≡ Unstated → NoResult op count ≡ answer_of (end_of s) op (count + cost (end_of s))
-ended_uncounted op count e = ap (NoResult op) (sym (add-zero count)) ∙ ended_so op count e
+pub ended_uncounted : (op count : ℕ) {s : Stop} → s ≡ Unstated → Ok (NoResult op count) ≡ answer_of (end_of s) op (count + cost (end_of s))
+ended_uncounted op count e = ap (λ (n : ℕ). Ok (NoResult op n)) (sym (add-zero count)) ∙ ended_so op count e

@@ -1,6 +1,5 @@
 -- What a pure op states of its inputs, where it stands in a block. Assumes nothing.
-use Rattle.std.specs.Prelude.{◌≡◌, cond, List, [], ◌∷◌, ℕ, ◌+◌, ◌≤◌, ◌<◌, ltb, length, get_or, take, drop}
-use Rattle.std.proofs.Math.Option.{Option, none, some}
+use Rattle.std.specs.Prelude.{◌≡◌, cond, List, ℕ, ◌+◌, ◌≤◌, ◌<◌, ltb, length, get_or, take, drop, Option}
 use Rattle.ops.specs.Rows.{computing}
 use Rattle.ops.specs.Kinds.{document01}
 use Rattle.ops.specs.Table.{row_of}
@@ -8,8 +7,6 @@ use Rattle.ops.specs.Rows.{role_of, operand_count}
 use Rattle.ops.specs.Ops.{eval_of}
 use Rattle.ops.specs.Fields.{bytes_at}
 use Rattle.block.specs.Scan.{Stands, SetAt}
-use Rattle.word.specs.declared.Stated.{Stated}
-use Rattle.word.specs.declared.Stated.TheVariants.{Value, NoResult}
 
 -- a pure op that reads something stands at the place
 pub record Computed (block : List ℕ) (place kind : ℕ) : Type 0 where
@@ -22,10 +19,6 @@ inputs_at block place kind = bytes_at block (place + 2) (length (row_of kind).in
 
 abbrev pub states_at : List ℕ → ℕ → ℕ → List ℕ → Option (List ℕ)
 states_at block place kind = eval_of document01 kind (take (row_of kind).rest (drop (place + (1 + operand_count row_of kind)) block))
-
-abbrev pub values_of : Stated → Option (List ℕ)
-values_of (Value x) = some (x ∷ [])
-values_of NoResult = none
 
 -- what the variables hold: the first are the globals, as many as are lent; the others are temporaries of either class
 unfoldable pub env_of : List ℕ → List ℕ → ℕ → ℕ

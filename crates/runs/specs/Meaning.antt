@@ -1,14 +1,12 @@
 -- What the run's answers mean, for readers. Proved in proofs/Meaning.antt. Assumes nothing.
-use Rattle.std.specs.Prelude.{◌≡◌, Bool, true, List, [], ℕ, suc, ◌-◌, ◌<◌, ◌⊎◌, length, get_or, drop}
-use Rattle.std.proofs.Math.Option.{none}
+use Rattle.std.specs.Prelude.{◌≡◌, Bool, true, List, [], ℕ, suc, ◌-◌, ◌<◌, ◌⊎◌, length, get_or, drop, None, Ok}
 use Rattle.theory.specs.Machine.{exit, fault, stops, inputs, computes, pure, reads, effect, St, goes, step}
 use Rattle.memory.specs.declared.Reason.{Reason}
 use Rattle.ops.specs.Ops.{Dialect, view_of, tcg, fault_of}
 use Rattle.block.specs.Checks.{check_by}
 use Rattle.block.specs.Records.{records_of, declarations, ops_from}
-use Rattle.block.specs.declared.Verdict.TheVariants.{Accepted}
-use Rattle.runs.specs.Runs.{fits, entry, values_from, no_answer, answer_of, ops_run, run_by}
-use Rattle.runs.specs.declared.Ending.{Ending}
+use Rattle.block.specs.Checks.{Accepted}
+use Rattle.runs.specs.Runs.{fits, entry, values_from, Answer, no_answer, answer_of, ops_run, run_by}
 use Rattle.runs.specs.declared.Ending.TheVariants.{Exit, Fault, NoResult}
 
 -- so many ops, completed one after the other "along the path taken", lead from the ops r and the state s to the ops r' and the state s'
@@ -19,20 +17,20 @@ pub data PathTaken (D : Dialect) (ops : List (List ℕ)) : ℕ → List (List �
 -- the op is pure and states nothing of the values that its inputs have
 pub record StatesNothing (D : Dialect) (op : List ℕ) (s : St (tcg D)) : Type 0 where
   pub op_pure : pure (view_of D op) ≡ true
-  pub none_stated : computes (view_of D op) (reads s.env (inputs (view_of D op))) ≡ none
+  pub none_stated : computes (view_of D op) (reads s.env (inputs (view_of D op))) ≡ None
 
 -- what the op at a position answers in a state, after so many completed ops: it exits with this value; it faults with "load or store, address
 -- and flags", and the reason; or it states nothing. It counts: "the op that exits or faults does, and the op without a result does not". No op
 -- answers a refusal
-pub data Answers (D : Dialect) (op : List ℕ) (s : St (tcg D)) (position completed : ℕ) : Ending → Type 0 where
-  exits : {value : ℕ} → effect 0 (view_of D op) s ≡ stops (exit value) → Answers D op s position completed (Exit value (suc completed))
+pub data Answers (D : Dialect) (op : List ℕ) (s : St (tcg D)) (position completed : ℕ) : Answer → Type 0 where
+  exits : {value : ℕ} → effect 0 (view_of D op) s ≡ stops (exit value) → Answers D op s position completed (Ok (Exit value (suc completed)))
   faults : {store : Bool} {address flags : ℕ} {reason : Reason} → effect 0 (view_of D op) s ≡ stops (fault (fault_of store address flags reason))
-      → Answers D op s position completed (Fault store address flags reason (suc completed))
-  unstated : StatesNothing D op s → Answers D op s position completed (NoResult position completed)
+      → Answers D op s position completed (Ok (Fault store address flags reason (suc completed)))
+  unstated : StatesNothing D op s → Answers D op s position completed (Ok (NoResult position completed))
 
 -- a run of these ops from the state s on: the op at a position, "counted from 0 among the ops", ended it, in the state s' that the completed
 -- ops left
-pub record Ended (D : Dialect) (ops : List (List ℕ)) (s : St (tcg D)) (answer : Ending) (s' : St (tcg D)) : Type 0 where
+pub record Ended (D : Dialect) (ops : List (List ℕ)) (s : St (tcg D)) (answer : Answer) (s' : St (tcg D)) : Type 0 where
   pub position : ℕ
   pub completed : ℕ
   pub inside : position < length ops

@@ -1,6 +1,5 @@
 -- What a step and the loop over the ops come to. Assumes nothing.
-use Rattle.std.specs.Prelude.{◌≡◌, Bool, cond, ◌&&◌, ◌||◌, true, List, [], ◌∷◌, ℕ, suc, ◌+◌, ◌-◌, ◌%◌, ◌^◌, eqb, ltb, leb, length, get_or}
-use Rattle.std.proofs.Math.Option.{some}
+use Rattle.std.specs.Prelude.{◌≡◌, Bool, cond, ◌&&◌, ◌||◌, true, List, [], ◌∷◌, ℕ, suc, ◌+◌, ◌-◌, ◌%◌, ◌^◌, eqb, ltb, leb, length, get_or, Some, Ok}
 use Rattle.theory.specs.Machine.{when, to, View, calc, access, flow, End, exit, fault, unstated, Effect, falls, jumps, stops, effect, St}
 use Rattle.word.specs.Condition.{cond_w}
 use Rattle.memory.specs.Answer.{access_width}
@@ -72,12 +71,12 @@ pub record ReadyToRun (block places labels : List ℕ) (start ops : ℕ) : Type 
   pub globals : ℕ
   pub approved : Approved row_of block places₀ base places labels start n globals ops
 
--- the run of a block's ops from a state: the answer, and the state that is left
+-- the run of a block's ops from a state: how it ends, and the state that is left
 pub record Executed (block : List ℕ) (s s' : St (tcg document01)) (ending : Ending) : Type 0 where
   pub answers :
       let ops = ops_from (records_of row_of block) in
       let r = ops_run document01 ops s in
-      ending ≡ answer_of r.end (length ops - length r.left) r.count
+      Ok ending ≡ answer_of r.end (length ops - length r.left) r.count
   pub state_is : s' ≡ (ops_run document01 (ops_from (records_of row_of block)) s).state
 
 -- rule 11, where the variables have these bytes, of which bit 0 is clear for 32 bits, and so many of them are globals
@@ -106,4 +105,4 @@ abbrev pub store_op : List ℕ → ℕ → View ℕ (List ℕ) ℕ Fault
 store_op b p = access [] (at b (p + 1) ∷ at b (p + 2) ∷ []) (λ m vs. store_at (at b (p + 3)) m (at vs 1) (at vs 0))
 
 abbrev pub constant_op : List ℕ → ℕ → View ℕ (List ℕ) ℕ Fault
-constant_op b p = calc (at b (p + 1) ∷ []) [] (λ vs. some (low_first b (p + 2) 8 ∷ []))
+constant_op b p = calc (at b (p + 1) ∷ []) [] (λ vs. Some (low_first b (p + 2) 8 ∷ []))

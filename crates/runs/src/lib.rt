@@ -2,14 +2,11 @@
 #![tactic(auto)]
 
 use memory::Reason;
+use std::fmt;
 
-// The run's answer. Each ending gives the number of ops run.
-#[derive(Drop)]
+// How a run ended. Each ending gives the number of ops run.
+#[derive(Clone, Copy, Debug, PartialEq, Eq)]
 pub enum Ending {
-    Refused {
-        number: u8,
-        place: usize,
-    },
     Exit {
         value: u64,
         count: u64,
@@ -27,8 +24,39 @@ pub enum Ending {
     },
 }
 
+impl fmt::Display for Ending {
+    fn fmt<W: fmt::Write>(&self, f: &mut fmt::Formatter<W>) -> fmt::Result {
+        let count = match self {
+            Ending::Exit { value, count } => {
+                write!(f, "exit 0x{value:x}")?;
+                *count
+            }
+            Ending::Fault {
+                store,
+                address,
+                flags,
+                reason,
+                count,
+            } => {
+                let access = if *store { "store" } else { "load" };
+                write!(
+                    f,
+                    "fault {access} at 0x{address:x} flags 0x{flags:02x} ({reason})"
+                )?;
+                *count
+            }
+            Ending::NoResult { position, count } => {
+                write!(f, "no stated result at op {position}")?;
+                *count
+            }
+        };
+        let ops = if count == 1 { "op" } else { "ops" };
+        write!(f, " after {count} {ops}")
+    }
+}
+
 // How a run ends: with the value that it exits with, a fault, or no stated result.
-#[derive(Drop)]
+#[derive(Clone, Copy, Debug, PartialEq, Eq)]
 pub enum Stop {
     Leaves(u64),
     Faults {
@@ -41,7 +69,7 @@ pub enum Stop {
 }
 
 // How the run goes on after an op: at the next op, which starts at this place, at a label, or not at all.
-#[derive(Drop)]
+#[derive(Clone, Copy, Debug, PartialEq, Eq)]
 pub enum Outcome {
     Falls(usize),
     JumpsTo(u8),

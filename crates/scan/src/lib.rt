@@ -1,100 +1,95 @@
 // Reads a block: the rules in order, and where each op and label is.
 #![tactic(auto)]
 
-ghost use Rattle.std.specs.Prelude.{◌≡◌, false, ◌<◌, eqb, length, replicate};
+ghost use Rattle.std.specs.Prelude.{◌≡◌, false, ◌*◌, ◌<◌, eqb, length, replicate, MatchResult};
 ghost use Rattle.ops.specs.Limits.{label_count};
 ghost use Rattle.ops.specs.Table.{row_of};
 ghost use Rattle.ops.specs.Plans.{exit_rank, entry_at};
-ghost use Rattle.block.specs.Scan.{entry_rule, end_rule, RoomFor, Begins, ScannedBy, Scanned};
+ghost use Rattle.block.specs.Checks.{Accepted, refused_or};
+ghost use Rattle.block.specs.Scan.{entry_rule, end_rule, RoomFor, Begins, ScannedAll, ScannedTo, Approved, Rejected};
 
+use block::Refusal;
 use declarations::scan_declarations;
-use kinds::entry;
+use kinds::Kinds;
 use limits::LABELS;
 use op_marks::mark_op;
 use op_tests::op_ok;
-use plans::{EXIT, rank, record_length};
-use rules::{all_set, record_rule, refusals};
+use plans::{Lengths, Rank, Ranks};
+use rules::refusals::Refusals;
+use rules::{all_set, record_rule};
 
-// What the scan of the ops finds: the rule that is broken and its place, or 0 and how many ops there are.
-#[derive(Drop)]
-pub struct Ops {
-    pub rule: u8,
-    pub place: usize,
-    pub ops: usize,
-}
-
-// The answer at a record that fails a test.
-fn stopped(block: &[u8], at: usize, ops: usize, vars: &[u8; 256], labels: &[u16; LABELS]) -> Ops
+// The refusal of a record that fails a test.
+fn stopped(block: &[u8], at: usize, ops: usize, vars: &[u8; 256], labels: &[u16; LABELS]) -> Refusal
     requires { at < length block.now }
-    ensures { (result.rule ≡ entry_rule (entry_at block.now at) block.now at ops vars.now labels.now false) × (result.place ≡ at) × (result.ops ≡ ops) }
+    ensures { (result.number ≡ entry_rule (entry_at block.now at) block.now at ops vars.now labels.now false) × (result.place ≡ at) }
 {
-    let kinds = kinds::table();
-    let e = entry(&kinds, block[at]);
-    Ops {
-        rule: record_rule(e, block, at, ops, vars, labels),
+    let kinds = Kinds::new();
+    let entry = kinds.entry(block[at]);
+    Refusal {
+        number: record_rule(entry, block, at, ops, vars, labels),
         place: at,
-        ops,
     }
 }
 
-// The rule that is broken at the end, after an op with the rank last; 0 if none.
-fn end_rule(last: u8, targets: &[u8; LABELS], labels: &[u16; LABELS]) -> u8
-    ensures { result ≡ end_rule (eqb last exit_rank) targets.now labels.now }
+// Refuses an end at a place, after an op with the rank last, that breaks a rule.
+fn end_rule(
+    last: Rank,
+    targets: &[u8; LABELS],
+    labels: &[u16; LABELS],
+    place: usize,
+) -> Result<(), Refusal>
+    ensures { result ≡ refused_or (end_rule (eqb last exit_rank) targets.now labels.now) place Accepted }
 {
-    if last != EXIT {
-        return 10;
+    let exits = last.exits();
+    if !exits {
+        return Err(Refusal { number: 10, place });
     }
     if !all_set(targets, labels) {
-        return 7;
+        return Err(Refusal { number: 7, place });
     }
-    0
+    Ok(())
 }
 
-// Reads the ops from a place on; places and labels then hold where each op and label is. base: the variables' bytes at the start of an extended basic block.
+// Reads the ops from a place on; how many there are. places and labels then hold where each op and label is. base: the variables' bytes at the start of an extended basic block.
+// A `while`: a record's own length says where the next begins.
 fn scan_ops(
     block: &[u8],
     start: usize,
     base: &[u8; 256],
     places: &mut [u16],
     labels: &mut [u16; LABELS],
-) -> Ops
+) -> Result<usize, Refusal>
     requires { Begins row_of block.now base.now start × (labels.old ≡ replicate label_count 0) × RoomFor block.now places.old }
-    ensures { ScannedBy row_of block.now start places.old places.new labels.new result.rule result.place result.ops }
+    ensures { MatchResult result (λ ops. ScannedAll row_of block.now start places.old places.new labels.new ops) (λ r. ScannedTo row_of block.now start places.old places.new labels.new r) }
 {
-    let ranks = plans::ranks();
-    let lengths = plans::lengths();
-    let refusals = refusals::table();
+    let ranks = Ranks::new();
+    let lengths = Lengths::new();
+    let refusals = Refusals::new();
     let mut vars = *base;
     let mut targets = [0u8; LABELS];
     let mut at = start;
     let mut ops: usize = 0;
-    let mut last: u8 = 0;
+    let mut last = Rank::NONE;
     while at < block.len() {
         let kind = block[at];
-        let r = rank(&ranks, kind);
-        let n = record_length(&lengths, kind);
-        if !op_ok(r, n, &refusals, block, at, ops, &vars, labels) {
-            return stopped(block, at, ops, &vars, labels);
+        let rank = ranks.rank(kind);
+        let n = lengths.record_length(kind);
+        if !op_ok(rank, n, &refusals, block, at, ops, &vars, labels) {
+            return Err(stopped(block, at, ops, &vars, labels));
         }
-        mark_op(r, block, at, ops, base, &mut vars, labels, &mut targets);
+        mark_op(rank, block, at, ops, base, &mut vars, labels, &mut targets);
         places[ops] = (at % 65536) as u16;
         ops += 1;
-        last = r;
+        last = rank;
         at += n;
     }
-    Ops {
-        rule: end_rule(last, &targets, labels),
-        place: at,
-        ops,
-    }
+    end_rule(last, &targets, labels, at)?;
+    Ok(ops)
 }
 
-// What the scan of a block finds: the rule that is broken and its place, or 0; the place of the first op; how many variables, globals
-// and ops there are.
-#[derive(Drop)]
+// What the scan of an accepted block finds: the place of the first op; how many variables, globals and ops there are.
+#[derive(Clone, Copy, Debug, PartialEq, Eq)]
 pub struct Found {
-    pub rule: u8,
-    pub place: usize,
     pub start: usize,
     pub variables: usize,
     pub globals: usize,
@@ -107,31 +102,17 @@ pub fn scan(
     base: &mut [u8; 256],
     places: &mut [u16],
     labels: &mut [u16; LABELS],
-) -> Found
+) -> Result<Found, Refusal>
     requires { (base.old ≡ replicate 256 15) × (labels.old ≡ replicate label_count 0) × RoomFor block.now places.old }
-    ensures { Scanned row_of block.now places.old base.new places.new labels.new result.rule result.place result.start result.variables result.globals result.ops }
+    ensures { MatchResult result (λ f. Approved row_of block.now places.old base.new places.new labels.new f.start f.variables f.globals f.ops) (λ r. Rejected row_of block.now places.old base.new places.new labels.new r) }
 {
-    let d = scan_declarations(block, base);
-    let start = d.place;
-    let n = d.variables;
-    let rule = d.rule;
-    if rule != 0 {
-        return Found {
-            rule,
-            place: start,
-            start,
-            variables: n,
-            globals: d.globals,
-            ops: 0,
-        };
-    }
-    let o = scan_ops(block, start, base, places, labels);
-    Found {
-        rule: o.rule,
-        place: o.place,
+    let d = scan_declarations(block, base)?;
+    let start = 3 * d.variables;
+    let ops = scan_ops(block, start, base, places, labels)?;
+    Ok(Found {
         start,
-        variables: n,
+        variables: d.variables,
         globals: d.globals,
-        ops: o.ops,
-    }
+        ops,
+    })
 }

@@ -1,10 +1,14 @@
 // The shape of each kind: what the passes ask of its entry, in 16 bits.
 #![tactic(auto)]
 
-ghost use Rattle.std.specs.Prelude.{◌≡◌, eqb, get_or};
-ghost use Rattle.ops.specs.Shapes.{shape_table, outs_as, type_as, ins_as, rest_as, role_as, pure_as, computes_as, sets_as, jumps_as};
+ghost use Rattle.std.specs.Prelude.{◌≡◌, ℕ, eqb, get_or};
+ghost use Rattle.ops.specs.Rows.{computing};
+ghost use Rattle.ops.specs.Roles.{role_or, role_meant};
+ghost use Rattle.ops.specs.Table.{kind_table};
+ghost use Rattle.ops.specs.Shapes.{shape_of, shape_table, outs_as, type_as, ins_as, rest_as, role_as, pure_as, computes_as, sets_as, jumps_as};
 
-use ops::{BRANCHES, CONSTANT, JUMPS_TO, SETS_LABEL, STORES};
+use ops::Role;
+use std::marker::Model;
 
 // A shape, in bits from the lowest: 2 for the outputs; 2 for the type of the first operand, 1 for 64 bits; 4 for the inputs; 4 for the bytes after the operands; 4 for
 // the number of the role.
@@ -268,73 +272,111 @@ const SHAPES: [u16; 256] = [
 ];
 
 // The table, which a call makes once and lends.
-pub fn table() -> [u16; 256]
-    ensures { result ≡ shape_table }
-{
-    SHAPES
+#[derive(Drop)]
+pub struct Shapes {
+    rows: [u16; 256],
+    ghost is_table: { rows ≡ shape_table },
 }
 
-pub fn shape(shapes: &[u16; 256], kind: u8) -> u16
+impl Shapes {
+    pub fn new() -> Shapes {
+        Shapes { rows: SHAPES }
+    }
+
+    // The shape of a kind.
+    pub fn shape(&self, kind: u8) -> Shape
+        ensures { result ≡ shape_of (get_or kind_table kind 0) }
+    {
+        shape_in(&self.rows, kind)
+    }
+}
+
+// The shape of a kind in any table.
+pub fn shape_in(shapes: &[u16; 256], kind: u8) -> Shape
     ensures { result ≡ get_or shapes.now kind 0 }
 {
-    shapes[kind as usize]
+    Shape {
+        digits: shapes[kind as usize],
+    }
 }
 
-pub fn outs(s: u16) -> usize
-    ensures { result ≡ outs_as s }
-{
-    (s % 4) as usize
+// A kind's shape, seen as the number that its digits make. They are others than an entry's, in half its bits: the passes read a shape for every op.
+#[derive(Clone, Copy)]
+pub struct Shape {
+    pub digits: u16,
 }
 
-// Whether the first operand has the 32-bit type.
-pub fn is_narrow(s: u16) -> bool
-    ensures { result ≡ eqb (type_as s) 0 }
-{
-    s / 4 % 4 == 0
+impl Model for Shape {
+    ghost Value = { ℕ };
+
+    ghost view = { λ s. s.digits };
+
+    ghost inverse = { λ n. record { digits = n } };
 }
 
-pub fn ins(s: u16) -> usize
-    ensures { result ≡ ins_as s }
-{
-    (s / 16 % 16) as usize
-}
+impl Shape {
+    pub fn outs(self) -> usize
+        ensures { result ≡ outs_as self }
+    {
+        (self.digits % 4) as usize
+    }
 
-// How many bytes follow the operands.
-pub fn rest(s: u16) -> usize
-    ensures { result ≡ rest_as s }
-{
-    (s / 256 % 16) as usize
-}
+    // Whether the first operand has the 32-bit type.
+    pub fn is_narrow(self) -> bool
+        ensures { result ≡ eqb (type_as self) 0 }
+    {
+        self.digits / 4 % 4 == 0
+    }
 
-// The number of the role.
-pub fn role(s: u16) -> u32
-    ensures { result ≡ role_as s }
-{
-    (s / 4096) as u32
-}
+    pub fn ins(self) -> usize
+        ensures { result ≡ ins_as self }
+    {
+        (self.digits / 16 % 16) as usize
+    }
 
-pub fn is_pure(s: u16) -> bool
-    ensures { result ≡ pure_as s }
-{
-    STORES < role(s)
-}
+    // How many bytes follow the operands.
+    pub fn rest(self) -> usize
+        ensures { result ≡ rest_as self }
+    {
+        (self.digits / 256 % 16) as usize
+    }
 
-pub fn is_computing(s: u16) -> bool
-    ensures { result ≡ computes_as s }
-{
-    CONSTANT < role(s)
-}
+    // The number of the role.
+    pub fn role_number(self) -> u32
+        ensures { result ≡ role_as self }
+    {
+        (self.digits / 4096) as u32
+    }
 
-// The op sets a label; it may jump to one.
-pub fn is_setting(s: u16) -> bool
-    ensures { result ≡ sets_as s }
-{
-    role(s) == SETS_LABEL
-}
+    // The role, Computing for a number that is none's.
+    pub fn role(self) -> Role
+        ensures { role_meant result ≡ role_or (role_as self) computing }
+    {
+        Role::from_number(self.role_number(), Role::Computing)
+    }
 
-pub fn is_jumping(s: u16) -> bool
-    ensures { result ≡ jumps_as s }
-{
-    let n = role(s);
-    (n == JUMPS_TO) | (n == BRANCHES)
+    pub fn is_pure(self) -> bool
+        ensures { result ≡ pure_as self }
+    {
+        self.role().is_pure()
+    }
+
+    pub fn is_computing(self) -> bool
+        ensures { result ≡ computes_as self }
+    {
+        self.role().is_computing()
+    }
+
+    // The op sets a label; it may jump to one.
+    pub fn is_setting(self) -> bool
+        ensures { result ≡ sets_as self }
+    {
+        self.role().is_setting()
+    }
+
+    pub fn is_jumping(self) -> bool
+        ensures { result ≡ jumps_as self }
+    {
+        self.role().is_jumping()
+    }
 }

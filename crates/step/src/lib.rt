@@ -13,10 +13,10 @@ ghost use Rattle.runs.specs.Evaluates.{env_of};
 ghost use Rattle.runs.specs.Steps.{state_of, Performs, PerformsAlone, next_at, branch_op, load_op, store_op, constant_op};
 
 use kinds::is_wide;
-use memory::{Access, Loaded, from_little_endian, load, store};
+use memory::{from_little_endian, load, store};
 use runs::{Outcome, Stop};
 use values::{get, put};
-use widths::condition::{holds32, holds64};
+use widths::condition;
 use widths::convert::trunc_i64_i32;
 
 // A condition at 64 bits, or at 32.
@@ -24,9 +24,9 @@ fn holds(c: u8, a: u64, b: u64, wide: bool) -> bool
     ensures { result ≡ cond_w (access_width wide) c (a % 2 ^ access_width wide) (b % 2 ^ access_width wide) }
 {
     if wide {
-        return holds64(c, a, b);
+        return condition::holds(c, a, b);
     }
-    holds32(c, trunc_i64_i32(a), trunc_i64_i32(b))
+    condition::holds(c, trunc_i64_i32(a), trunc_i64_i32(b))
 }
 
 // brcond: c1, c2, condition, label.
@@ -59,13 +59,12 @@ fn load_step(
     let address = get(globals, temps, block[at + 2]);
     let flags = block[at + 3];
     let next = at + 4;
-    let loaded = load(memory, address, flags, wide);
-    match loaded {
-        Loaded::Value(x) => {
+    match load(memory, address, flags, wide) {
+        Ok(x) => {
             put(globals, temps, block[at + 1], x);
             Outcome::Falls(next)
         }
-        Loaded::Fault(reason) => Outcome::Stops(Stop::Faults {
+        Err(reason) => Outcome::Stops(Stop::Faults {
             store: false,
             address,
             flags,
@@ -89,10 +88,9 @@ fn store_step(
     let address = get(globals, temps, block[at + 2]);
     let flags = block[at + 3];
     let next = at + 4;
-    let access = store(memory, address, flags, value);
-    match access {
-        Access::Served => Outcome::Falls(next),
-        Access::Fails(reason) => Outcome::Stops(Stop::Faults {
+    match store(memory, address, flags, value) {
+        Ok(()) => Outcome::Falls(next),
+        Err(reason) => Outcome::Stops(Stop::Faults {
             store: true,
             address,
             flags,
@@ -117,7 +115,7 @@ fn constant_step(block: &[u8], at: usize, globals: &mut [u64], temps: &mut [u64;
     Outcome::Falls(next)
 }
 
-// Runs an op that does not compute. A record that is no op exits with 0.
+// Runs an op that does not compute. A record that is no op exits with 0. A `match`: the kinds are closed, and each has other operands.
 pub fn other_step(
     block: &[u8],
     at: usize,

@@ -1,7 +1,7 @@
 -- The pass done again changes nothing: no op of its result folds, and none is dead. Assumes nothing.
 use mathlib.Core.Path.{◌≡◌, refl, ap, ◌∙◌}
 use mathlib.Core.Bool.{Bool, true, false, cond}
-use mathlib.Core.Option.{none}
+use Rattle.std.specs.Prelude.{None}
 use mathlib.Core.List.{[], ◌∷◌}
 use mathlib.Core.Logic.{◌⊎◌, inl, inr}
 use Prim.Native.Nat.{ℕ}
@@ -81,14 +81,14 @@ module _ (L : Lang) (Ok : L.Op → Type 0) (Fit : (ℕ → L.Val) → Type 0) (r
         w = L.view o
 
         go : (b : Bool) → closes w ≡ b
-            → cond b nothing (writes none k (outputs w) (gain (inputs w) (computes w))) v ≡ cond b nothing (writes none k' (outputs w) (gain (inputs w) (computes w))) v
+            → cond b nothing (writes None k (outputs w) (gain (inputs w) (computes w))) v ≡ cond b nothing (writes None k' (outputs w) (gain (inputs w) (computes w))) v
         go true e = refl
-        go false e = writes_both none k k' (outputs w) (gain (inputs w) (computes w)) v (λ x. h v (keeps.on_live o r v d e x q))
+        go false e = writes_both None k k' (outputs w) (gain (inputs w) (computes w)) v (λ x. h v (keeps.on_live o r v d e x q))
 
     learned_dead : (w : Viewed L) (l : Vars) (k : Known L.Val) (v : ℕ) → dead w l ≡ true → l v ≡ true → learned k w v ≡ k v
     learned_dead w l k v d q =
         rw (pure_open w (and_l (pure w) (none_in (outputs w) l) d))
-        (writes_other none k (outputs w) (gain (inputs w) (computes w)) v (dead_out (outputs w) l v (and_r (pure w) (none_in (outputs w) l) d) q))
+        (writes_other None k (outputs w) (gain (inputs w) (computes w)) v (dead_out (outputs w) l v (and_r (pure w) (none_in (outputs w) l) d) q))
 
     pub still_prune : (r : Prog L) (k k' : Known L.Val) → Still L rule r k → ((v : ℕ) → note r v ≡ true → k v ≡ k' v) → Still L rule (prune_by L note r) k'
     still_prune [] k k' h a = tt

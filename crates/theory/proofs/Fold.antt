@@ -1,7 +1,7 @@
 -- What fold makes of a block does what the block did. Assumes nothing.
 use mathlib.Core.Path.{◌≡◌, refl, sym, ap, ◌∙◌}
 use mathlib.Core.Bool.{Bool, true, false, cond}
-use mathlib.Core.Option.{Option, none, some}
+use Rattle.std.specs.Prelude.{Option, None, Some, is_some}
 use mathlib.Core.List.{List, [], ◌∷◌}
 use mathlib.Core.Logic.{◌⊎◌, inl, inr}
 use Prim.Native.Nat.{ℕ}
@@ -9,7 +9,7 @@ use lib.Dec.{eqb}
 use Rattle.theory.specs.Fold.{Known, nothing, Rewrite, put, omit, cut, Mode, on, off, somes, given, gain, learned, Rule, emit}
 use Rattle.theory.specs.Fold.{fold}
 use Rattle.theory.specs.Machine.{Touch, faults, gives, always, when, Way, to, out, View, calc, access, label, flow, Lang}
-use Rattle.theory.specs.Machine.{unstated, State, Effect, falls, jumps, stops, head_or, tail_of, reads, writes, is_some}
+use Rattle.theory.specs.Machine.{unstated, State, Effect, falls, jumps, stops, head_or, tail_of, reads, writes}
 use Rattle.theory.specs.Sets.{upd, All}
 use Rattle.theory.specs.Machine.{any_label, is_label, after_calc, after_access, sent, effect, St, Prog, Effects, seek, moved, runs}
 use Rattle.theory.proofs.Law.{Right, As, Fits, Lawful}
@@ -17,27 +17,27 @@ use Rattle.theory.proofs.Sets.{tell}
 use Rattle.theory.proofs.Simulation.{definite, Follows, drops, moves, ends, open_end, Matches, simulates}
 use Rattle.theory.proofs.Views.{label_closes, no_some, label_any, any_none}
 
-pub gain_none : {Val : Type 0} (ins : List ℕ) → gain {Val = Val} ins (λ xs. none) ≡ []
+pub gain_none : {Val : Type 0} (ins : List ℕ) → gain {Val = Val} ins (λ xs. None) ≡ []
 gain_none [] = refl
 gain_none (i ∷ is) = refl
 
 module _ {Val : Type 0} (z : Val) where
-  right_upd : (k : Known Val) (e : ℕ → Val) (o : ℕ) (x : Option Val) (y : Val) → Right k e → ((a : Val) → x ≡ some a → y ≡ a)
+  right_upd : (k : Known Val) (e : ℕ → Val) (o : ℕ) (x : Option Val) (y : Val) → Right k e → ((a : Val) → x ≡ Some a → y ≡ a)
       → Right (upd k o x) (upd e o y)
   right_upd k e o x y r h v a q = go (eqb o v) q
     where
-      go : (t : Bool) → cond t x (k v) ≡ some a → cond t y (e v) ≡ a
+      go : (t : Bool) → cond t x (k v) ≡ Some a → cond t y (e v) ≡ a
       go true p = h a p
       go false p = r v a p
 
-  right_none : (outs : List ℕ) (vs : List Val) (k : Known Val) (e : ℕ → Val) → Right k e → Right (writes none k outs []) (writes z e outs vs)
+  right_none : (outs : List ℕ) (vs : List Val) (k : Known Val) (e : ℕ → Val) → Right k e → Right (writes None k outs []) (writes z e outs vs)
   right_none [] vs k e r = r
-  right_none (o ∷ os) vs k e r = right_none os (tail_of vs) (upd k o none) (upd e o (head_or z vs)) (right_upd k e o none (head_or z vs) r (λ a q. no_some q))
+  right_none (o ∷ os) vs k e r = right_none os (tail_of vs) (upd k o None) (upd e o (head_or z vs)) (right_upd k e o None (head_or z vs) r (λ a q. no_some q))
 
-  right_some : (outs : List ℕ) (vs : List Val) (k : Known Val) (e : ℕ → Val) → Right k e → Right (writes none k outs (somes vs)) (writes z e outs vs)
+  right_some : (outs : List ℕ) (vs : List Val) (k : Known Val) (e : ℕ → Val) → Right k e → Right (writes None k outs (somes vs)) (writes z e outs vs)
   right_some [] vs k e r = r
   right_some (o ∷ os) [] k e r = right_none (o ∷ os) [] k e r
-  right_some (o ∷ os) (v ∷ vs) k e r = right_some os vs (upd k o (some v)) (upd e o v) (right_upd k e o (some v) v r (λ a q. cc))
+  right_some (o ∷ os) (v ∷ vs) k e r = right_some os vs (upd k o (Some v)) (upd e o v) (right_upd k e o (Some v) v r (λ a q. cc))
 
   right_nothing : (e : ℕ → Val) → Right nothing e
   right_nothing e v x q = no_some q
@@ -52,17 +52,17 @@ module _ {Val : Type 0} (z : Val) where
     right_learned : (w : View Val Mem Out Flt) (k : Known Val) (s : State Val Mem) → Right k s.env → Leaves (λ t. Right (learned k w) t.env) (effect z w s)
     right_learned (calc outs [] f) k s r = go (f [])
       where
-        go : (x : Option (List Val)) → Leaves (λ t. Right (writes none k outs (given x)) t.env) (after_calc z outs s x)
-        go none = tt
-        go (some vs) = right_some outs vs k s.env r
+        go : (x : Option (List Val)) → Leaves (λ t. Right (writes None k outs (given x)) t.env) (after_calc z outs s x)
+        go None = tt
+        go (Some vs) = right_some outs vs k s.env r
     right_learned (calc outs (i ∷ is) f) k s r = go (f (reads s.env (i ∷ is)))
       where
-        go : (x : Option (List Val)) → Leaves (λ t. Right (writes none k outs []) t.env) (after_calc z outs s x)
-        go none = tt
-        go (some vs) = right_none outs vs k s.env r
+        go : (x : Option (List Val)) → Leaves (λ t. Right (writes None k outs []) t.env) (after_calc z outs s x)
+        go None = tt
+        go (Some vs) = right_none outs vs k s.env r
     right_learned (access outs ins f) k s r = go (f s.mem (reads s.env ins))
       where
-        go : (x : Touch Val Mem Flt) → Leaves (λ t. Right (writes none k outs (gain ins (λ xs. none))) t.env) (after_access z outs s x)
+        go : (x : Touch Val Mem Flt) → Leaves (λ t. Right (writes None k outs (gain ins (λ xs. None))) t.env) (after_access z outs s x)
         go (faults x) = tt
         go (gives vs m) = rw (gain_none ins) (right_none outs vs k s.env r)
     right_learned (label j) k s r = right_nothing s.env

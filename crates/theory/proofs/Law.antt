@@ -1,7 +1,7 @@
 -- The laws of a rule of fold, and that one rule after another has them where it has. Assumes nothing.
 use mathlib.Core.Path.{◌≡◌, refl, sym, ◌∙◌}
 use mathlib.Core.Bool.{true, false}
-use mathlib.Core.Option.{some}
+use Rattle.std.specs.Prelude.{Some}
 use mathlib.Core.List.{List}
 use mathlib.Core.Logic.{◌⊎◌, inl, inr}
 use Prim.Native.Nat.{ℕ}
@@ -13,7 +13,7 @@ use Rattle.theory.specs.Sets.{has}
 module _ {Val : Type 0} where
   -- what is known is so
   abbrev pub Right : Known Val → (ℕ → Val) → Type 0
-  Right k e = (v : ℕ) (x : Val) → k v ≡ some x → e v ≡ x
+  Right k e = (v : ℕ) (x : Val) → k v ≡ Some x → e v ≡ x
 
 -- each of the first is one of the second
 abbrev pub Among : List ℕ → List ℕ → Type 0

@@ -1,7 +1,7 @@
 -- Prune by any note of what is live that covers what the ops need: what is kept does what the block did. Assumes nothing.
 use mathlib.Core.Path.{◌≡◌, refl, ap, ap₂, ◌∙◌}
 use mathlib.Core.Bool.{Bool, true, false, cond, not, false≢true}
-use mathlib.Core.Option.{Option, none, some}
+use Rattle.std.specs.Prelude.{Option, None, Some}
 use mathlib.Core.List.{List, [], ◌∷◌}
 use mathlib.Core.Logic.{◌⊎◌, inl, inr}
 use Prim.Native.Nat.{ℕ}
@@ -107,8 +107,8 @@ module _ (L : Lang) (glob : Vars) (note : Prog L → Vars) (b : Prog L) where
         rw (reads_same s.env s'.env ins (λ v q. a.vars v (or_l (has ins v) (without (note r) outs v) q))) (go (f (reads s'.env ins)))
       where
         go : (y : Option (List L.Val)) → goal o r s s' (after_calc L.zero_v outs s y) (after_calc L.zero_v outs s' y)
-        go none = to_open o r s s'
-        go (some vs) =
+        go None = to_open o r s s'
+        go (Some vs) =
             to_next o r s s' _ _
             (agree_writes L.zero_v (note r) outs vs s s' s.mem s'.mem a.mem (λ v q. a.vars v (or_r (has ins v) (without (note r) outs v) q)))
     keeps (access outs ins f) o r s s' a = rw same (go (f s'.mem (reads s'.env ins)))
@@ -151,8 +151,8 @@ module _ (L : Lang) (glob : Vars) (note : Prog L → Vars) (b : Prog L) where
       where
         go : (y : Option (List L.Val)) → step L b (o ∷ r) s ≡ moved L b r s (after_calc L.zero_v outs s y)
             → Follows L b left Pruned (Agree L.zero_v glob) (o ∷ r) s (prune_by L note r) s'
-        go none q = open_end q
-        go (some vs) q =
+        go None q = open_end q
+        go (Some vs) q =
             drops q
             (record {
               prog = refl;

@@ -1,7 +1,7 @@
 -- A run of one program follows a run of another. Assumes nothing.
 use mathlib.Core.Path.{◌≡◌, refl, ap}
 use mathlib.Core.Bool.{Bool, true, false, cond, ◌&&◌, false≢true}
-use mathlib.Core.Option.{Option, none, some}
+use Rattle.std.specs.Prelude.{Option, None, Some}
 use mathlib.Core.List.{List}
 use Prim.Native.Nat.{ℕ, zero, suc, ◌≤◌}
 use native.Mathlib.Omega.{arith}
@@ -69,8 +69,8 @@ module _ {Val Mem Out Flt : Type 0} where
   says z (calc outs ins f) s = go (f (reads s.env ins))
     where
       go : (x : Option (List Val)) → Says (calc outs ins f) (after_calc z outs s x)
-      go none = refl
-      go (some vs) = refl
+      go None = refl
+      go (Some vs) = refl
   says z (access outs ins f) s = go (f s.mem (reads s.env ins))
     where
       go : (x : Touch Val Mem Flt) → Says (access outs ins f) (after_access z outs s x)

@@ -1,19 +1,19 @@
 -- What holds of every view, by its constructors; other proofs take no view apart, but for its effect. Assumes nothing.
 use mathlib.Core.Path.{◌≡◌, refl, ap}
 use mathlib.Core.Bool.{Bool, true, false, cond, not, ◌||◌, false≢true, true≢false}
-use mathlib.Core.Option.{Option, none, some}
+use Rattle.std.specs.Prelude.{Option, None, Some, is_some}
 use mathlib.Core.List.{List, []}
 use mathlib.Core.Logic.{◌⊎◌, inl, inr}
 use Prim.Native.Nat.{ℕ}
 use borrow.Author.Tests.{not-true}
-use Rattle.theory.specs.Machine.{Touch, always, when, Way, to, out, View, calc, access, label, flow, is_some, one_of, inputs, outputs}
+use Rattle.theory.specs.Machine.{Touch, always, when, Way, to, out, View, calc, access, label, flow, one_of, inputs, outputs}
 use Rattle.theory.specs.Machine.{computes, pure, closes, label_of, any_label, is_label}
 use Rattle.theory.specs.Prune.{dead, there, need}
 use Rattle.theory.proofs.Scoped.{may_read, wrote}
 use Rattle.theory.specs.Sets.{Vars, empty, has, without, plus, both}
 use Rattle.theory.proofs.Sets.{or_cases, or_l, or_r, and_l, and_r, in_all, or_mid, or_no, or_both, or_map, and_map}
 
-pub no_some {ℓ} : {A : Type 0} {B : Type ℓ} {a : A} → none ≡ some a → B
+pub no_some {ℓ} : {A : Type 0} {B : Type ℓ} {a : A} → None ≡ Some a → B
 no_some e = absurd (false≢true (ap is_some e))
 
 module _ {Val Out : Type 0} (glob : Vars) where
@@ -46,7 +46,7 @@ module _ {Val Mem Out Flt : Type 0} where
   pure_open (flow ins c y) h = absurd (false≢true h)
 
   -- an op that computes a result is pure
-  pub computes_calc : (w : View Val Mem Out Flt) (xs vs : List Val) → computes w xs ≡ some vs → w ≡ calc (outputs w) (inputs w) (computes w)
+  pub computes_calc : (w : View Val Mem Out Flt) (xs vs : List Val) → computes w xs ≡ Some vs → w ≡ calc (outputs w) (inputs w) (computes w)
   computes_calc (calc outs ins f) xs vs h = refl
   computes_calc (access outs ins f) xs vs h = no_some h
   computes_calc (label k) xs vs h = no_some h
@@ -62,15 +62,15 @@ module _ {Val Mem Out Flt : Type 0} where
   label_any k w h = go (label_of w) h
     where
       go : (x : Option ℕ) → one_of k x ≡ true → is_some x ≡ true
-      go none q = q
-      go (some l) q = refl
+      go None q = q
+      go (Some l) q = refl
 
   pub any_none : (k : ℕ) (w : View Val Mem Out Flt) → any_label w ≡ false → is_label k w ≡ false
   any_none k w h = go (label_of w) h
     where
       go : (x : Option ℕ) → is_some x ≡ false → one_of k x ≡ false
-      go none q = refl
-      go (some l) q = absurd (true≢false q)
+      go None q = refl
+      go (Some l) q = absurd (true≢false q)
 
   -- a label is not dropped
   pub label_stays : (k : ℕ) (w : View Val Mem Out Flt) (l : Vars) → is_label k w ≡ true → dead w l ≡ false

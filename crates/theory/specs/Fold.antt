@@ -1,6 +1,5 @@
 -- Fold: ops whose inputs are known become constants. Assumes nothing.
-use Rattle.std.specs.Prelude.{ℕ, ◌≡◌, Bool, true, false, cond, List, [], ◌∷◌}
-use Rattle.std.proofs.Math.Option.{Option, none, some}
+use Rattle.std.specs.Prelude.{ℕ, ◌≡◌, Bool, true, false, cond, List, [], ◌∷◌, Option, None, Some, option_map, option_and_then}
 use Rattle.theory.specs.Machine.{View, Lang, Prog, writes, reads, head_or, inputs, outputs, computes, closes, any_label}
 use Rattle.theory.specs.Sets.{Vars}
 use Rattle.theory.specs.Prune.{prune}
@@ -10,7 +9,7 @@ abbrev pub Known : Type 0 → Type 0
 Known Val = ℕ → Option Val
 
 abbrev pub nothing : {Val : Type 0} → Known Val
-nothing v = none
+nothing v = None
 
 -- what fold puts in an op's place: an op; no op; or an op after which all up to the next label is dropped
 pub data Rewrite (Op : Type 0) : Type 0 where
@@ -25,11 +24,11 @@ pub data Mode (Val : Type 0) : Type 0 where
 
 abbrev pub somes : {Val : Type 0} → List Val → List (Option Val)
 somes [] = []
-somes (v ∷ vs) = some v ∷ somes vs
+somes (v ∷ vs) = Some v ∷ somes vs
 
 abbrev pub given : {Val : Type 0} → Option (List Val) → List (Option Val)
-given none = []
-given (some vs) = somes vs
+given None = []
+given (Some vs) = somes vs
 
 -- the values that an op is known to write: those of a constant, which reads nothing
 abbrev pub gain : {Val : Type 0} → List ℕ → (List Val → Option (List Val)) → List (Option Val)
@@ -41,7 +40,7 @@ module _ {Val Mem Out Flt : Type 0} where
   -- neither a movi nor so folded becomes unknown. Nothing is known at the start or after set_label, br" or exit_tb; brcond "keeps both",
   -- temporaries and known values, "for the next op"
   abbrev pub learned : Known Val → View Val Mem Out Flt → Known Val
-  learned k w = cond (closes w) nothing (writes none k (outputs w) (gain (inputs w) (computes w)))
+  learned k w = cond (closes w) nothing (writes None k (outputs w) (gain (inputs w) (computes w)))
 
 -- a rule gives, from what is known and an op, what to put in its place
 abbrev pub Rule : Lang → Type 0
@@ -76,26 +75,18 @@ pub record Folding (L : Lang) : Type 0 where
   pub foldable : L.Op → Bool
   pub const : L.Op → L.Val → L.Op
 
-abbrev pub cons_o : {Val : Type 0} → Val → Option (List Val) → Option (List Val)
-cons_o v none = none
-cons_o v (some vs) = some (v ∷ vs)
-
 -- the inputs' values, if all are known
 abbrev pub all_known : {Val : Type 0} → List (Option Val) → Option (List Val)
-all_known [] = some []
-all_known (none ∷ ks) = none
-all_known (some v ∷ ks) = cons_o v (all_known ks)
-
-abbrev pub bind_o : {Val : Type 0} → (List Val → Option (List Val)) → Option (List Val) → Option (List Val)
-bind_o f none = none
-bind_o f (some vs) = f vs
+all_known [] = Some []
+all_known (None ∷ ks) = None
+all_known (Some v ∷ ks) = option_map (λ vs. v ∷ vs) (all_known ks)
 
 module _ (L : Lang) (fo : Folding L) where
   -- "An op of kinds 05 to 07 or 11 to 29 (either width) whose inputs are all known and whose result is stated becomes a movi of the output's width."
   abbrev pub tried : L.Op → Option (List L.Val) → Rewrite L.Op
-  tried o none = put o
-  tried o (some vs) = put (fo.const o (head_or L.zero_v vs))
+  tried o None = put o
+  tried o (Some vs) = put (fo.const o (head_or L.zero_v vs))
 
   -- loads, stores, set_label, br, brcond and exit_tb compute nothing: they "stay as they are"
   abbrev pub base_rule : Rule L
-  base_rule k o = cond (fo.foldable o) (tried o (bind_o (computes (L.view o)) (all_known (reads k (inputs (L.view o)))))) (put o)
+  base_rule k o = cond (fo.foldable o) (tried o (option_and_then (computes (L.view o)) (all_known (reads k (inputs (L.view o)))))) (put o)

@@ -1,6 +1,5 @@
 -- A machine for blocks. A program is a list of ops, each seen through its view; no op kind is named here. Assumes nothing.
-use Rattle.std.specs.Prelude.{ℕ, zero, suc, Bool, true, false, cond, List, [], ◌∷◌, eqb}
-use Rattle.std.proofs.Math.Option.{Option, none, some}
+use Rattle.std.specs.Prelude.{ℕ, zero, suc, Bool, true, false, cond, List, [], ◌∷◌, eqb, Option, None, Some, is_some}
 use Rattle.theory.specs.Sets.{upd}
 
 -- what an access does: it faults, or gives the values of its outputs and the next memory
@@ -71,13 +70,9 @@ abbrev pub writes : {A : Type 0} → A → (ℕ → A) → List ℕ → List A �
 writes z e [] vs = e
 writes z e (o ∷ os) vs = writes z (upd e o (head_or z vs)) os (tail_of vs)
 
-abbrev pub is_some : {A : Type 0} → Option A → Bool
-is_some none = false
-is_some (some a) = true
-
 abbrev pub one_of : ℕ → Option ℕ → Bool
-one_of k none = false
-one_of k (some l) = eqb l k
+one_of k None = false
+one_of k (Some l) = eqb l k
 
 module _ {Val Mem Out Flt : Type 0} where
   abbrev pub inputs : View Val Mem Out Flt → List ℕ
@@ -95,9 +90,9 @@ module _ {Val Mem Out Flt : Type 0} where
   -- what a pure op computes
   abbrev pub computes : View Val Mem Out Flt → List Val → Option (List Val)
   computes (calc outs ins f) xs = f xs
-  computes (access outs ins f) xs = none
-  computes (label k) xs = none
-  computes (flow ins c y) xs = none
+  computes (access outs ins f) xs = None
+  computes (label k) xs = None
+  computes (flow ins c y) xs = None
 
   abbrev pub pure : View Val Mem Out Flt → Bool
   pure (calc outs ins f) = true
@@ -117,17 +112,17 @@ module _ {Val Mem Out Flt : Type 0} where
 
   -- the label to which it may jump
   abbrev pub target : View Val Mem Out Flt → Option ℕ
-  target (calc outs ins f) = none
-  target (access outs ins f) = none
-  target (label k) = none
-  target (flow ins c (to k)) = some k
-  target (flow ins c (out g)) = none
+  target (calc outs ins f) = None
+  target (access outs ins f) = None
+  target (label k) = None
+  target (flow ins c (to k)) = Some k
+  target (flow ins c (out g)) = None
 
   abbrev pub label_of : View Val Mem Out Flt → Option ℕ
-  label_of (calc outs ins f) = none
-  label_of (access outs ins f) = none
-  label_of (label k) = some k
-  label_of (flow ins c y) = none
+  label_of (calc outs ins f) = None
+  label_of (access outs ins f) = None
+  label_of (label k) = Some k
+  label_of (flow ins c y) = None
 
   abbrev pub any_label : View Val Mem Out Flt → Bool
   any_label w = is_some (label_of w)
@@ -136,8 +131,8 @@ module _ {Val Mem Out Flt : Type 0} where
   is_label k w = one_of k (label_of w)
 
   abbrev pub after_calc : Val → List ℕ → State Val Mem → Option (List Val) → Effect Val Mem Out Flt
-  after_calc z outs s none = stops unstated
-  after_calc z outs s (some vs) = falls (record { env = writes z s.env outs vs; mem = s.mem })
+  after_calc z outs s None = stops unstated
+  after_calc z outs s (Some vs) = falls (record { env = writes z s.env outs vs; mem = s.mem })
 
   abbrev pub after_access : Val → List ℕ → State Val Mem → Touch Val Mem Flt → Effect Val Mem Out Flt
   after_access z outs s (faults f) = stops (fault f)

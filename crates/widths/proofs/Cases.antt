@@ -36,6 +36,9 @@ told_signed w a b la lb =
     let g = flipped w b a lb la in
     rw (f.less, f.at_most, g.less, g.at_most, f.equal) at (told (flip w a) (flip w b))
 
+pub lts_flipped : (w a b : ℕ) → a < 2 ^ w → b < 2 ^ w → ltb (flip w a) (flip w b) ≡ lts_w w a b
+lts_flipped w a b la lb = (flipped w a b la lb).less
+
 -- a test of three answers that always passes, by one computation
 abbrev each : (Bool → Bool) → Bool
 each f = f true && f false

@@ -3,22 +3,15 @@ ghost use Rattle.std.specs.Prelude.{◌≡◌, cond, ◌/◌, ◌%◌, ◌^◌, 
 ghost use Rattle.word.specs.Condition.{lts_w, cond_w};
 ghost use Rattle.widths.specs.Cases.{case_of, answers_of};
 
-// The top bit at each width.
-const TOP32: u32 = 0x8000_0000;
-
-const TOP64: u64 = 0x8000_0000_0000_0000;
+use words::{Word, top};
 
 // Less, read as signed: "compare after turning over the top bit of each operand".
-fn lts32(a: u32, b: u32) -> bool
-    ensures { result ≡ lts_w 32 a b }
+#[tactic(auto, using(crate::proofs::Cases::lts_flipped))]
+fn lts<W: Word>(a: W, b: W) -> bool
+    ensures { result ≡ lts_w W.BITS (W.value a) (W.value b) }
 {
-    (a ^ TOP32) < (b ^ TOP32)
-}
-
-fn lts64(a: u64, b: u64) -> bool
-    ensures { result ≡ lts_w 64 a b }
-{
-    (a ^ TOP64) < (b ^ TOP64)
+    let turned = top::<W>().number();
+    (a.number() ^ turned) < (b.number() ^ turned)
 }
 
 // A bit where a test passes.
@@ -55,14 +48,11 @@ fn answer(c: u8, equal: bool, less: bool, below: bool) -> bool
     (answers(c) >> case) % 2 == 1
 }
 
-pub fn holds32(c: u8, a: u32, b: u32) -> bool
-    ensures { result ≡ cond_w 32 c a b }
+#[tactic(auto, using(crate::proofs::Cases::answered))]
+pub fn holds<W: Word>(c: u8, a: W, b: W) -> bool
+    ensures { result ≡ cond_w W.BITS c (W.value a) (W.value b) }
 {
-    answer(c, a == b, lts32(a, b), a < b)
-}
-
-pub fn holds64(c: u8, a: u64, b: u64) -> bool
-    ensures { result ≡ cond_w 64 c a b }
-{
-    answer(c, a == b, lts64(a, b), a < b)
+    let x = a.number();
+    let y = b.number();
+    answer(c, x == y, lts(a, b), x < y)
 }

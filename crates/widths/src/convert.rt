@@ -2,10 +2,12 @@
 ghost use Rattle.std.specs.Prelude.{◌≡◌, ◌%◌, ◌^◌};
 ghost use Rattle.word.specs.Word.{extend_w};
 
+use words::{Word, to_bits};
+
 pub fn ext_i32_i64(a: u32) -> u64
     ensures { result ≡ extend_w 32 64 a }
 {
-    word64::to_bits(word32::to_signed(a) as i64)
+    to_bits(a.to_signed())
 }
 
 pub fn extu_i32_i64(a: u32) -> u64

@@ -1,7 +1,8 @@
 -- Results of the field ops fit, and what their code computes, over width, position and length. Assumes nothing.
 use mathlib.Core.Path.{◌≡◌, refl, sym, ap, ap₂, ◌∙◌, subst}
 use mathlib.Core.Bool.{Bool, true, false, not, ◌&&◌}
-use mathlib.Core.Option.{Option, some}
+use Rattle.std.specs.Prelude.{Option, None, Some}
+use Rattle.std.proofs.lemmas.Option.{cond_some}
 use Prim.Native.Nat.{ℕ, ◌+◌, ◌-◌, ◌*◌, ◌/◌, ◌%◌, ◌^◌, ◌≤◌, ◌<◌}
 use native.Mathlib.Nat.{add-zero, add-mul, mul_assoc, mul-mod_left, mod-lt, lt_of_lt_of_le, lt_of_le_of_lt, div-one, mod-eq_of_lt}
 use native.Mathlib.Omega.{arith}
@@ -9,13 +10,10 @@ use lib.Dec.{T, ltb, leb}
 use lib.Bits.{bit_and, bit_or, and_lt, and_le_l, or_lt, or_shifted_r}
 use lib.Pow.{split, pow_pos, pow_mono, pow-add, shr_lt, shl_exact, shl-shr, shr-shr, ones_lt, ones_split, high, low, field, mod-pow-add}
 use borrow.Author.Tests.{ltb-true, leb-true, lt-ltb}
-use Rattle.word.specs.declared.Stated.{Stated}
-use Rattle.word.specs.declared.Stated.TheVariants.{Value, NoResult}
 use Rattle.word.specs.Word.{shl_w, sar_w, extend_w, by_count}
 use Rattle.word.specs.Fields.{field_ok, position_ok, by_field, by_position, field_mask, deposit_w, extract_w, sextract_w, extract2_w}
-use Rattle.word.specs.Answer.{stated_of}
-use Rattle.word.proofs.Tests.{cond_told, on, off}
-use Rattle.word.proofs.Fits.{mod_fits, andc_fits, shl_fits, extend_fits, stated, unstated}
+use Rattle.word.proofs.Tests.{on, off}
+use Rattle.word.proofs.Fits.{mod_fits, andc_fits, shl_fits, extend_fits}
 use Rattle.word.proofs.Fields.{mask_fits, extract_fits}
 use Rattle.word.proofs.Widen.{sar_extends}
 
@@ -54,22 +52,21 @@ unfolding extract2_w
 extract2_fits w pos a b = mod_fits w ((b * 2 ^ w + a) / 2 ^ pos)
 
 -- a stated result is the one computed, of a field within the width
-pub field_states : (w pos len x y : ℕ) → by_field w pos len x ≡ some y → (pos + len ≤ w) × (y ≡ x)
+pub field_states : (w pos len x y : ℕ) → by_field w pos len x ≡ Some y → (pos + len ≤ w) × (y ≡ x)
 unfolding by_field
-field_states w pos len x y =
-    cond_told (λ (o : Option ℕ). o ≡ some y → (pos + len ≤ w) × (y ≡ x)) (field_ok w pos len) (λ t e. ((field_ends w pos len t).1, stated x y e)) (λ t. unstated y)
+field_states w pos len x y e = let p = cond_some (field_ok w pos len) x y e in ((field_ends w pos len p.0).1, sym p.1)
 
-pub position_states : (w pos x y : ℕ) → by_position w pos x ≡ some y → y ≡ x
+pub position_states : (w pos x y : ℕ) → by_position w pos x ≡ Some y → y ≡ x
 unfolding by_position
-position_states w pos x y = cond_told (λ (o : Option ℕ). o ≡ some y → y ≡ x) (position_ok w pos) (λ t. stated x y) (λ t. unstated y)
+position_states w pos x y e = sym (cond_some (position_ok w pos) x y e).1
 
 -- what the code's test for a field settles
 module _ (w pos len : ℕ) {r : Bool} (e : r ≡ field_ok w pos len) where
-  pub no_field : (v : ℕ) → not r ≡ true → NoResult ≡ stated_of (by_field w pos len v)
+  pub no_field : (v : ℕ) → not r ≡ true → None ≡ by_field w pos len v
   unfolding by_field
   no_field v t = rw (sym e ∙ off r t)
 
-  pub has_field : {x v : ℕ} → not r ≡ false → x ≡ v → Value x ≡ stated_of (by_field w pos len v)
+  pub has_field : {x v : ℕ} → not r ≡ false → x ≡ v → Some x ≡ by_field w pos len v
   unfolding by_field
   has_field t q = rw (sym e ∙ on r t, q)
 
@@ -77,11 +74,11 @@ module _ (w pos len : ℕ) {r : Bool} (e : r ≡ field_ok w pos len) where
   field_in t = field_ends w pos len (sym e ∙ on r t)
 
 module _ (w pos : ℕ) {r : Bool} (e : r ≡ position_ok w pos) where
-  pub no_position : (v : ℕ) → not r ≡ true → NoResult ≡ stated_of (by_position w pos v)
+  pub no_position : (v : ℕ) → not r ≡ true → None ≡ by_position w pos v
   unfolding by_position
   no_position v t = rw (sym e ∙ off r t)
 
-  pub has_position : {x v : ℕ} → not r ≡ false → x ≡ v → Value x ≡ stated_of (by_position w pos v)
+  pub has_position : {x v : ℕ} → not r ≡ false → x ≡ v → Some x ≡ by_position w pos v
   unfolding by_position
   has_position t q = rw (sym e ∙ on r t, q)
 
@@ -121,7 +118,7 @@ module _ (w pos len a : ℕ) (end : pos + len ≤ w) where
   moved_signed some-bit = sar_extends w len (shl_w w a up) some-bit (omega arith) (shl_fits w a up) ∙ ap (extend_w len w) moved
 
   -- by the word's own shift, whose count is below the width
-  pub by_sar : {t : Bool} {r : Stated} → t ≡ field_ok w pos len → not t ≡ false → r ≡ stated_of (by_count w down (sar_w w (shl_w w a up) down)) → r ≡ stated_of (by_field w pos len (sextract_w w pos len a))
+  pub by_sar : {t : Bool} {r : Option ℕ} → t ≡ field_ok w pos len → not t ≡ false → r ≡ by_count w down (sar_w w (shl_w w a up) down) → r ≡ by_field w pos len (sextract_w w pos len a)
   unfolding by_field by_count
   by_sar {t} e n q =
       let f = field_ends w pos len (sym e ∙ on t n) in

@@ -1,7 +1,8 @@
 -- The result of every operation fits the width, and a stated result is the one computed. Assumes nothing.
-use mathlib.Core.Path.{◌≡◌, refl}
+use mathlib.Core.Path.{◌≡◌, refl, sym}
 use mathlib.Core.Bool.{Bool, true, false, ◌&&◌, ◌||◌}
-use mathlib.Core.Option.{Option, none, some}
+use Rattle.std.specs.Prelude.{Option, Some}
+use Rattle.std.proofs.lemmas.Option.{none-some, same_Some, cond_some}
 use Prim.Native.Nat.{ℕ, zero, suc, ◌+◌, ◌-◌, ◌*◌, ◌/◌, ◌%◌, ◌^◌, ◌≤◌, ◌<◌, zero-le, suc-le-suc}
 use native.Mathlib.Nat.{mod-lt, mod-le, le_of_lt, lt_of_le_of_lt, div-le_self}
 use native.Mathlib.Omega.{arith}
@@ -125,22 +126,15 @@ extend_fits f w a l h =
     cond_told (λ (n : ℕ). n < 2 ^ w) (ltb a (2 ^ (f - 1))) (λ e. omega arith) (λ e. omega arith)
 
 -- a stated result is the one computed
-pub stated : (x y : ℕ) → some x ≡ some y → y ≡ x
-stated x y e = cc
-
-pub unstated : {A : Type 0} (y : ℕ) → none ≡ some y → A
-unstated y e = let z : ◌≡◌ {A = ℕ} 0 1 = cc in absurd (omega arith)
-
-pub divisor_states : (b x y : ℕ) → by_divisor b x ≡ some y → y ≡ x
+pub divisor_states : (b x y : ℕ) → by_divisor b x ≡ Some y → y ≡ x
 unfolding by_divisor
-divisor_states b x y = cond_told (λ (o : Option ℕ). o ≡ some y → y ≡ x) (eqb b 0) (λ t. unstated y) (λ t. stated x y)
+divisor_states b x y = cond_told (λ (o : Option ℕ). o ≡ Some y → y ≡ x) (eqb b 0) (λ t e. absurd (none-some y e)) (λ t e. sym (same_Some x y e))
 
-pub signed_states : (w a b x y : ℕ) → by_signed w a b x ≡ some y → y ≡ x
+pub signed_states : (w a b x y : ℕ) → by_signed w a b x ≡ Some y → y ≡ x
 unfolding by_signed
 signed_states w a b x y =
-    cond_told (λ (o : Option ℕ). o ≡ some y → y ≡ x) (eqb b 0 || (eqb a (2 ^ (w - 1)) && eqb b (2 ^ w - 1))) (λ t. unstated y) (λ t. stated x y)
+    cond_told (λ (o : Option ℕ). o ≡ Some y → y ≡ x) (eqb b 0 || (eqb a (2 ^ (w - 1)) && eqb b (2 ^ w - 1))) (λ t e. absurd (none-some y e)) (λ t e. sym (same_Some x y e))
 
-pub count_states : (w k x y : ℕ) → by_count w k x ≡ some y → (k < w) × (y ≡ x)
+pub count_states : (w k x y : ℕ) → by_count w k x ≡ Some y → (k < w) × (y ≡ x)
 unfolding by_count
-count_states w k x y =
-    cond_told (λ (o : Option ℕ). o ≡ some y → (k < w) × (y ≡ x)) (ltb k w) (λ t e. (ltb-true k w t, stated x y e)) (λ t. unstated y)
+count_states w k x y e = let p = cond_some (ltb k w) x y e in (ltb-true k w p.0, sym p.1)

@@ -2,27 +2,26 @@
 use mathlib.Core.Path.{◌≡◌, sym, ◌∙◌, subst}
 use mathlib.Core.Bool.{Bool, true, false}
 use Prim.Native.Nat.{ℕ, ◌-◌, ◌^◌, ◌≤◌, ◌<◌}
+use Rattle.std.specs.Prelude.{None, Some}
 use lib.Dec.{T, eqb}
 use borrow.Author.Tests.{eq-eqb, ne_eqb, lt-ltb, le-ltb}
-use Rattle.word.specs.declared.Stated.TheVariants.{Value, NoResult}
 use Rattle.word.specs.Word.{by_divisor, no_quotient, by_signed, by_count}
-use Rattle.word.specs.Answer.{stated_of}
 
 -- a count below the width, and one at or above it
-pub counted : (w : ℕ) {k v r : ℕ} → k < w → r ≡ v → Value r ≡ stated_of (by_count w k v)
+pub counted : (w : ℕ) {k v r : ℕ} → k < w → r ≡ v → Some r ≡ by_count w k v
 unfolding by_count
 counted w h e = rw (lt-ltb _ w h, e)
 
-pub uncounted : (w : ℕ) {k : ℕ} (v : ℕ) → w ≤ k → NoResult ≡ stated_of (by_count w k v)
+pub uncounted : (w : ℕ) {k : ℕ} (v : ℕ) → w ≤ k → None ≡ by_count w k v
 unfolding by_count
 uncounted w v h = rw (le-ltb _ w h)
 
 -- a divisor that is zero, and another
-pub by_zero : {b : ℕ} (v : ℕ) → b ≡ 0 → NoResult ≡ stated_of (by_divisor b v)
+pub by_zero : {b : ℕ} (v : ℕ) → b ≡ 0 → None ≡ by_divisor b v
 unfolding by_divisor
 by_zero {b} v h = rw (eq-eqb b 0 h)
 
-pub by_other : {b v : ℕ} → (b ≡ 0 → ⊥) → Value v ≡ stated_of (by_divisor b v)
+pub by_other : {b v : ℕ} → (b ≡ 0 → ⊥) → Some v ≡ by_divisor b v
 unfolding by_divisor
 by_other {b} h = rw (ne_eqb b 0 h)
 
@@ -39,11 +38,11 @@ module _ (w a b : ℕ) where
 
 -- what a test for it settles
 module _ (w a b : ℕ) {r : Bool} (e : r ≡ no_quotient w a b) where
-  pub signed_none : (v : ℕ) → r ≡ true → NoResult ≡ stated_of (by_signed w a b v)
+  pub signed_none : (v : ℕ) → r ≡ true → None ≡ by_signed w a b v
   unfolding by_signed
   signed_none v t = rw (sym e ∙ t)
 
-  pub signed_value : {x v : ℕ} → r ≡ false → x ≡ v → Value x ≡ stated_of (by_signed w a b v)
+  pub signed_value : {x v : ℕ} → r ≡ false → x ≡ v → Some x ≡ by_signed w a b v
   unfolding by_signed
   signed_value f q = rw (sym e ∙ f, q)
 

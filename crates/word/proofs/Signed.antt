@@ -5,14 +5,13 @@ use mathlib.Core.Bool.{Bool, true, false}
 use Prim.Native.Nat.{ℕ, zero, suc, ◌+◌, ◌-◌, ◌/◌, ◌^◌, ◌≤◌, ◌<◌, zero-le, suc-le-suc}
 use native.Mathlib.Nat.{le_trans, lt_of_le_of_lt, lt_of_lt_of_le, div-le_self, div-one, div-lt_self, pos_of_ne-zero}
 use native.Mathlib.Omega.{arith}
+use Rattle.std.specs.Prelude.{Some}
 use lib.Dec.{T, ltb, leb-zero}
 use lib.IntN.{ℤ, pos, negsuc, nat_abs, neg_ℤ}
 use lib.Signed.{mag, le_z, non_neg, quot_z, rem_z, shr_z, mag_rem}
 use borrow.Author.Tests.{le-ltb}
 use lib.Arith.{lt_of_le-ne}
-use Rattle.word.specs.declared.Stated.TheVariants.{Value}
 use Rattle.word.specs.Word.{signed_w, bits_w, divs_w, rems_w, no_quotient, by_signed}
-use Rattle.word.specs.Answer.{stated_of}
 use Rattle.word.proofs.Picks.{not_by_zero, not_least, signed_value}
 use mir.Syntax.{Width, w8, w16, w32, w64, w128}
 use mir.Val.{bits, hbits, Fits, SFits, to_z, of_z, sel}
@@ -132,13 +131,13 @@ reads w fa e = ap (λ (z : ℤ). to_z w (of_z w z)) e ∙ ap (to_z w) (of_z-to_z
 
 -- what the division states: the bits of the quotient, and of the remainder
 module _ {w : Width} {a b : ℕ} {x y : ℤ} (d : Divided w a b x y) {r : ℕ} where
-  pub quotient : r ≡ bits_w (bits w) (to_z w (of_z w (quot_z (to_z w (of_z w x)) (to_z w (of_z w y))))) → Value r ≡ stated_of (by_signed (bits w) a b (divs_w (bits w) a b))
+  pub quotient : r ≡ bits_w (bits w) (to_z w (of_z w (quot_z (to_z w (of_z w x)) (to_z w (of_z w y))))) → Some r ≡ by_signed (bits w) a b (divs_w (bits w) a b)
   unfolding divs_w
   quotient e =
       signed_value (bits w) a b d.tested d.passed
       (e ∙ ap (bits_w (bits w)) (to_z-of_z (divides d).1 ∙ (λ i. quot_z ((reads w d.fits_a d.read_a ∙ reads_signed w a) i) ((reads w d.fits_b d.read_b ∙ reads_signed w b) i))))
 
-  pub remainder : r ≡ bits_w (bits w) (to_z w (of_z w (rem_z (to_z w (of_z w x)) (to_z w (of_z w y))))) → Value r ≡ stated_of (by_signed (bits w) a b (rems_w (bits w) a b))
+  pub remainder : r ≡ bits_w (bits w) (to_z w (of_z w (rem_z (to_z w (of_z w x)) (to_z w (of_z w y))))) → Some r ≡ by_signed (bits w) a b (rems_w (bits w) a b)
   unfolding rems_w
   remainder e =
       signed_value (bits w) a b d.tested d.passed

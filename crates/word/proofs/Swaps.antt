@@ -1,7 +1,8 @@
 -- The byte law of the swaps, that their results fit, and what their code computes, over the width and the bytes. Assumes nothing.
 use mathlib.Core.Path.{◌≡◌, refl, sym, ap, ◌∙◌, subst}
 use mathlib.Core.Bool.{Bool, true, false, cond, not, ◌&&◌, ◌||◌, beq}
-use mathlib.Core.Option.{Option, none, some}
+use Rattle.std.specs.Prelude.{Option, None, Some}
+use Rattle.std.proofs.lemmas.Option.{cond_some}
 use Prim.Native.Nat.{ℕ, zero, suc, ◌+◌, ◌-◌, ◌*◌, ◌/◌, ◌%◌, ◌^◌, ◌≤◌, ◌<◌}
 use native.Mathlib.Nat.{add_comm, mod-lt, mod-mod, div-one, div-eq_of_lt, sub-add_cancel, lt_of_lt_of_le, mul-le-mul_right}
 use native.Mathlib.Omega.{arith}
@@ -9,15 +10,12 @@ use lib.Arith.{digits_lt}
 use lib.Dec.{eqb, ltb, leb, lit<}
 use lib.Pow.{pow_mono, pow-add, high, low, shr-shr, ones_split, ones_lt, high_ones}
 use borrow.Author.Tests.{eqb-true, eqb-false, ltb-true, ltb-false, lt-ltb, le-ltb, lt-leb}
-use Rattle.word.specs.declared.Stated.{Stated}
-use Rattle.word.specs.declared.Stated.TheVariants.{Value, NoResult}
 use Rattle.word.specs.Word.{extend_w}
 use Rattle.word.specs.Fields.{field_ok, by_field, sextract_w, bit_at}
 use Rattle.word.specs.Swaps.{has_iz, has_oz, has_os, swap_flags_ok, swap_bytes, bswap_w, input_ok, by_input, byte_at, ByteLaw}
-use Rattle.word.specs.Answer.{stated_of}
 use Rattle.word.proofs.Tests.{cond_all, on, off}
 use Rattle.word.proofs.Bits.{part_mod}
-use Rattle.word.proofs.Fits.{extend_fits, stated, unstated}
+use Rattle.word.proofs.Fits.{extend_fits}
 use Rattle.word.proofs.FieldLeaves.{sextract_low}
 
 -- one byte more
@@ -149,17 +147,17 @@ unfolding bswap_w
 bswap_fits w n flags a l =
     cond_all (λ (x : ℕ). x < 2 ^ w) (has_os flags) (extend_fits (8 * n) w (swap_bytes n a) l (swap_fits n a)) (lt_of_lt_of_le (swap_fits n a) (pow_mono l))
 
-pub input_states : (n flags a x y : ℕ) → by_input n flags a x ≡ some y → y ≡ x
+pub input_states : (n flags a x y : ℕ) → by_input n flags a x ≡ Some y → y ≡ x
 unfolding by_input
-input_states n flags a x y = cond_all (λ (o : Option ℕ). o ≡ some y → y ≡ x) (input_ok n flags a) (stated x y) (unstated y)
+input_states n flags a x y e = sym (cond_some (input_ok n flags a) x y e).1
 
 -- what the code's tests settle: of the input
 module _ (n flags a : ℕ) {r : Bool} (e : r ≡ input_ok n flags a) where
-  pub no_input : (v : ℕ) → not r ≡ true → NoResult ≡ stated_of (by_input n flags a v)
+  pub no_input : (v : ℕ) → not r ≡ true → None ≡ by_input n flags a v
   unfolding by_input
   no_input v t = rw (sym e ∙ off r t)
 
-  pub has_input : {x v : ℕ} → not r ≡ false → x ≡ v → Value x ≡ stated_of (by_input n flags a v)
+  pub has_input : {x v : ℕ} → not r ≡ false → x ≡ v → Some x ≡ by_input n flags a v
   unfolding by_input
   has_input t q = rw (sym e ∙ on r t, q)
 
@@ -174,21 +172,21 @@ module _ (w n flags a : ℕ) {r : Bool} (e : r ≡ has_os flags) {x : ℕ} where
   swapped_zero f q = rw (sym e ∙ f, q)
 
 -- with OS, by the field of the swapped bytes
-pub swapped_by_field : (w n flags a : ℕ) {t o : Bool} {s : ℕ} {r : Stated} → field_ok w 0 (8 * n) ≡ true → t ≡ input_ok n flags a → not t ≡ false → o ≡ has_os flags → o ≡ true → s ≡ swap_bytes n a
-    → r ≡ stated_of (by_field w 0 (8 * n) (sextract_w w 0 (8 * n) s)) → r ≡ stated_of (by_input n flags a (bswap_w w n flags a))
+pub swapped_by_field : (w n flags a : ℕ) {t o : Bool} {s : ℕ} {r : Option ℕ} → field_ok w 0 (8 * n) ≡ true → t ≡ input_ok n flags a → not t ≡ false → o ≡ has_os flags → o ≡ true → s ≡ swap_bytes n a
+    → r ≡ by_field w 0 (8 * n) (sextract_w w 0 (8 * n) s) → r ≡ by_input n flags a (bswap_w w n flags a)
 unfolding by_field by_input bswap_w
 swapped_by_field w n flags a {t} {s = s} whole e i q y z r =
-    r ∙ rw (whole, sym e ∙ on t i, sym q ∙ y) (ap (λ (x : ℕ). stated_of (some x)) (ap (sextract_w w 0 (8 * n)) z ∙ sextract_low w (8 * n) (swap_bytes n a) (swap_fits n a)))
+    r ∙ rw (whole, sym e ∙ on t i, sym q ∙ y) (ap Some (ap (sextract_w w 0 (8 * n)) z ∙ sextract_low w (8 * n) (swap_bytes n a) (swap_fits n a)))
 
 -- a swap of the whole width has nothing to extend
-pub whole_swap_lem : (w n flags a : ℕ) → 8 * n ≡ w → a < 2 ^ w → some (swap_bytes n a) ≡ by_input n flags a (bswap_w w n flags a)
+pub whole_swap_lem : (w n flags a : ℕ) → 8 * n ≡ w → a < 2 ^ w → Some (swap_bytes n a) ≡ by_input n flags a (bswap_w w n flags a)
 unfolding by_input bswap_w extend_w
 whole_swap_lem w n flags a e h =
     let s = swap_bytes n a in
     let small : ltb a (2 ^ (8 * n)) ≡ true = lt-ltb a (2 ^ (8 * n)) (rw e h) in
     let same : s ≡ cond (has_os flags) (cond (ltb s (2 ^ (8 * n - 1))) s (s + (2 ^ w - 2 ^ (8 * n)))) s =
     cond_all (λ (x : ℕ). s ≡ x) (has_os flags) (cond_all (λ (x : ℕ). s ≡ x) (ltb s (2 ^ (8 * n - 1))) refl (rw e (omega arith))) refl in
-    ap some same ∙ sym (ap (λ (b : Bool). cond (not (has_iz flags) || b) (some (bswap_w w n flags a)) none) small ∙ ap (λ (b : Bool). cond b (some (bswap_w w n flags a)) none) (either (has_iz flags)))
+    ap Some same ∙ sym (ap (λ (b : Bool). cond (not (has_iz flags) || b) (Some (bswap_w w n flags a)) None) small ∙ ap (λ (b : Bool). cond b (Some (bswap_w w n flags a)) None) (either (has_iz flags)))
   where
     either : (b : Bool) → (not b || true) ≡ true
     either true = refl

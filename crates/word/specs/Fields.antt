@@ -1,6 +1,5 @@
 -- Bit fields, once over the width w, and what each bit of their results is. Assumes nothing.
-use Rattle.std.specs.Prelude.{◌≡◌, ℕ, ◌+◌, ◌-◌, ◌*◌, ◌/◌, ◌%◌, ◌^◌, ◌<◌, Bool, cond, ◌&&◌, ltb, leb}
-use Rattle.std.proofs.Math.Option.{Option, none, some}
+use Rattle.std.specs.Prelude.{◌≡◌, ℕ, ◌+◌, ◌-◌, ◌*◌, ◌/◌, ◌%◌, ◌^◌, ◌<◌, Bool, cond, ◌&&◌, ltb, leb, Option, None, Some}
 use Rattle.std.specs.Int.Bits.{bit_and, bit_or}
 use Rattle.word.specs.Word.{andc_w, shl_w, extend_w}
 
@@ -13,10 +12,10 @@ position_ok w pos = leb pos w
 
 -- of any other field no result is stated
 unfoldable pub by_field : ℕ → ℕ → ℕ → ℕ → Option ℕ
-by_field w pos len x = cond (field_ok w pos len) (some x) none
+by_field w pos len x = cond (field_ok w pos len) (Some x) None
 
 unfoldable pub by_position : ℕ → ℕ → ℕ → Option ℕ
-by_position w pos x = cond (position_ok w pos) (some x) none
+by_position w pos x = cond (position_ok w pos) (Some x) None
 
 -- "LEN - the length of the bitfield", "POS - the position of the first bit, counting from the LSB"
 abbrev pub field_mask : ℕ → ℕ → ℕ

@@ -3,4 +3,3 @@ pub mod Condition
 pub mod Fields
 pub mod Swaps
 pub mod Double
-pub mod Answer

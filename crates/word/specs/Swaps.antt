@@ -1,7 +1,6 @@
 -- Byte swaps and bit counts, once over the width w. Assumes nothing.
-use Rattle.std.specs.Prelude.{◌≡◌, ℕ, zero, suc, ◌+◌, ◌-◌, ◌*◌, ◌/◌, ◌%◌, ◌^◌, ◌≤◌, ◌<◌, Bool, cond, not, ◌&&◌, ◌||◌, eqb, ltb}
+use Rattle.std.specs.Prelude.{◌≡◌, ℕ, zero, suc, ◌+◌, ◌-◌, ◌*◌, ◌/◌, ◌%◌, ◌^◌, ◌≤◌, ◌<◌, Bool, cond, not, ◌&&◌, ◌||◌, eqb, ltb, Option, None, Some}
 use Rattle.std.specs.Bool.{beq}
-use Rattle.std.proofs.Math.Option.{Option, none, some}
 use Rattle.word.specs.Word.{extend_w}
 use Rattle.word.specs.Fields.{bit_at}
 
@@ -37,7 +36,7 @@ abbrev pub input_ok : ℕ → ℕ → ℕ → Bool
 input_ok n flags a = not (has_iz flags) || ltb a (2 ^ (8 * n))
 
 unfoldable pub by_input : ℕ → ℕ → ℕ → ℕ → Option ℕ
-by_input n flags a x = cond (input_ok n flags a) (some x) none
+by_input n flags a x = cond (input_ok n flags a) (Some x) None
 
 -- The byte law: byte i of a swap of n bytes, at least one and no more than the width has, and what stands above them. `byte_law` (proofs/Swaps) is its proof
 abbrev pub byte_at : ℕ → ℕ → ℕ

@@ -1,6 +1,5 @@
 -- What each op computes on numbers below 2 ^ w, once over the width w. Assumes nothing.
-use Rattle.std.specs.Prelude.{ℕ, suc, ◌+◌, ◌-◌, ◌*◌, ◌/◌, ◌%◌, ◌^◌, Bool, cond, ◌&&◌, ◌||◌, ltb, eqb, ℤ, pos, negsuc}
-use Rattle.std.proofs.Math.Option.{Option, none, some}
+use Rattle.std.specs.Prelude.{ℕ, suc, ◌+◌, ◌-◌, ◌*◌, ◌/◌, ◌%◌, ◌^◌, Bool, cond, ◌&&◌, ◌||◌, ltb, eqb, ℤ, pos, negsuc, Option, None, Some}
 use Rattle.std.specs.Int.Bits.{bit_and, bit_or, bit_xor}
 use mir.Val.{sel}
 use Rattle.std.specs.Int.Signed.{quot_z, rem_z, shr_z}
@@ -74,15 +73,15 @@ extend_w f w a = cond (ltb a (2 ^ (f - 1))) a (a + (2 ^ w - 2 ^ f))
 
 -- "No result is stated for a zero divisor"
 unfoldable pub by_divisor : ℕ → ℕ → Option ℕ
-by_divisor b x = cond (eqb b 0) none (some x)
+by_divisor b x = cond (eqb b 0) None (Some x)
 
 -- ", for the smallest signed value divided by minus one (divs and rems)"
 abbrev pub no_quotient : ℕ → ℕ → ℕ → Bool
 no_quotient w a b = eqb b 0 || (eqb a (2 ^ (w - 1)) && eqb b (2 ^ w - 1))
 
 unfoldable pub by_signed : ℕ → ℕ → ℕ → ℕ → Option ℕ
-by_signed w a b x = cond (no_quotient w a b) none (some x)
+by_signed w a b x = cond (no_quotient w a b) None (Some x)
 
 -- ", and for a shift or rotate whose count, read unsigned, is at or above the width."
 unfoldable pub by_count : ℕ → ℕ → ℕ → Option ℕ
-by_count w k x = cond (ltb k w) (some x) none
+by_count w k x = cond (ltb k w) (Some x) None

@@ -5,65 +5,65 @@ use borrow.Author.Rules.{rules}
 use Rattle.dispatch.proofs.bit_op.Goals as goal
 
 pub compute_step-requires : goal.compute_step-requires
-compute_step-requires c = (computed c.requires.0 c.in-45.is refl, c.requires.1)
+compute_step-requires c = computed c.requires.0 c.in-45.is refl
 
 pub compute_step-requires-in-46 : goal.compute_step-requires-in-46
-compute_step-requires-in-46 c = (computed c.requires.0 c.in-46.is refl, c.requires.1)
+compute_step-requires-in-46 c = computed c.requires.0 c.in-46.is refl
 
 pub compute_step-requires-in-47 : goal.compute_step-requires-in-47
-compute_step-requires-in-47 c = (computed c.requires.0 c.in-47.is refl, c.requires.1)
+compute_step-requires-in-47 c = computed c.requires.0 c.in-47.is refl
 
 pub compute_step-requires-in-48 : goal.compute_step-requires-in-48
-compute_step-requires-in-48 c = (computed c.requires.0 c.in-48.is refl, c.requires.1)
+compute_step-requires-in-48 c = computed c.requires.0 c.in-48.is refl
 
 pub compute_step-requires-in-49 : goal.compute_step-requires-in-49
-compute_step-requires-in-49 c = (computed c.requires.0 c.in-49.is refl, c.requires.1)
+compute_step-requires-in-49 c = computed c.requires.0 c.in-49.is refl
 
 pub compute_step-requires-in-50 : goal.compute_step-requires-in-50
-compute_step-requires-in-50 c = (computed c.requires.0 c.in-50.is refl, c.requires.1)
+compute_step-requires-in-50 c = computed c.requires.0 c.in-50.is refl
 
 pub compute_step-requires-in-52 : goal.compute_step-requires-in-52
-compute_step-requires-in-52 c = (computed c.requires.0 c.in-52.is refl, c.requires.1)
+compute_step-requires-in-52 c = computed c.requires.0 c.in-52.is refl
 
 pub compute_step-requires-in-53 : goal.compute_step-requires-in-53
-compute_step-requires-in-53 c = (computed c.requires.0 c.in-53.is refl, c.requires.1)
+compute_step-requires-in-53 c = computed c.requires.0 c.in-53.is refl
 
 pub compute_step-requires-in-54 : goal.compute_step-requires-in-54
-compute_step-requires-in-54 c = (computed c.requires.0 c.in-54.is refl, c.requires.1)
+compute_step-requires-in-54 c = computed c.requires.0 c.in-54.is refl
 
 pub compute_step-requires-in-173 : goal.compute_step-requires-in-173
-compute_step-requires-in-173 c = (computed c.requires.0 c.in-173.is refl, c.requires.1)
+compute_step-requires-in-173 c = computed c.requires.0 c.in-173.is refl
 
 pub compute_step-requires-in-174 : goal.compute_step-requires-in-174
-compute_step-requires-in-174 c = (computed c.requires.0 c.in-174.is refl, c.requires.1)
+compute_step-requires-in-174 c = computed c.requires.0 c.in-174.is refl
 
 pub compute_step-requires-in-175 : goal.compute_step-requires-in-175
-compute_step-requires-in-175 c = (computed c.requires.0 c.in-175.is refl, c.requires.1)
+compute_step-requires-in-175 c = computed c.requires.0 c.in-175.is refl
 
 pub compute_step-requires-in-176 : goal.compute_step-requires-in-176
-compute_step-requires-in-176 c = (computed c.requires.0 c.in-176.is refl, c.requires.1)
+compute_step-requires-in-176 c = computed c.requires.0 c.in-176.is refl
 
 pub compute_step-requires-in-177 : goal.compute_step-requires-in-177
-compute_step-requires-in-177 c = (computed c.requires.0 c.in-177.is refl, c.requires.1)
+compute_step-requires-in-177 c = computed c.requires.0 c.in-177.is refl
 
 pub compute_step-requires-in-178 : goal.compute_step-requires-in-178
-compute_step-requires-in-178 c = (computed c.requires.0 c.in-178.is refl, c.requires.1)
+compute_step-requires-in-178 c = computed c.requires.0 c.in-178.is refl
 
 pub compute_step-requires-in-179 : goal.compute_step-requires-in-179
-compute_step-requires-in-179 c = (computed c.requires.0 c.in-179.is refl, c.requires.1)
+compute_step-requires-in-179 c = computed c.requires.0 c.in-179.is refl
 
 pub compute_step-requires-in-180 : goal.compute_step-requires-in-180
-compute_step-requires-in-180 c = (computed c.requires.0 c.in-180.is refl, c.requires.1)
+compute_step-requires-in-180 c = computed c.requires.0 c.in-180.is refl
 
 pub compute_step-requires-in-181 : goal.compute_step-requires-in-181
-compute_step-requires-in-181 c = (computed c.requires.0 c.in-181.is refl, c.requires.1)
+compute_step-requires-in-181 c = computed c.requires.0 c.in-181.is refl
 
 pub compute_step-requires-in-182 : goal.compute_step-requires-in-182
-compute_step-requires-in-182 c = (computed c.requires.0 c.in-182.is refl, c.requires.1)
+compute_step-requires-in-182 c = computed c.requires.0 c.in-182.is refl
 
 pub other_step-requires : goal.other_step-requires
 other_step-requires c = let start = c in
-    (start.requires.0, computes_not start.args.k (search rules) start.requires.2 start.requires.3 start.requires.4 c.in_default.in_default-own.rest)
+    (start.requires.0, computes_not start.args.k (search rules) start.requires.1 start.requires.2 start.requires.3 c.in_default.in_default-own.rest)
 
 pub returns-in-45 : goal.returns-in-45
 returns-in-45 c = c.compute_step.ensures.under c.args.memory.now
@@ -121,6 +121,3 @@ returns-in-181 c = c.compute_step-in-181.ensures.under c.args.memory.now
 
 pub returns-in-182 : goal.returns-in-182
 returns-in-182 c = c.compute_step-in-182.ensures.under c.args.memory.now
-
-pub returns-in_default : goal.returns-in_default
-returns-in_default c = c.other_step.ensures

@@ -1,96 +1,91 @@
 -- The kinds 05 to 07 and 11 to 29, each with code of its own. Assumes nothing.
 use mathlib.Core.Path.{refl}
-use Rattle.runs.proofs.Dispatch.{computed, not_narrow}
+use Rattle.runs.proofs.Dispatch.{computed}
 use Rattle.dispatch.proofs.step.Goals as goal
 
 pub compute_step-requires : goal.compute_step-requires
-compute_step-requires c = (computed c.requires.0 c.in-5.is refl, c.requires.1)
+compute_step-requires c = computed c.requires c.in-5.is refl
 
 pub compute_step-requires-in-6 : goal.compute_step-requires-in-6
-compute_step-requires-in-6 c = (computed c.requires.0 c.in-6.is refl, c.requires.1)
+compute_step-requires-in-6 c = computed c.requires c.in-6.is refl
 
 pub compute_step-requires-in-7 : goal.compute_step-requires-in-7
-compute_step-requires-in-7 c = (computed c.requires.0 c.in-7.is refl, c.requires.1)
+compute_step-requires-in-7 c = computed c.requires c.in-7.is refl
 
 pub compute_step-requires-in-17 : goal.compute_step-requires-in-17
-compute_step-requires-in-17 c = (computed c.requires.0 c.in-17.is refl, c.requires.1)
+compute_step-requires-in-17 c = computed c.requires c.in-17.is refl
 
 pub compute_step-requires-in-18 : goal.compute_step-requires-in-18
-compute_step-requires-in-18 c = (computed c.requires.0 c.in-18.is refl, c.requires.1)
+compute_step-requires-in-18 c = computed c.requires c.in-18.is refl
 
 pub compute_step-requires-in-19 : goal.compute_step-requires-in-19
-compute_step-requires-in-19 c = (computed c.requires.0 c.in-19.is refl, c.requires.1)
+compute_step-requires-in-19 c = computed c.requires c.in-19.is refl
 
 pub compute_step-requires-in-20 : goal.compute_step-requires-in-20
-compute_step-requires-in-20 c = (computed c.requires.0 c.in-20.is refl, c.requires.1)
+compute_step-requires-in-20 c = computed c.requires c.in-20.is refl
 
 pub compute_step-requires-in-21 : goal.compute_step-requires-in-21
-compute_step-requires-in-21 c = (computed c.requires.0 c.in-21.is refl, c.requires.1)
+compute_step-requires-in-21 c = computed c.requires c.in-21.is refl
 
 pub compute_step-requires-in-22 : goal.compute_step-requires-in-22
-compute_step-requires-in-22 c = (computed c.requires.0 c.in-22.is refl, c.requires.1)
+compute_step-requires-in-22 c = computed c.requires c.in-22.is refl
 
 pub compute_step-requires-in-23 : goal.compute_step-requires-in-23
-compute_step-requires-in-23 c = (computed c.requires.0 c.in-23.is refl, c.requires.1)
+compute_step-requires-in-23 c = computed c.requires c.in-23.is refl
 
 pub compute_step-requires-in-24 : goal.compute_step-requires-in-24
-compute_step-requires-in-24 c = (computed c.requires.0 c.in-24.is refl, c.requires.1)
+compute_step-requires-in-24 c = computed c.requires c.in-24.is refl
 
 pub compute_step-requires-in-25 : goal.compute_step-requires-in-25
-compute_step-requires-in-25 c = (computed c.requires.0 c.in-25.is refl, c.requires.1)
+compute_step-requires-in-25 c = computed c.requires c.in-25.is refl
 
 pub compute_step-requires-in-26 : goal.compute_step-requires-in-26
-compute_step-requires-in-26 c = (computed c.requires.0 c.in-26.is refl, c.requires.1)
+compute_step-requires-in-26 c = computed c.requires c.in-26.is refl
 
 pub compute_step-requires-in-27 : goal.compute_step-requires-in-27
-compute_step-requires-in-27 c = (computed c.requires.0 c.in-27.is refl, c.requires.1)
+compute_step-requires-in-27 c = computed c.requires c.in-27.is refl
 
 pub compute_step-requires-in-28 : goal.compute_step-requires-in-28
-compute_step-requires-in-28 c = (computed c.requires.0 c.in-28.is refl, c.requires.1)
+compute_step-requires-in-28 c = computed c.requires c.in-28.is refl
 
 pub compute_step-requires-in-29 : goal.compute_step-requires-in-29
-compute_step-requires-in-29 c = (computed c.requires.0 c.in-29.is refl, c.requires.1)
+compute_step-requires-in-29 c = computed c.requires c.in-29.is refl
 
 pub compute_step-requires-in-30 : goal.compute_step-requires-in-30
-compute_step-requires-in-30 c = (computed c.requires.0 c.in-30.is refl, c.requires.1)
+compute_step-requires-in-30 c = computed c.requires c.in-30.is refl
 
 pub compute_step-requires-in-31 : goal.compute_step-requires-in-31
-compute_step-requires-in-31 c = (computed c.requires.0 c.in-31.is refl, c.requires.1)
+compute_step-requires-in-31 c = computed c.requires c.in-31.is refl
 
 pub compute_step-requires-in-32 : goal.compute_step-requires-in-32
-compute_step-requires-in-32 c = (computed c.requires.0 c.in-32.is refl, c.requires.1)
+compute_step-requires-in-32 c = computed c.requires c.in-32.is refl
 
 pub compute_step-requires-in-33 : goal.compute_step-requires-in-33
-compute_step-requires-in-33 c = (computed c.requires.0 c.in-33.is refl, c.requires.1)
+compute_step-requires-in-33 c = computed c.requires c.in-33.is refl
 
 pub compute_step-requires-in-34 : goal.compute_step-requires-in-34
-compute_step-requires-in-34 c = (computed c.requires.0 c.in-34.is refl, c.requires.1)
+compute_step-requires-in-34 c = computed c.requires c.in-34.is refl
 
 pub compute_step-requires-in-35 : goal.compute_step-requires-in-35
-compute_step-requires-in-35 c = (computed c.requires.0 c.in-35.is refl, c.requires.1)
+compute_step-requires-in-35 c = computed c.requires c.in-35.is refl
 
 pub compute_step-requires-in-36 : goal.compute_step-requires-in-36
-compute_step-requires-in-36 c = (computed c.requires.0 c.in-36.is refl, c.requires.1)
+compute_step-requires-in-36 c = computed c.requires c.in-36.is refl
 
 pub compute_step-requires-in-37 : goal.compute_step-requires-in-37
-compute_step-requires-in-37 c = (computed c.requires.0 c.in-37.is refl, c.requires.1)
+compute_step-requires-in-37 c = computed c.requires c.in-37.is refl
 
 pub compute_step-requires-in-38 : goal.compute_step-requires-in-38
-compute_step-requires-in-38 c = (computed c.requires.0 c.in-38.is refl, c.requires.1)
+compute_step-requires-in-38 c = computed c.requires c.in-38.is refl
 
 pub compute_step-requires-in-39 : goal.compute_step-requires-in-39
-compute_step-requires-in-39 c = (computed c.requires.0 c.in-39.is refl, c.requires.1)
+compute_step-requires-in-39 c = computed c.requires c.in-39.is refl
 
 pub compute_step-requires-in-40 : goal.compute_step-requires-in-40
-compute_step-requires-in-40 c = (computed c.requires.0 c.in-40.is refl, c.requires.1)
+compute_step-requires-in-40 c = computed c.requires c.in-40.is refl
 
 pub compute_step-requires-in-41 : goal.compute_step-requires-in-41
-compute_step-requires-in-41 c = (computed c.requires.0 c.in-41.is refl, c.requires.1)
-
-pub wide_op-requires : goal.wide_op-requires
-wide_op-requires c = let start = c in
-    let none = not_narrow start.args.k c.in_default.in_default-own.rest in
-    (start.requires.0, start.requires.1, none.0, none.1)
+compute_step-requires-in-41 c = computed c.requires c.in-41.is refl
 
 pub returns-in-5 : goal.returns-in-5
 returns-in-5 c = c.compute_step.ensures.under c.args.memory.now
@@ -175,6 +170,3 @@ returns-in-40 c = c.compute_step-in-40.ensures.under c.args.memory.now
 
 pub returns-in-41 : goal.returns-in-41
 returns-in-41 c = c.compute_step-in-41.ensures.under c.args.memory.now
-
-pub returns-in_default : goal.returns-in_default
-returns-in_default c = c.wide_op.ensures

@@ -4,16 +4,16 @@ use Rattle.passes.proofs.Stores.{copied_start, copied_length, copied_next, copie
 use Rattle.emit.proofs.copy.Goals as goal
 
 pub loop-j-init : goal.loop-j-init
-loop-j-init c = (omega arith, copied_start _ _ _ _)
+loop-j-init c = copied_start _ _ _ _
 
 pub bounds-out-to : goal.bounds-out-to
-bounds-out-to c = omega (arith, copied_length c.loop-j.invariant.1, c.requires)
+bounds-out-to c = omega (arith, copied_length c.loop-j.invariant, c.requires, c.loop-j-test.true)
 
 pub loop-j-preserved : goal.loop-j-preserved
-loop-j-preserved c = (omega arith, copied_next c.loop-j.invariant.1 (omega (arith, c.requires)))
+loop-j-preserved c = copied_next c.loop-j.invariant (omega (arith, c.requires, c.loop-j-test.true))
 
 pub shape_of-out : goal.shape_of-out
-shape_of-out c = copied_length c.loop-j.invariant.1
+shape_of-out c = copied_length c.loop-j.invariant
 
 pub returns : goal.returns
-returns c = copied_ends c.loop-j.invariant.1 c.loop-j.invariant.0 c.loop-j-test.false
+returns c = copied_ends c.loop-j.invariant (omega arith) c.loop-j-test.false

@@ -19,31 +19,31 @@ turn : {block places labels : List ℕ} {start ops op at count : ℕ} {first s :
 turn ready running = record { ready = ready; running = running }
 
 pub loop-op-init : goal.loop-op-init
-loop-op-init c = (refl, refl, running_start c.requires.0 _)
+loop-op-init c = (refl, refl, running_start c.requires _)
 
 pub bounds-block-at : goal.bounds-block-at
-bounds-block-at c = inside_now (turn c.requires.0 c.loop-op.invariant.2)
+bounds-block-at c = inside_now (turn c.requires c.loop-op.invariant.2)
 
 pub step-outcome-requires : goal.step-outcome-requires
-step-outcome-requires c = (stands_now (turn c.requires.0 c.loop-op.invariant.2), c.requires.1)
+step-outcome-requires c = stands_now (turn c.requires c.loop-op.invariant.2)
 
-pub number_of-op-requires : goal.number_of-op-requires
-number_of-op-requires c = label_now (turn c.requires.0 c.loop-op.invariant.2) c.step-outcome.ensures c.in-JumpsTo.is c.index.ensures refl
+pub bounds-labels-from : goal.bounds-labels-from
+bounds-labels-from c = label_now (turn c.requires c.loop-op.invariant.2) c.step-outcome.ensures c.in-JumpsTo.is c.from.ensures refl
 
 pub overflow_sub-op : goal.overflow_sub-op
-overflow_sub-op c = number_now (turn c.requires.0 c.loop-op.invariant.2) c.step-outcome.ensures c.in-JumpsTo.is c.index.ensures c.number_of-op.ensures
+overflow_sub-op c = number_now (turn c.requires c.loop-op.invariant.2) c.step-outcome.ensures c.in-JumpsTo.is c.from.ensures c.from-op.ensures
 
-pub place_of-at-requires : goal.place_of-at-requires
-place_of-at-requires c = target_now (turn c.requires.0 c.loop-op.invariant.2) c.step-outcome.ensures c.in-JumpsTo.is c.index.ensures c.number_of-op.ensures
+pub bounds-places-op : goal.bounds-places-op
+bounds-places-op c = target_now (turn c.requires c.loop-op.invariant.2) c.step-outcome.ensures c.in-JumpsTo.is c.from.ensures c.from-op.ensures
 
 pub ended-requires : goal.ended-requires
-ended-requires c = few_now (turn c.requires.0 c.loop-op.invariant.2)
+ended-requires c = few_now (turn c.requires c.loop-op.invariant.2)
 
 pub returns-in-Stops : goal.returns-in-Stops
-returns-in-Stops c = stops_now (turn c.requires.0 c.loop-op.invariant.2) c.step-outcome.ensures c.in-Stops.is c.ended.ensures
+returns-in-Stops c = stops_now (turn c.requires c.loop-op.invariant.2) c.step-outcome.ensures c.in-Stops.is c.ended.ensures
 
 pub overflow_add-count : goal.overflow_add-count
-overflow_add-count c = omega (arith, few_now (turn c.requires.0 c.loop-op.invariant.2))
+overflow_add-count c = omega (arith, few_now (turn c.requires c.loop-op.invariant.2))
 
 -- a turn that goes on comes further, and stands at an op again
 goes_on : (c : goal.Joined-outcome) →
@@ -51,19 +51,19 @@ goes_on : (c : goal.Joined-outcome) →
     let next = c.step-outcome.new in
     (c.loop-op.op < c.match-outcome.op) × Running c.args.block.now first (state_of next.globals next.temps next.memory) c.match-outcome.op c.match-outcome.at (c.loop-op.count + 1)
 goes_on c =
-    let now = turn c.requires.0 c.loop-op.invariant.2 in
+    let now = turn c.requires c.loop-op.invariant.2 in
     let step = c.step-outcome.ensures in
     elim c.match-outcome.branch [
       | in-Falls w ↦ falls_on now step w.in-Falls.is w.op-is w.at-is
-      | in-JumpsTo w ↦ jumps_on now step w.in-JumpsTo.is w.index.ensures w.number_of-op.ensures w.place_of-at.ensures w.op-is w.at-is
+      | in-JumpsTo w ↦ jumps_on now step w.in-JumpsTo.is w.from.ensures w.from-op.ensures w.from-at.ensures w.op-is w.at-is
     ]
 
 pub loop-op-smaller : goal.loop-op-smaller
-loop-op-smaller c = omega (arith, more_ops (turn c.requires.0 c.loop-op.invariant.2), (goes_on c).0)
+loop-op-smaller c = omega (arith, more_ops (turn c.requires c.loop-op.invariant.2), (goes_on c).0)
 
 pub loop-op-preserved : goal.loop-op-preserved
 loop-op-preserved c = (search rules, search rules, (goes_on c).1)
 
--- never reached
-pub returns : goal.returns
-returns c = absurd (omega (arith, more_ops (turn c.requires.0 c.loop-op.invariant.2), c.loop-op-test.false))
+-- the loop's own end
+pub unreachable-requires : goal.unreachable-requires
+unreachable-requires c = omega (arith, more_ops (turn c.requires c.loop-op.invariant.2), c.loop-op-test.false)

@@ -10,4 +10,4 @@ abbrev pub invariant-loop-op : goal.invariant-loop-op
 invariant-loop-op l = (length l.globals ≡ length l.initial.globals) × (length l.memory ≡ length l.initial.memory) × Running l.block (state_of l.initial.globals l.initial.temps l.initial.memory) (state_of l.globals l.temps l.memory) l.op l.at l.count
 
 abbrev pub decreases-loop-op : goal.decreases-loop-op
-decreases-loop-op l = l.ops - l.op
+decreases-loop-op l = length l.places - l.op

@@ -6,19 +6,16 @@ use Rattle.block.proofs.Views.{inside}
 use Rattle.passes.proofs.Knowing.{computed_at, folds_value, folds_none, over_computing, forgotten}
 use Rattle.fold.proofs.fold_computing.Goals as goal
 
-pub bounds-block-at : goal.bounds-block-at
-bounds-block-at c =
+pub bounds-op-op : goal.bounds-op-op
+bounds-op-op c =
     let s = c in
-    inside s.requires.0 (computed_at s.requires.0 refl s.requires.2).role_is 1 (omega arith)
+    inside s.args.op.now.stands (computed_at s.args.op.now.stands refl s.requires).role_is 1 (omega arith)
 
-pub returns-in-Value : goal.returns-in-Value
-returns-in-Value c =
-    let k = c in
-    folds_value k.requires.0 k.stated_by-stated.ensures c.in-Value.is c.learn.ensures
+pub returns-in_default : goal.returns-in_default
+returns-in_default c =
+    let s = c in
+    let none = rw c.in_default.is at s.stated_by-stated.ensures in
+    folds_none none (over_computing s.args.op.now.stands refl s.requires (marked s.args.known.now) s.args.values.now none (forgotten c.put.ensures))
 
-pub returns-in-NoResult : goal.returns-in-NoResult
-returns-in-NoResult c =
-    let k = c in
-    let s = k in
-    let none = rw c.in-NoResult.is at k.stated_by-stated.ensures in
-    folds_none none (over_computing s.requires.0 refl s.requires.2 (marked s.args.known.now) s.args.values.now none (forgotten c.put.ensures))
+pub returns : goal.returns
+returns c = folds_value c.args.op.now.stands c.stated_by-stated.ensures c.in-Some.is c.learn.ensures

@@ -3,4 +3,4 @@ use Rattle.passes.proofs.Knowing.{put_known}
 use Rattle.fold.proofs.learn.Goals as goal
 
 pub returns : goal.returns
-returns c = put_known c.put.ensures c.put_value.ensures
+returns c = put_known c.put.ensures c.put-2.ensures

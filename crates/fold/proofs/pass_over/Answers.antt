@@ -1,9 +1,10 @@
--- What is known after an op that stays, by the number of its role. Assumes nothing.
-use mathlib.Core.Path.{refl}
+-- What is known after an op that stays, by its role. Assumes nothing.
+use mathlib.Core.Path.{refl, sym, ◌∙◌}
 use Prim.Native.Nat.{◌+◌}
 use native.Mathlib.Omega.{arith}
+use borrow.Author.Tests.{eqb-true, eqb-false, ltb-true, ltb-false}
 use Rattle.memory.proofs.Numbers.{low_slice}
-use Rattle.ops.proofs.Shapes.{outs_as_lem, role_as_lem}
+use Rattle.ops.proofs.Shapes.{outs_as_lem, role_or_lem}
 use Rattle.block.specs.Scan.{marked}
 use Rattle.block.proofs.MarkSets.{marked_none}
 use Rattle.block.proofs.Views.{inside}
@@ -11,38 +12,38 @@ use Rattle.passes.proofs.Before.{operands_inside}
 use Rattle.passes.proofs.Knowing.{is_constant, over_constant, over_end, over_output, over_nothing, forgotten}
 use Rattle.fold.proofs.pass_over.Goals as goal
 
-pub bounds-block-at : goal.bounds-block-at
-bounds-block-at c = inside c.requires.0 (is_constant c.requires.0 refl (role_as_lem _ c.requires.1 c.role-r.ensures) (marked c.args.known.now) c.args.values.now c.if-r-eq-CONSTANT.true) 1 (omega arith)
+pub bounds-op-op : goal.bounds-op-op
+bounds-op-op c = inside c.args.op.now.stands (is_constant c.args.op.now.stands refl (role_or_lem _ c.args.op.now.shaped c.role-role.ensures) (marked c.args.known.now) c.args.values.now (eqb-true _ 8 (sym c.is_constant.ensures ∙ c.if-is_constant.true))) 1 (omega arith)
 
 pub slice_bounds-from_little_endian-end : goal.slice_bounds-from_little_endian-end
-slice_bounds-from_little_endian-end c = omega (arith, inside c.requires.0 (is_constant c.requires.0 refl (role_as_lem _ c.requires.1 c.role-r.ensures) (marked c.args.known.now) c.args.values.now c.if-r-eq-CONSTANT.true) 9 (omega arith))
+slice_bounds-from_little_endian-end c = omega (arith, inside c.args.op.now.stands (is_constant c.args.op.now.stands refl (role_or_lem _ c.args.op.now.shaped c.role-role.ensures) (marked c.args.known.now) c.args.values.now (eqb-true _ 8 (sym c.is_constant.ensures ∙ c.if-is_constant.true))) 9 (omega arith))
 
-pub returns-then-r-eq-CONSTANT : goal.returns-then-r-eq-CONSTANT
-returns-then-r-eq-CONSTANT c =
+pub returns-then-is_constant : goal.returns-then-is_constant
+returns-then-is_constant c =
     let k = c in
     let start = k in
     let a = start.args in
-    over_constant start.requires.0 refl (role_as_lem _ start.requires.1 k.role-r.ensures) (marked a.known.now) a.values.now k.if-r-eq-CONSTANT.true
-    (low_slice a.block.now (a.at + 2) (a.at + 10) c.from_little_endian.ensures (omega arith)) c.learn.ensures
+    over_constant start.args.op.now.stands refl (role_or_lem _ start.args.op.now.shaped k.role-role.ensures) (marked a.known.now) a.values.now (eqb-true _ 8 (sym k.is_constant.ensures ∙ k.if-is_constant.true))
+    (low_slice a.op.now.block.now (a.op.now.at + 2) (a.op.now.at + 10) c.from_little_endian.ensures (omega arith)) c.learn.ensures
 
-pub returns-then-r-lt-BRANCHES : goal.returns-then-r-lt-BRANCHES
-returns-then-r-lt-BRANCHES c =
+pub returns-then-is_closing : goal.returns-then-is_closing
+returns-then-is_closing c =
     let start = c in
-    over_end start.requires.0 refl (role_as_lem _ start.requires.1 c.role-r.ensures) (marked start.args.known.now) start.args.values.now c.if-r-lt-BRANCHES.true (marked_none 256 refl)
+    over_end start.args.op.now.stands refl (role_or_lem _ start.args.op.now.shaped c.role-role.ensures) (marked start.args.known.now) start.args.values.now (ltb-true _ 5 (sym c.is_closing.ensures ∙ c.if-is_closing.true)) (marked_none 256 refl)
 
-pub bounds-block-at-then-outs-eq1 : goal.bounds-block-at-then-outs-eq1
-bounds-block-at-then-outs-eq1 c =
+pub bounds-op-op-then-outs-eq1 : goal.bounds-op-op-then-outs-eq1
+bounds-op-op-then-outs-eq1 c =
     let start = c in
-    omega (arith, operands_inside start.requires.0 refl, outs_as_lem _ start.requires.1 c.outs.ensures, c.if-outs-eq1.true)
+    omega (arith, operands_inside start.args.op.now.stands refl, outs_as_lem _ start.args.op.now.shaped c.outs.ensures, c.if-outs-eq1.true)
 
 pub returns-then-outs-eq1 : goal.returns-then-outs-eq1
 returns-then-outs-eq1 c =
     let start = c in
-    over_output start.requires.0 refl (role_as_lem _ start.requires.1 c.role-r.ensures) (marked start.args.known.now) start.args.values.now c.if-r-lt-BRANCHES.false c.if-r-eq-CONSTANT.false start.requires.2
-    (outs_as_lem _ start.requires.1 c.outs.ensures) c.if-outs-eq1.true (forgotten c.put.ensures)
+    over_output start.args.op.now.stands refl (role_or_lem _ start.args.op.now.shaped c.role-role.ensures) (marked start.args.known.now) start.args.values.now (ltb-false _ 5 (sym c.is_closing.ensures ∙ c.if-is_closing.false)) (eqb-false _ 8 (sym c.is_constant.ensures ∙ c.if-is_constant.false)) start.requires
+    (outs_as_lem _ start.args.op.now.shaped c.outs.ensures) c.if-outs-eq1.true (forgotten c.put.ensures)
 
 pub returns-else-outs-eq1 : goal.returns-else-outs-eq1
 returns-else-outs-eq1 c =
     let start = c in
-    over_nothing start.requires.0 refl (role_as_lem _ start.requires.1 c.role-r.ensures) (marked start.args.known.now) start.args.values.now c.if-r-lt-BRANCHES.false c.if-r-eq-CONSTANT.false start.requires.2
-    (outs_as_lem _ start.requires.1 c.outs.ensures) c.if-outs-eq1.false
+    over_nothing start.args.op.now.stands refl (role_or_lem _ start.args.op.now.shaped c.role-role.ensures) (marked start.args.known.now) start.args.values.now (ltb-false _ 5 (sym c.is_closing.ensures ∙ c.if-is_closing.false)) (eqb-false _ 8 (sym c.is_constant.ensures ∙ c.if-is_constant.false)) start.requires
+    (outs_as_lem _ start.args.op.now.shaped c.outs.ensures) c.if-outs-eq1.false

@@ -14,14 +14,14 @@ use Rattle.live.proofs.live_before.Goals as goal
 pub returns-then-mark-eq1 : goal.returns-then-mark-eq1
 returns-then-mark-eq1 c =
     let s = c in
-    turn_constant s.args.mark s.args.time s.args.events.now s.args.floors.now s.requires.0 refl s.requires.2 _ c.if-mark-eq1.true (timed_one c.put_number.ensures)
+    turn_constant s.args.mark s.args.time s.args.events.now s.args.floors.now s.args.op.now.stands refl s.requires.0 _ c.if-mark-eq1.true (timed_one c.put.ensures)
 
 pub wake-requires : goal.wake-requires
 wake-requires c =
-    let n = ins_as_lem _ c.requires.1 c.ins.ensures in
-    let role : 7 < role_as c.args.s = ltb-true 7 _ (sym c.is_pure.ensures ∙ c.if-is_pure.true) in
-    let kind = get_or c.args.block.now c.args.at 0 in (
-      omega (arith, operands_inside c.requires.0 refl, pure_out kind refl (omega (arith, role_as_lem _ c.requires.1 refl, role)), n),
+    let n = ins_as_lem _ c.args.op.now.shaped c.ins.ensures in
+    let role : 7 < role_as c.args.op.now.shape = ltb-true 7 _ (sym c.is_pure.ensures ∙ c.if-is_pure.true) in
+    let kind = get_or c.args.op.now.block.now c.args.op.now.at 0 in (
+      omega (arith, operands_inside c.args.op.now.stands refl, pure_out kind refl (omega (arith, role_as_lem _ c.args.op.now.shaped refl, role)), n),
       omega (arith, few_ins kind refl, n),
     )
 
@@ -29,27 +29,27 @@ pub returns-then-is_pure : goal.returns-then-is_pure
 returns-then-is_pure c =
     let k = c in
     let s = k in
-    turn_computed s.args.mark s.args.time s.args.events.now s.args.floors.now s.requires.0 refl s.requires.2 _ _ (role_as_lem _ s.requires.1 refl) (ltb-true 7 _ (sym k.is_pure.ensures ∙ k.if-is_pure.true)) c.if-mark-eq1.false
-    (timed_one c.put_number.ensures) (rw (ins_as_lem _ s.requires.1 c.ins.ensures) at c.wake.ensures)
+    turn_computed s.args.mark s.args.time s.args.events.now s.args.floors.now s.args.op.now.stands refl s.requires.0 _ _ (role_as_lem _ s.args.op.now.shaped refl) (ltb-true 7 _ (sym k.is_pure.ensures ∙ k.if-is_pure.true)) c.if-mark-eq1.false
+    (timed_one c.put.ensures) (rw (ins_as_lem _ s.args.op.now.shaped c.ins.ensures) at c.wake.ensures)
 
 pub wake-requires-2 : goal.wake-requires-2
 wake-requires-2 c =
     let s = c in
-    let n = ins_as_lem _ s.requires.1 c.ins-2.ensures in
-    (omega (arith, operands_inside s.requires.0 refl, n, outs_as_lem _ s.requires.1 c.outs.ensures), omega (arith, few_ins (get_or s.args.block.now s.args.at 0) refl, n))
+    let n = ins_as_lem _ s.args.op.now.shaped c.ins-2.ensures in
+    (omega (arith, operands_inside s.args.op.now.stands refl, n, outs_as_lem _ s.args.op.now.shaped c.outs.ensures), omega (arith, few_ins (get_or s.args.op.now.block.now s.args.op.now.at 0) refl, n))
 
 pub returns : goal.returns
 returns c =
     let k = c in
     let s = k in
-    turn_inputs s.args.mark s.args.time s.args.events.now s.args.floors.now s.requires.0 refl s.requires.2 _ _ _
-    (not_replaced s.args.mark s.args.time s.args.events.now s.args.floors.now s.requires.0 refl s.requires.2 (role_as_lem _ s.requires.1 refl) (omega (arith, ltb-false 7 (role_as s.args.s) (sym k.is_pure.ensures ∙ k.if-is_pure.false))) s.requires.4)
-    c.live_but_inputs.ensures (rw (outs_as_lem _ s.requires.1 c.outs.ensures, ins_as_lem _ s.requires.1 c.ins-2.ensures) at c.wake-2.ensures)
+    turn_inputs s.args.mark s.args.time s.args.events.now s.args.floors.now s.args.op.now.stands refl s.requires.0 _ _ _
+    (not_replaced s.args.mark s.args.time s.args.events.now s.args.floors.now s.args.op.now.stands refl s.requires.0 (role_as_lem _ s.args.op.now.shaped refl) (omega (arith, ltb-false 7 (role_as s.args.op.now.shape) (sym k.is_pure.ensures ∙ k.if-is_pure.false))) s.requires.2)
+    c.live_but_inputs.ensures (rw (outs_as_lem _ s.args.op.now.shaped c.outs.ensures, ins_as_lem _ s.args.op.now.shaped c.ins-2.ensures) at c.wake-2.ensures)
 
-pub bounds-block-at : goal.bounds-block-at
-bounds-block-at c =
-    let role : 7 < role_as c.args.s = ltb-true 7 _ (sym c.is_pure.ensures ∙ c.if-is_pure.true) in
-    omega (arith, operands_inside c.requires.0 refl, pure_out (get_or c.args.block.now c.args.at 0) refl (omega (arith, role_as_lem _ c.requires.1 refl, role)))
+pub bounds-op-op : goal.bounds-op-op
+bounds-op-op c =
+    let role : 7 < role_as c.args.op.now.shape = ltb-true 7 _ (sym c.is_pure.ensures ∙ c.if-is_pure.true) in
+    omega (arith, operands_inside c.args.op.now.stands refl, pure_out (get_or c.args.op.now.block.now c.args.op.now.at 0) refl (omega (arith, role_as_lem _ c.args.op.now.shaped refl, role)))
 
 pub live_but_inputs-requires : goal.live_but_inputs-requires
-live_but_inputs-requires c = let k = c in let p = k.requires in (p.0, p.1, p.2, p.3, (sym k.is_pure.ensures ∙ k.if-is_pure.false))
+live_but_inputs-requires c = let k = c in let p = k.requires in (p.0, p.1, (sym k.is_pure.ensures ∙ k.if-is_pure.false))

@@ -3,12 +3,6 @@ use Rattle.memory.specs.Answer.{access_width}
 use Rattle.memory.proofs.Digits.{half_positive, ones_fit, stays, narrows, grows, room_above}
 use Rattle.memory.proofs.extend.Goals as goal
 
-pub overflow_sub-below : goal.overflow_sub-below
-overflow_sub-below c = half_positive c.args.n c.requires.1 c.requires.2
-
-pub overflow_add-below : goal.overflow_add-below
-overflow_add-below c = ones_fit c.args.n c.requires.1 c.requires.2
-
 pub returns-then-x-half : goal.returns-then-x-half
 returns-then-x-half c =
     let s = c in

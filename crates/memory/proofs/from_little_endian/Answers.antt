@@ -2,7 +2,11 @@
 use mathlib.Core.Path.{◌∙◌}
 use native.Mathlib.Omega.{arith}
 use Rattle.memory.proofs.Numbers.{low_all}
+use Rattle.memory.proofs.Parts.{first_eight}
 use Rattle.memory.proofs.from_little_endian.Goals as goal
 
-pub returns-then-n-lt8 : goal.returns-then-n-lt8
-returns-then-n-lt8 c = c.low_first.ensures.0 ∙ low_all _ (omega (arith, c.if-n-lt8.true))
+pub returns-in-Some : goal.returns-in-Some
+returns-in-Some c = first_eight c.args.bytes.now c.from_le_bytes.ensures c.in-Some.ensures.cases.same
+
+pub returns-in-None : goal.returns-in-None
+returns-in-None c = c.number.ensures.value ∙ low_all _ (omega (arith, c.in-None.ensures.cases))

@@ -1,21 +1,18 @@
--- The bytes in either order, by their number. Assumes nothing.
-use borrow.Author.Rules.{rules}
-use Rattle.memory.proofs.Faults.{eight}
+-- The number of a slice of bytes, in either order. Assumes nothing.
+use Rattle.memory.proofs.Parts.{little_read, big_read}
+use Rattle.memory.proofs.Digits.{low_below, high_below}
 use Rattle.memory.proofs.number.Goals as goal
 
-pub in_order-requires-in_default : goal.in_order-requires-in_default
-in_order-requires-in_default c = let start = c in
-    let size = eight start.args.flags start.requires.1 c.in_default.in_default-own.rest in
-    search rules
+pub returns-then-big-clause-value : goal.returns-then-big-clause-value
+returns-then-big-clause-value c = rw c.if-big.true (big_read c.args.bytes.now c.requires _ c.from_be_bytes.ensures c.copy_from_slice.ensures.after)
 
-pub returns-in-1 : goal.returns-in-1
-returns-in-1 c = rw c.in-1.is c.in_order.ensures
+pub returns-then-big-clause-bound : goal.returns-then-big-clause-bound
+returns-then-big-clause-bound c =
+    rw (big_read c.args.bytes.now c.requires _ c.from_be_bytes.ensures c.copy_from_slice.ensures.after) (high_below c.args.bytes.now (λ i. (c.type_inv.bytes i).fits) 0 _)
 
-pub returns-in-2 : goal.returns-in-2
-returns-in-2 c = rw c.in-2.is c.in_order-in-2.ensures
+pub returns-else-big-clause-value : goal.returns-else-big-clause-value
+returns-else-big-clause-value c = rw c.if-big.false (little_read c.args.bytes.now c.requires _ c.from_le_bytes.ensures c.copy_from_slice-else-big.ensures.after)
 
-pub returns-in-4 : goal.returns-in-4
-returns-in-4 c = rw c.in-4.is c.in_order-in-4.ensures
-
-pub returns-in_default : goal.returns-in_default
-returns-in_default c = rw (eight c.args.flags c.requires.1 c.in_default.in_default-own.rest) c.in_order-in_default.ensures
+pub returns-else-big-clause-bound : goal.returns-else-big-clause-bound
+returns-else-big-clause-bound c =
+    rw (little_read c.args.bytes.now c.requires _ c.from_le_bytes.ensures c.copy_from_slice-else-big.ensures.after) (low_below c.args.bytes.now (λ i. (c.type_inv.bytes i).fits) 0 _)

@@ -6,11 +6,11 @@ use Rattle.ngulo.proofs.ngulo_check.Goals as goal
 
 pub refused-requires : goal.refused-requires
 refused-requires c =
-    check_place c.args.block.now c.check-verdict.ensures c.in-Refused.is
+    check_place c.args.block.now c.check-verdict.ensures c.in-Err.is
 
-pub returns-in-Accepted : goal.returns-in-Accepted
-returns-in-Accepted c = ap check_number (sym c.in-Accepted.is ∙ c.check-verdict.ensures)
+pub returns-in-Ok : goal.returns-in-Ok
+returns-in-Ok c = ap check_number (sym c.in-Ok.is ∙ c.check-verdict.ensures)
 
-pub returns-in-Refused : goal.returns-in-Refused
-returns-in-Refused c =
-    c.refused.ensures ∙ ap check_number (sym c.in-Refused.is ∙ c.check-verdict.ensures)
+pub returns-in-Err : goal.returns-in-Err
+returns-in-Err c =
+    c.refused.ensures ∙ ap check_number (sym c.in-Err.is ∙ c.check-verdict.ensures)

@@ -7,16 +7,16 @@ use Rattle.ngulo.proofs.ngulo_pass.Goals as goal
 
 pub refused-requires : goal.refused-requires
 refused-requires c =
-    pass_place c.args.block.now c.args.out.now c.pass-written.ensures.0 c.in-Refused.is
+    pass_place c.args.block.now c.args.out.now c.pass-written.ensures.0 c.in-Err.is
 
 pub overflow_mul-result : goal.overflow_mul-result
 overflow_mul-result c =
-    omega (arith, pass_length c.args.block.now c.args.out.now c.pass-written.ensures.0 c.in-Length.is)
+    omega (arith, pass_length c.args.block.now c.args.out.now c.pass-written.ensures.0 c.in-Ok.is)
 
-pub returns-in-Refused : goal.returns-in-Refused
-returns-in-Refused c =
-    (c.refused.ensures ∙ ap pass_number (sym c.in-Refused.is ∙ c.pass-written.ensures.0), c.pass-written.ensures.1)
+pub returns-in-Err : goal.returns-in-Err
+returns-in-Err c =
+    (c.refused.ensures ∙ ap pass_number (sym c.in-Err.is ∙ c.pass-written.ensures.0), c.pass-written.ensures.1)
 
-pub returns-in-Length : goal.returns-in-Length
-returns-in-Length c =
-    (ap pass_number (sym c.in-Length.is ∙ c.pass-written.ensures.0), c.pass-written.ensures.1)
+pub returns-in-Ok : goal.returns-in-Ok
+returns-in-Ok c =
+    (ap pass_number (sym c.in-Ok.is ∙ c.pass-written.ensures.0), c.pass-written.ensures.1)

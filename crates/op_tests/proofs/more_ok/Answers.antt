@@ -1,22 +1,10 @@
 -- `more_ok` tests what else the plan asks. Assumes nothing.
-use mathlib.Core.Path.{sym, ◌∙◌}
 use native.Mathlib.Omega.{arith}
-use Rattle.block.proofs.Quick.{more_0, more_1, more_2, is_3, more_3, more_4}
+use Rattle.block.proofs.Quick.{more_0, more_1, more_2, more_3, more_4}
 use Rattle.op_tests.proofs.more_ok.Goals as goal
-
-pub constant_ok-requires : goal.constant_ok-requires
-constant_ok-requires c =
-    let p = c.requires in
-    omega (arith, p.whole, p.constant (sym c.more-m.ensures ∙ c.if-m-eq1-2.true))
 
 pub returns-then-m-eq1-2 : goal.returns-then-m-eq1-2
 returns-then-m-eq1-2 c = more_1 _ _ _ _ _ c.more-m.ensures c.if-m-eq1-2.true c.constant_ok.ensures
-
-pub inputs_fit-requires : goal.inputs_fit-requires
-inputs_fit-requires c =
-    let p = c.requires in
-    let a = c.args in
-    omega (arith, p.whole, p.inputs (is_3 a.h a.block.now a.at a.vars.now a.labels.now c.more-m.ensures p.few c.if-m-eq1.true c.if-m-eq1-2.false))
 
 pub returns-then-m-eq1 : goal.returns-then-m-eq1
 returns-then-m-eq1 c =

@@ -9,17 +9,14 @@ use Rattle.passes.proofs.Classes.{filled_start, filled_next, filled_ends}
 use Rattle.pass.proofs.classes_of.Goals as goal
 
 pub loop-i-init : goal.loop-i-init
-loop-i-init c = (omega arith, refl, filled_start _ 256)
+loop-i-init c = (refl, filled_start _ 256)
 
 pub loop-i-preserved : goal.loop-i-preserved
 loop-i-preserved c =
-    let s = c in
-    let l = c.loop-i in
-    let more = c.loop-i-test.true in (
-      omega (arith, more),
-      length-set l.of l.i _ ∙ l.invariant.1,
-      filled_next l.invariant.2 (omega (arith, s.requires, l.invariant.1, more)) (c.class_of.ensures ∙ ap (λ (x : ℕ). class_by x l.i s.args.globals) (code_at s.args.base.now l.i (omega (arith, s.requires, more, c.codes-1.given)) refl)),
+    let l = c.loop-i in (
+      length-set l.of l.i _ ∙ l.invariant.0,
+      filled_next l.invariant.1 (omega arith) (c.class_of.ensures ∙ ap (λ (x : ℕ). class_by x l.i c.args.globals) (code_at c.args.base.now l.i (omega arith) refl)),
     )
 
 pub returns : goal.returns
-returns c = filled_ends c.loop-i.invariant.2 (omega (arith, c.loop-i.invariant.0, c.loop-i-test.false))
+returns c = filled_ends c.loop-i.invariant.1 (omega arith)

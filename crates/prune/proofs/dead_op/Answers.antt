@@ -16,19 +16,19 @@ pub returns-then-not-is_pure : goal.returns-then-not-is_pure
 returns-then-not-is_pure c =
     let start = c in
     let a = start.args in
-    let low = ltb-false 7 (role_as a.s) (sym c.is_pure.ensures ∙ not-true _ c.if-not-is_pure.true-raw) in
-    never_dead start.requires.0 refl (live_of a.events.now a.floors.now a.classes.now) (role_as_lem _ start.requires.1 refl) (omega (arith, low))
+    let low = ltb-false 7 (role_as a.op.now.shape) (sym c.is_pure.ensures ∙ not-true _ c.if-not-is_pure.true-raw) in
+    never_dead start.args.op.now.stands refl (live_of a.events.now a.floors.now a.classes.now) (role_as_lem _ start.args.op.now.shaped refl) (omega (arith, low))
 
-pub bounds-block-at : goal.bounds-block-at
-bounds-block-at c =
-    let pure : 7 < role_as c.args.s = ltb-true 7 _ (sym c.is_pure.ensures ∙ not-false _ c.if-not-is_pure.false-raw) in
-    let one = pure_out (get_or c.args.block.now c.args.at 0) refl (omega (arith, role_as_lem _ c.requires.1 refl, pure)) in
-    omega (arith, operands_inside c.requires.0 refl, one)
+pub bounds-op-op : goal.bounds-op-op
+bounds-op-op c =
+    let pure : 7 < role_as c.args.op.now.shape = ltb-true 7 _ (sym c.is_pure.ensures ∙ not-false _ c.if-not-is_pure.false-raw) in
+    let one = pure_out (get_or c.args.op.now.block.now c.args.op.now.at 0) refl (omega (arith, role_as_lem _ c.args.op.now.shaped refl, pure)) in
+    omega (arith, operands_inside c.args.op.now.stands refl, one)
 
 pub returns : goal.returns
 returns c =
     let a = c.args in
     let l = live_of a.events.now a.floors.now a.classes.now in
-    let pure : 7 < role_as c.args.s = ltb-true 7 _ (sym c.is_pure.ensures ∙ not-false _ c.if-not-is_pure.false-raw) in
-    let one = pure_out (get_or c.args.block.now c.args.at 0) refl (omega (arith, role_as_lem _ c.requires.1 refl, pure)) in
-    dead_if c.requires.0 refl l (role_as_lem _ c.requires.1 refl) (omega (arith, pure)) (none_one l a.block.now (a.at + 1) one c.is_live.ensures)
+    let pure : 7 < role_as c.args.op.now.shape = ltb-true 7 _ (sym c.is_pure.ensures ∙ not-false _ c.if-not-is_pure.false-raw) in
+    let one = pure_out (get_or c.args.op.now.block.now c.args.op.now.at 0) refl (omega (arith, role_as_lem _ c.args.op.now.shaped refl, pure)) in
+    dead_if c.args.op.now.stands refl l (role_as_lem _ c.args.op.now.shaped refl) (omega (arith, pure)) (none_one l a.op.now.block.now (a.op.now.at + 1) one c.is_live.ensures)

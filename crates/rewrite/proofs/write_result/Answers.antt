@@ -4,43 +4,25 @@ use Rattle.passes.proofs.Passing.{declared_fit, few_here, size_small, pass_short
 use Rattle.passes.proofs.Pruning.{kept_marked}
 use Rattle.rewrite.proofs.write_result.Goals as goal
 
-pub fold-requires : goal.fold-requires
-fold-requires c =
-    let pre = c.requires in (pre.0.laid, pre.0.held, pre.1, pre.2, pre.3)
-
 pub prune-requires : goal.prune-requires
 prune-requires c =
-    let f = c in
-    let pre = f.requires in
-    (pre.0.laid, record { constants = _; folded = f.fold.ensures }, pre.0.classes_are.few, few_here pre.0, pre.0.held, omega (arith, pre.1), pre.3)
+    let r = c.args.source.now.ready in (record { constants = _; folded = c.fold.ensures }, r.classes_are.few, few_here r, omega (arith, c.requires.0))
 
 pub overflow_add-size : goal.overflow_add-size
-overflow_add-size c = let p = c in omega (arith, size_small p.requires.0 p.prune.ensures)
+overflow_add-size c = omega (arith, size_small c.args.source.now.ready c.prune.ensures)
 
 pub returns-then-out-size : goal.returns-then-out-size
-returns-then-out-size c = let p = c in pass_short p.requires.0 p.prune.ensures c.if-out-size.true
+returns-then-out-size c = pass_short c.args.source.now.ready c.prune.ensures c.if-out-size.true
 
 pub emit-requires : goal.emit-requires
 emit-requires c =
-    let e = c in
-    let p = e in
-    let f = p in
-    let pre = f.requires in
-    let r = pre.0 in (
-      r.laid,
-      kept_marked f.fold.ensures p.prune.ensures,
+    let r = c.args.source.now.ready in (
+      kept_marked c.fold.ensures c.prune.ensures,
       omega (arith, r.first_is, declared_fit r),
-      r.held,
-      omega (arith, pre.1),
-      omega (arith, pre.2),
-      pre.3,
-      all_fit r p.prune.ensures f.args.out.now e.if-out-size.false,
+      omega (arith, c.requires.0),
+      omega (arith, c.requires.1),
+      all_fit r c.prune.ensures c.args.out.now c.if-out-size.false,
     )
 
 pub returns : goal.returns
-returns c =
-    let m = c in
-    let e = m in
-    let p = e in
-    let s = p in
-    pass_stores s.requires.0 p.prune.ensures s.args.out.now e.if-out-size.false m.emit.ensures
+returns c = pass_stores c.args.source.now.ready c.prune.ensures c.args.out.now c.if-out-size.false c.emit.ensures

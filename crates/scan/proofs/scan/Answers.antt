@@ -1,20 +1,25 @@
 -- `scan` reads the declarations and then the ops. Assumes nothing.
-use Rattle.block.proofs.Scanned.{begins_by, scan_refused, scan_done}
+use native.Mathlib.Omega.{arith}
+use borrow.Author.Rules.{rules}
+use Rattle.block.proofs.Scanned.{begins_by, scan_refused, ops_refused, scan_approved}
 use Rattle.ops.proofs.Document01.{table_lawful}
 use Rattle.ops.specs.Table.{row_of}
 use Rattle.scan.proofs.scan.Goals as goal
 
-pub returns-then-rule-ne0 : goal.returns-then-rule-ne0
-returns-then-rule-ne0 c = let p = c.requires in scan_refused _ _ (c.scan_declarations-d.ensures row_of table_lawful) p.0 c.if-rule-ne0.true p.1
+pub returns-in_err-d : goal.returns-in_err-d
+returns-in_err-d c =
+    let p = c.requires in
+    let h = scan_refused c.args.places.now c.args.labels.now (c.in_err-d.ensures row_of table_lawful) p.0 p.1 in search (rules, h)
 
-pub scan_ops-o-requires : goal.scan_ops-o-requires
-scan_ops-o-requires c =
-    let d = c in
-    let p = d.requires in
-    (begins_by (d.scan_declarations-d.ensures row_of table_lawful) p.0 c.if-rule-ne0.false, p.1, p.2)
+pub overflow_mul-start : goal.overflow_mul-start
+overflow_mul-start c = omega (arith, (c.in_ok-d.ensures row_of table_lawful).declaring.few)
+
+pub scan_ops-requires : goal.scan_ops-requires
+scan_ops-requires c = let p = c.requires in (begins_by (c.in_ok-d.ensures row_of table_lawful) p.0, p.1, p.2)
+
+pub returns-in_err-ops : goal.returns-in_err-ops
+returns-in_err-ops c =
+    let h = ops_refused (c.in_ok-d.ensures row_of table_lawful) c.requires.0 c.in_err-ops.ensures in search (rules, h)
 
 pub returns : goal.returns
-returns c =
-    let e = c in
-    let d = e in
-    scan_done (d.scan_declarations-d.ensures row_of table_lawful) d.requires.0 e.if-rule-ne0.false c.scan_ops-o.ensures
+returns c = scan_approved (c.in_ok-d.ensures row_of table_lawful) c.requires.0 c.in_ok-ops.ensures

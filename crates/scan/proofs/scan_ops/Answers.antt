@@ -1,109 +1,71 @@
 -- `scan_ops` reads the ops. Assumes nothing.
-use mathlib.Core.Path.{refl, sym, ◌∙◌, subst}
-use Prim.Native.Nat.{ℕ, ◌%◌, ◌<◌}
-use native.Mathlib.Omega.{arith}
-use lib.ListN.{get_or, length-set}
-use borrow.Author.Tests.{not-true, not-false}
-use Rattle.ops.proofs.Plans.{rank_in, length_in_lem}
+use mathlib.Core.Path.{refl, ◌∙◌}
+use Prim.Native.Nat.{ℕ, ◌%◌}
+use mathlib.Core.List.{List}
+use lib.ListN.{length-set}
+use borrow.Author.Rules.{rules}
+use Rattle.ops.specs.Rows.{Table}
+use Rattle.block.specs.Scan.{Reading}
 use Rattle.block.proofs.Scanning.{few_ops_here, stands_at, begins_start, begins_inside}
-use Rattle.block.proofs.Turning.{fails_at, sound, is_op, inside, further, room, again, ready, label_low, ends_at}
+use Rattle.block.proofs.Turning.{fails_at, sound, is_op, inside, room, again, ready, label_low, ends_at, ends_refused}
 use Rattle.scan.proofs.scan_ops.Goals as goal
+
+-- before the first op the rank is that of none, which is no exit_tb's
+none_last : {T : Table} {b places₀ base vars labels targets places : List ℕ} {start p ops : ℕ}
+    → Reading T b start places₀ base vars labels targets places p ops 0 → Reading T b start places₀ base vars labels targets places p ops 255
+none_last r =
+    record {
+      seen = r.seen;
+      goes_on = r.goes_on;
+      coded = r.coded;
+      based = r.based;
+      labels_so = r.labels_so;
+      targets_so = r.targets_so;
+      ops_so = r.ops_so;
+      last_so = r.last_so;
+      up_to = r.up_to;
+      first_op = r.first_op;
+      few = r.few;
+    }
 
 pub loop-at-init : goal.loop-at-init
 loop-at-init c =
-    let p = c.requires in (begins_inside p.0, begins_start _ p.0 p.1, refl)
-
-pub op_ok-requires : goal.op_ok-requires
-op_ok-requires c =
-    let l = c.loop-at in
-    let kind = get_or c.args.block.now l.at 0 in
-    let small : kind < 256 = omega (arith, c.type_inv.block l.at) in
-    let rank = rank_in kind small c.rank-r.ensures c.ranks-ranks.ensures in
-    let long = length_in_lem kind small c.record_length-n.ensures c.lengths-lengths.ensures in
-    (c.loop-at-test.true, rank, long, c.table-refusals.ensures)
+    let p = c.requires in (begins_inside p.0, none_last (begins_start _ p.0 p.1), refl)
 
 pub returns-then-not-op_ok : goal.returns-then-not-op_ok
 returns-then-not-op_ok c =
-    fails_at c.loop-at.invariant.1 c.loop-at-test.true c.op_ok.ensures (not-true _ c.if-not-op_ok.true-raw) c.stopped.ensures
+    fails_at c.loop-at.invariant.1 c.loop-at-test.true c.op_ok.ensures c.if-not-op_ok.true c.stopped.ensures
 
 pub mark_op-requires : goal.mark_op-requires
 mark_op-requires c =
-    let l = c.loop-at in
-    let kind = get_or c.args.block.now l.at 0 in
-    let small : kind < 256 = omega (arith, c.type_inv.block l.at) in
-    let rank = rank_in kind small c.rank-r.ensures c.ranks-ranks.ensures in
-    let long = length_in_lem kind small c.record_length-n.ensures c.lengths-lengths.ensures in
-    let passed = not-false _ c.if-not-op_ok.false-raw in
-    let s = sound l.invariant.1 c.loop-at-test.true c.op_ok.ensures passed in
-    (stands_at s, few_ops_here s, rank, is_op l.invariant.1 c.loop-at-test.true c.op_ok.ensures passed, ready l.invariant.1 c.loop-at-test.true c.op_ok.ensures passed, label_low l.invariant.1 c.loop-at-test.true c.op_ok.ensures passed rank)
+    let r = c.loop-at.invariant.1 in
+    let here = c.loop-at-test.true in
+    let t = c.op_ok.ensures in
+    let passed = c.if-not-op_ok.false in
+    let s = sound r here t passed in
+    (stands_at s, few_ops_here s, c.rank-rank.ensures, is_op r here t passed, ready r here t passed, label_low r here t passed c.rank-rank.ensures)
 
 pub loop-at-preserved : goal.loop-at-preserved
 loop-at-preserved c =
     let l = c.loop-at in
-    let kind = get_or c.args.block.now l.at 0 in
-    let small : kind < 256 = omega (arith, c.type_inv.block l.at) in
-    let rank = rank_in kind small c.rank-r.ensures c.ranks-ranks.ensures in
-    let long = length_in_lem kind small c.record_length-n.ensures c.lengths-lengths.ensures in
-    let passed = not-false _ c.if-not-op_ok.false-raw in (
-      inside l.invariant.1 c.loop-at-test.true c.op_ok.ensures passed rank long,
-      again l.invariant.1 c.loop-at-test.true c.op_ok.ensures passed rank long c.requires.2 _ _ _ c.mark_op.ensures,
+    let r = l.invariant.1 in
+    let here = c.loop-at-test.true in
+    let t = c.op_ok.ensures in
+    let passed = c.if-not-op_ok.false in (
+      inside r here t passed c.rank-rank.ensures c.record_length-n.ensures,
+      again r here t passed c.rank-rank.ensures c.record_length-n.ensures c.requires.2 _ _ _ c.mark_op.ensures,
       length-set l.places l.ops (l.at % 65536) ∙ l.invariant.2,
     )
 
-pub stopped-requires : goal.stopped-requires
-stopped-requires c =
-    c.loop-at-test.true
-
-pub shape_of-places-then-not-op_ok : goal.shape_of-places-then-not-op_ok
-shape_of-places-then-not-op_ok c =
-    c.loop-at.invariant.2
-
-pub offset_bounds-places-ops : goal.offset_bounds-places-ops
-offset_bounds-places-ops c =
-    let l = c.loop-at in
-    let passed = not-false _ c.if-not-op_ok.false-raw in
-    omega (arith, few_ops_here (sound l.invariant.1 c.loop-at-test.true c.op_ok.ensures passed))
-
 pub bounds-places-ops : goal.bounds-places-ops
 bounds-places-ops c =
-    let l = c.loop-at in
-    let kind = get_or c.args.block.now l.at 0 in
-    let small : kind < 256 = omega (arith, c.type_inv.block l.at) in
-    let rank = rank_in kind small c.rank-r.ensures c.ranks-ranks.ensures in
-    let long = length_in_lem kind small c.record_length-n.ensures c.lengths-lengths.ensures in
-    let passed = not-false _ c.if-not-op_ok.false-raw in
-    subst (λ (n : ℕ). l.ops < n) (sym l.invariant.2) (room l.invariant.1 c.loop-at-test.true c.op_ok.ensures passed rank long c.requires.2)
-
-pub overflow_add-ops : goal.overflow_add-ops
-overflow_add-ops c =
-    let l = c.loop-at in
-    let passed = not-false _ c.if-not-op_ok.false-raw in
-    omega (arith, few_ops_here (sound l.invariant.1 c.loop-at-test.true c.op_ok.ensures passed))
-
-pub overflow_add-at : goal.overflow_add-at
-overflow_add-at c =
-    let l = c.loop-at in
-    let kind = get_or c.args.block.now l.at 0 in
-    let small : kind < 256 = omega (arith, c.type_inv.block l.at) in
-    let rank = rank_in kind small c.rank-r.ensures c.ranks-ranks.ensures in
-    let long = length_in_lem kind small c.record_length-n.ensures c.lengths-lengths.ensures in
-    let passed = not-false _ c.if-not-op_ok.false-raw in
-    omega (arith, inside l.invariant.1 c.loop-at-test.true c.op_ok.ensures passed rank long)
-
-pub loop-at-smaller : goal.loop-at-smaller
-loop-at-smaller c =
-    let l = c.loop-at in
-    let kind = get_or c.args.block.now l.at 0 in
-    let small : kind < 256 = omega (arith, c.type_inv.block l.at) in
-    let rank = rank_in kind small c.rank-r.ensures c.ranks-ranks.ensures in
-    let long = length_in_lem kind small c.record_length-n.ensures c.lengths-lengths.ensures in
-    let passed = not-false _ c.if-not-op_ok.false-raw in
-    omega (arith, inside l.invariant.1 c.loop-at-test.true c.op_ok.ensures passed rank long, further l.invariant.1 c.loop-at-test.true c.op_ok.ensures passed rank long)
-
-pub shape_of-places : goal.shape_of-places
-shape_of-places c =
-    c.loop-at.invariant.2
+    let e = c.loop-at.invariant.2 in
+    rw e (room c.loop-at.invariant.1 c.loop-at-test.true c.op_ok.ensures c.if-not-op_ok.false c.rank-rank.ensures c.record_length-n.ensures c.requires.2)
 
 pub returns : goal.returns
 returns c =
-    ends_at c.loop-at.invariant.1 c.loop-at-test.false c.end_rule.ensures
+    ends_at c.loop-at.invariant.1 c.loop-at-test.false c.end_rule.ensures c.in_ok-end_rule.was
+
+pub returns-in_err-end_rule : goal.returns-in_err-end_rule
+returns-in_err-end_rule c =
+    let h = ends_refused c.loop-at.invariant.1 c.loop-at-test.false c.end_rule.ensures c.in_err-end_rule.was in search (rules, h)

@@ -1,0 +1,8 @@
+-- `Kinds::new` is document 01's: one computed comparison. Assumes nothing.
+use mathlib.Core.Path.{refl}
+use Rattle.ops.specs.Table.{kind_table}
+use Rattle.kinds.proofs.Kinds.new.Goals as goal
+
+pub invariant_of-result : goal.invariant_of-result
+unfolding kind_table
+invariant_of-result c = record { is_table = refl }

@@ -1,9 +1,0 @@
--- A column of the role, by its number. Assumes nothing.
-use mathlib.Core.Path.{ap}
-use mathlib.Core.Bool.{◌||◌}
-use Prim.Native.Nat.{ℕ}
-use lib.Dec.{eqb}
-use Rattle.kinds.proofs.is_jumping.Goals as goal
-
-pub returns : goal.returns
-returns c = ap (λ (n : ℕ). eqb n 3 || eqb n 5) c.role-n.ensures

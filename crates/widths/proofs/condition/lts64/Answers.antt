@@ -1,6 +1,0 @@
--- The signed order at 64 bits: less. Assumes nothing.
-use Rattle.word.proofs.Flip.{flipped}
-use Rattle.widths.proofs.condition.lts64.Goals as goal
-
-pub returns : goal.returns
-returns c = (flipped 64 c.args.a c.args.b c.ranges.a.fits c.ranges.b.fits).less
