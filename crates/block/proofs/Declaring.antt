@@ -263,17 +263,17 @@ no_room b p n globals e (inr l) h k w = absurd (omega arith)
 
 -- the answer at the place where they end
 module _ {T : Table} (law : LawfulTable T) {b vars₀ vars : List ℕ} {p n globals : ℕ} (d : Declaring T b vars₀ vars p n globals) (s : Stopped b p n globals) where
-  pub refuses : {verdict : Verdict} {refusal : Refusal} → verdict ≡ refused_or (declared_rule b p) p Accepted → verdict ≡ Err refusal → RefusedBy T b vars₀ vars refusal
+  pub refuses : {verdict : Verdict} {refusal : Refusal} → verdict ≡ refused_or (declared_rule b p) p Accepted → verdict ≡ Err refusal → RefusedBy T b vars₀ vars refusal n globals
   refuses {verdict} {refusal} e q = go (tell (leb (length b) p)) (tell (eqb (get_or b p 0) 1)) (tell (ltb (length b - p) 3))
     where
-      refused : {m : ℕ} → verdict ≡ Refused m p → Refused m p ≡ check_by T b → RefusedBy T b vars₀ vars refusal
+      refused : {m : ℕ} → verdict ≡ Refused m p → Refused m p ≡ check_by T b → RefusedBy T b vars₀ vars refusal n globals
       refused {m} z r =
           let same : ◌≡◌ {A = Verdict} (Err refusal) (Refused m p) = sym q ∙ z in
           let place : refusal.place ≡ p = same_place same in
-          record { n = n; globals = globals; declaring = rw place d; refused = same ∙ r }
+          record { declaring = rw place d; refused = same ∙ r }
 
       go : (leb (length b) p ≡ true) ⊎ (leb (length b) p ≡ false) → (eqb (get_or b p 0) 1 ≡ true) ⊎ (eqb (get_or b p 0) 1 ≡ false) → (ltb (length b - p) 3 ≡ true) ⊎ (ltb (length b - p) 3 ≡ false)
-          → RefusedBy T b vars₀ vars refusal
+          → RefusedBy T b vars₀ vars refusal n globals
       go (inl x) y z = let u : ◌≡◌ {A = Verdict} (Err refusal) Accepted = sym q ∙ e ∙ rw x in cc
       go (inr x) (inr y) z = let u : ◌≡◌ {A = Verdict} (Err refusal) Accepted = sym q ∙ e ∙ rw (x, y) in cc
       go (inr x) (inl y) (inl z) =

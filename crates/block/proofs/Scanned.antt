@@ -39,36 +39,30 @@ begins_by {T = T} {b = b} {vars = vars} {n = n} {globals = globals} d z =
     record { n = n; globals = globals; after = subst (λ (v : List ℕ). Declaring T b v vars (3 * n) n globals) z d.declaring; no_more = d.no_more }
 
 -- a declaration is refused: no op has been read
-pub scan_refused : {T : Table} {b vars₀ vars : List ℕ} {refusal : Refusal} (places labels : List ℕ) → RefusedBy T b vars₀ vars refusal → vars₀ ≡ replicate 256 15 → labels ≡ replicate label_count 0
-    → Rejected T b places vars places labels refusal
+pub scan_refused : {T : Table} {b vars₀ vars : List ℕ} {refusal : Refusal} {n globals : ℕ} (places labels : List ℕ) → RefusedBy T b vars₀ vars refusal n globals → vars₀ ≡ replicate 256 15 → labels ≡ replicate label_count 0
+    → Rejected T b places vars places labels refusal refusal.place n globals 0
 unfolding places_from labels_from
 scan_refused {T = T} {b = b} {refusal = refusal} places labels s f z =
     let d = s.declaring in
     let p = refusal.place in
     let q = rw (append-nil d.before) at (split_again d.before [] d.all_declared refl) in
     record {
-      start = p;
-      n = s.n;
-      globals = s.globals;
-      ops = 0;
-      scanned = record {
-        answers = s.refused;
-        before = d.before;
-        records_are = d.records_are;
-        all_read = λ u. cc;
-        place_is = sym d.spans;
-        variables = ap length q.0 ∙ d.count;
-        coded = rw q.0 (d.coded f);
-        long_base = d.long_vars ∙ ap length f;
-        globals_are = d.globals_are ∙ ap (λ (x : List (List ℕ)). global_count (classes_of x)) (sym q.0);
-        few = d.few;
-        start_is = d.place_is;
-        ops_before = ap (λ (x : List (List ℕ)). x ++ records_at T b p) (sym q.1);
-        count_is = ap length (sym q.1);
-        held = omega arith;
-        places_are = ap (places_from p 0 places) (sym q.1);
-        labels_are = z ∙ ap (labels_from T 0 (replicate label_count 0)) (sym q.1);
-      };
+      answers = s.refused;
+      before = d.before;
+      records_are = d.records_are;
+      all_read = λ u. cc;
+      place_is = sym d.spans;
+      variables = ap length q.0 ∙ d.count;
+      coded = rw q.0 (d.coded f);
+      long_base = d.long_vars ∙ ap length f;
+      globals_are = d.globals_are ∙ ap (λ (x : List (List ℕ)). global_count (classes_of x)) (sym q.0);
+      few = d.few;
+      start_is = d.place_is;
+      ops_before = ap (λ (x : List (List ℕ)). x ++ records_at T b p) (sym q.1);
+      count_is = ap length (sym q.1);
+      held = omega arith;
+      places_are = ap (places_from p 0 places) (sym q.1);
+      labels_are = z ∙ ap (labels_from T 0 (replicate label_count 0)) (sym q.1);
     }
 
 -- the declarations have been read, and then ops
@@ -100,9 +94,9 @@ scan_done {T = T} {b = b} {places₀ = places₀} {n = n} {place = place} s f o 
     }
 
 -- an op, or the end, is refused
-pub ops_refused : {T : Table} {b vars₀ vars places₀ places labels : List ℕ} {refusal : Refusal} {n globals : ℕ} → DeclaredBy T b vars₀ vars n globals → vars₀ ≡ replicate 256 15
-    → ScannedTo T b (3 * n) places₀ places labels refusal → Rejected T b places₀ vars places labels refusal
-ops_refused {n = n} {globals} s f o = record { start = 3 * n; n = n; globals = globals; ops = o.ops; scanned = scan_done s f o.scanned }
+pub ops_refused : {T : Table} {b vars₀ vars places₀ places labels : List ℕ} {refusal : Refusal} {n globals ops : ℕ} → DeclaredBy T b vars₀ vars n globals → vars₀ ≡ replicate 256 15
+    → ScannedTo T b (3 * n) places₀ places labels refusal ops → Rejected T b places₀ vars places labels refusal (3 * n) n globals ops
+ops_refused s f o = scan_done s f o
 
 -- what is told of an accepted block
 approve : {T : Table} {b places₀ base places labels : List ℕ} {place start n globals ops : ℕ} → Scanned T b places₀ base places labels Accepted place start n globals ops → Approved T b places₀ base places labels start n globals ops

@@ -32,8 +32,8 @@ module _ {b : List ℕ} {start : ℕ} {places₀ base vars labels targets places
   e = get_or kind_table (get_or b p 0) 0
 
   -- a test fails
-  pub fails_at : {refusal : Refusal} → r ≡ false → (refusal.number ≡ entry_rule e b p ops vars labels false) × (refusal.place ≡ p) → ScannedTo row_of b start places₀ places labels refusal
-  fails_at {refusal} f q = record { ops = ops; scanned = go (tell (op_stands e b p)) (tell (op_ok e b p ops vars labels)) }
+  pub fails_at : {refusal : Refusal} → r ≡ false → (refusal.number ≡ entry_rule e b p ops vars labels false) × (refusal.place ≡ p) → ScannedTo row_of b start places₀ places labels refusal ops
+  fails_at {refusal} f q = go (tell (op_stands e b p)) (tell (op_ok e b p ops vars labels))
     where
       go : (op_stands e b p ≡ true) ⊎ (op_stands e b p ≡ false) → (op_ok e b p ops vars labels ≡ true) ⊎ (op_ok e b p ops vars labels ≡ false) → ScannedBy row_of b start places₀ places labels (Err refusal) refusal.place ops
       go (inr x) y = stopped_at s here (digits kind_table refl) refl x q
@@ -112,11 +112,11 @@ module _ {b : List ℕ} {start : ℕ} {places₀ base vars labels targets places
       go (inl x) (inr y) = let q : verdict ≡ Refused 7 p = e ∙ rw (x, y) in rw q (scanning_7 s h x refl y)
       go (inl x) (inl y) = let q : verdict ≡ Accepted = e ∙ rw (x, y) in rw q (scanning_0 s h x refl y)
 
-  pub ends_refused : {verdict : Verdict} {refusal : Refusal} → verdict ≡ refused_or (end_rule (eqb last exit_rank) targets labels) p Accepted → verdict ≡ Err refusal → ScannedTo row_of b start places₀ places labels refusal
+  pub ends_refused : {verdict : Verdict} {refusal : Refusal} → verdict ≡ refused_or (end_rule (eqb last exit_rank) targets labels) p Accepted → verdict ≡ Err refusal → ScannedTo row_of b start places₀ places labels refusal ops
   ends_refused {refusal = refusal} e q =
       let r = ends_as (sym q ∙ e) in
       let place : p ≡ refusal.place = refused_place _ p (sym q ∙ e) in
-      record { ops = ops; scanned = subst (λ (n : ℕ). ScannedBy row_of b start places₀ places labels (Err refusal) n ops) place r }
+      subst (λ (n : ℕ). ScannedBy row_of b start places₀ places labels (Err refusal) n ops) place r
 
   pub ends_at : {verdict : Verdict} → verdict ≡ refused_or (end_rule (eqb last exit_rank) targets labels) p Accepted → verdict ≡ Accepted → ScannedAll row_of b start places₀ places labels ops
   ends_at e q = record { place = p; scanned = ends_as (sym q ∙ e) }

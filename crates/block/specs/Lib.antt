@@ -3,3 +3,4 @@ pub mod Rules
 pub mod Checks
 pub mod Scan
 pub mod Meaning
+pub mod Words

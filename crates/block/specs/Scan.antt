@@ -174,10 +174,8 @@ pub record DeclaredBy (T : Table) (block vars₀ vars : List ℕ) (n globals : �
   pub declaring : Declaring T block vars₀ vars (3 * n) n globals
   pub no_more : 3 * n < length block → get_or block (3 * n) 0 ≡ 1 → ⊥
 
--- or those up to the place of a refusal have been read, and the check refuses the next
-pub record RefusedBy (T : Table) (block vars₀ vars : List ℕ) (refusal : Refusal) : Type 0 where
-  pub n : ℕ
-  pub globals : ℕ
+-- or n of them, so many of globals, have been read up to the place of a refusal, and the check refuses the next
+pub record RefusedBy (T : Table) (block vars₀ vars : List ℕ) (refusal : Refusal) (n globals : ℕ) : Type 0 where
   pub declaring : Declaring T block vars₀ vars refusal.place n globals
   pub refused : Err refusal ≡ check_by T block
 
@@ -304,14 +302,13 @@ pub record ScannedBy (T : Table) (block : List ℕ) (start : ℕ) (places₀ pla
   pub up_to : UpTo T block start places₀ places labels place ops
   pub all_read : verdict ≡ Accepted → records_at T block place ≡ []
 
--- what it answers: how many ops there are, all of them read up to some place; or the refusal, with some ops read up to its place
+-- what it answers: how many ops there are, all of them read up to some place; or the refusal, and how many ops have been read up to its place
 pub record ScannedAll (T : Table) (block : List ℕ) (start : ℕ) (places₀ places labels : List ℕ) (ops : ℕ) : Type 0 where
   pub place : ℕ
   pub scanned : ScannedBy T block start places₀ places labels Accepted place ops
 
-pub record ScannedTo (T : Table) (block : List ℕ) (start : ℕ) (places₀ places labels : List ℕ) (refusal : Refusal) : Type 0 where
-  pub ops : ℕ
-  pub scanned : ScannedBy T block start places₀ places labels (Err refusal) refusal.place ops
+abbrev pub ScannedTo : Table → List ℕ → ℕ → List ℕ → List ℕ → List ℕ → Refusal → ℕ → Type 0
+ScannedTo T block start places₀ places labels refusal ops = ScannedBy T block start places₀ places labels (Err refusal) refusal.place ops
 
 -- the rule that is broken at the end, after an op that is exit_tb or not; 0 if none
 abbrev pub end_rule : Bool → List ℕ → List ℕ → ℕ
@@ -383,10 +380,6 @@ pub record Scanned (T : Table) (block places₀ base places labels : List ℕ) (
   pub places_are : places ≡ places_from start 0 places₀ (ops_from before)
   pub labels_are : labels ≡ labels_from T 0 (replicate label_count 0) (ops_from before)
 
--- what it answers of a refused block: the check's refusal; whatever was read before its place
-pub record Rejected (T : Table) (block places₀ base places labels : List ℕ) (refusal : Refusal) : Type 0 where
-  pub start : ℕ
-  pub n : ℕ
-  pub globals : ℕ
-  pub ops : ℕ
-  pub scanned : Scanned T block places₀ base places labels (Err refusal) refusal.place start n globals ops
+-- what it answers of a refused block: the check's refusal; where the ops start, and how many variables, globals and ops have been read before its place
+abbrev pub Rejected : Table → List ℕ → List ℕ → List ℕ → List ℕ → List ℕ → Refusal → ℕ → ℕ → ℕ → ℕ → Type 0
+Rejected T block places₀ base places labels refusal start n globals ops = Scanned T block places₀ base places labels (Err refusal) refusal.place start n globals ops

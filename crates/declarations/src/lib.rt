@@ -74,6 +74,13 @@ pub struct Declared {
     pub globals: usize,
 }
 
+// A refused declaration: the refusal, and how many are declared before its place.
+#[derive(Clone, Copy, Debug, PartialEq, Eq)]
+pub struct Misdeclared {
+    pub refusal: Refusal,
+    pub before: Declared,
+}
+
 // Refuses a declaration at a place where no good one stands.
 fn rule_at(block: &[u8], at: usize) -> Result<(), Refusal>
     ensures { result ≡ refused_or (declared_rule block.now at) at Accepted }
@@ -89,16 +96,19 @@ fn rule_at(block: &[u8], at: usize) -> Result<(), Refusal>
 }
 
 // Reads the declarations, up to the first record that is none or the first that is refused.
-pub fn scan_declarations(block: &[u8], vars: &mut [u8; 256]) -> Result<Declared, Refusal>
-    ensures { (T : Table) → LawfulTable T → MatchResult result (λ d. DeclaredBy T block.now vars.old vars.new d.variables d.globals) (λ r. RefusedBy T block.now vars.old vars.new r) }
+pub fn scan_declarations(block: &[u8], vars: &mut [u8; 256]) -> Result<Declared, Misdeclared>
+    ensures { (T : Table) → LawfulTable T → MatchResult result (λ d. DeclaredBy T block.now vars.old vars.new d.variables d.globals) (λ m. RefusedBy T block.now vars.old vars.new m.refusal m.before.variables m.before.globals) }
 {
     let limit = most_variables(block.len() / 3);
     let globals = count_globals(block, limit, vars);
     let n = count_others(block, limit, globals, vars);
     let at = 3 * n;
-    rule_at(block, at)?;
-    Ok(Declared {
+    let before = Declared {
         variables: n,
         globals,
-    })
+    };
+    match rule_at(block, at) {
+        Ok(()) => Ok(before),
+        Err(refusal) => Err(Misdeclared { refusal, before }),
+    }
 }

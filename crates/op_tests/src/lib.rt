@@ -10,7 +10,7 @@ use limits::{LABELS, is_label, op_fits};
 use memory::from_little_endian;
 use plans::{Plan, Rank};
 use rules::refusals::Refusals;
-use rules::{byte_ok, code, is_set, meets, rest_ok};
+use rules::{code, is_set, meets, rest_ok};
 
 // The output and the first two inputs of an op with this plan may be used so.
 fn three_fit(plan: Plan, block: &[u8], at: usize, vars: &[u8; 256]) -> bool
@@ -101,7 +101,7 @@ pub fn op_ok(
         return false;
     }
     let x = block[at + plan.byte_at()];
-    if !(three_fit(plan, block, at, vars) & byte_ok(refusals, plan.byte_ask(), x) & op_fits(op)) {
+    if !(three_fit(plan, block, at, vars) & refusals.pass(plan.byte_ask(), x) & op_fits(op)) {
         return false;
     }
     if rank.is_straight() {

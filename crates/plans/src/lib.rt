@@ -531,7 +531,7 @@ const LENGTHS: [u8; 256] = [
 const FLOW: u8 = 26;
 
 // The rank of exit_tb.
-const EXIT: u8 = 28;
+pub const EXIT: u8 = 28;
 
 // The ranks, which a call makes once and lends.
 #[derive(Drop)]

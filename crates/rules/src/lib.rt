@@ -9,13 +9,12 @@ ghost use Rattle.ops.specs.Fields.{bytes_at};
 ghost use Rattle.ops.specs.Plans.{ask};
 ghost use Rattle.block.specs.Checks.{first_broken};
 ghost use Rattle.block.specs.Rules.{label_free, all_set};
-ghost use Rattle.block.specs.Scan.{codes_in, declared_all, meets, operands_fit, marked, numbered, op_tests, entry_rule, refusal_table};
+ghost use Rattle.block.specs.Scan.{codes_in, declared_all, meets, operands_fit, marked, numbered, op_tests, entry_rule};
 
 use immediates::{field_ok, no_flags_ok, position_ok, swap_flags_ok};
 use kinds::Entry;
 use limits::{LABELS, is_label, op_fits};
 use memory::{byte_at, flags_ok, from_little_endian};
-use refusals::Refusals;
 
 pub mod refusals;
 
@@ -97,10 +96,10 @@ pub fn rest_ok(t: u32, bytes: &[u8]) -> bool
 }
 
 // Whether none of the tests that are asked for, a bit each, refuses the byte.
-pub fn byte_ok(refusals: &Refusals, asked: u32, x: u8) -> bool
-    ensures { result ≡ eqb (bit_and (get_or refusal_table x 0) asked) 0 }
+pub fn byte_ok(refusals: &[u8; 256], asked: u32, x: u8) -> bool
+    ensures { result ≡ eqb (bit_and (get_or refusals.now x 0) asked) 0 }
 {
-    refusals.pass(asked, x)
+    (refusals[x as usize] as u32 & asked) == 0
 }
 
 // Whether a label is set.

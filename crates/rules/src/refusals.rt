@@ -279,13 +279,6 @@ impl Refusals {
     pub fn pass(&self, asked: u32, x: u8) -> bool
         ensures { result ≡ eqb (bit_and (get_or refusal_table x 0) asked) 0 }
     {
-        pass(&self.rows, asked, x)
+        crate::byte_ok(&self.rows, asked, x)
     }
-}
-
-// The same by any table.
-pub fn pass(refusals: &[u8; 256], asked: u32, x: u8) -> bool
-    ensures { result ≡ eqb (bit_and (get_or refusals.now x 0) asked) 0 }
-{
-    (refusals[x as usize] as u32 & asked) == 0
 }

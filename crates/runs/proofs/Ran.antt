@@ -47,10 +47,10 @@ global_few (c ∷ cs) = go (eqb c 0) (global_few cs)
     go false h = omega arith
 
 -- a refusal
-pub refused_ran : {b places₀ base places labels : List ℕ} {refusal : Refusal} → Rejected row_of b places₀ base places labels refusal → (lent memory : List ℕ)
+pub refused_ran : {b places₀ base places labels : List ℕ} {refusal : Refusal} {start n globals ops : ℕ} → Rejected row_of b places₀ base places labels refusal start n globals ops → (lent memory : List ℕ)
     → ran_as (Err refusal) lent memory ≡ run_of b lent memory
 unfolding run_by run_checked
-refused_ran {b} s lent memory = ap (run_checked document01 (records_of row_of b) lent memory) s.scanned.answers
+refused_ran {b} s lent memory = ap (run_checked document01 (records_of row_of b) lent memory) s.answers
 
 module _ {b places₀ base places labels : List ℕ} {start n globals ops : ℕ} (a : Approved row_of b places₀ base places labels start n globals ops) where
   abbrev declared : List (List ℕ)

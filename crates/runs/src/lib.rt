@@ -1,6 +1,9 @@
 // How a run goes on and ends; definitions in specs/, laws in proofs/.
 #![tactic(auto)]
 
+ghost use Rattle.std.specs.Prelude.{Some};
+ghost use Rattle.runs.specs.Words.{ending_words};
+
 use memory::Reason;
 use std::fmt;
 
@@ -25,11 +28,13 @@ pub enum Ending {
 }
 
 impl fmt::Display for Ending {
+    ghost output = { λ ending. Some (ending_words ending) };
+
     fn fmt<W: fmt::Write>(&self, f: &mut fmt::Formatter<W>) -> fmt::Result {
-        let count = match self {
+        let count = match *self {
             Ending::Exit { value, count } => {
                 write!(f, "exit 0x{value:x}")?;
-                *count
+                count
             }
             Ending::Fault {
                 store,
@@ -38,16 +43,16 @@ impl fmt::Display for Ending {
                 reason,
                 count,
             } => {
-                let access = if *store { "store" } else { "load" };
+                let access = if store { "store" } else { "load" };
                 write!(
                     f,
                     "fault {access} at 0x{address:x} flags 0x{flags:02x} ({reason})"
                 )?;
-                *count
+                count
             }
             Ending::NoResult { position, count } => {
                 write!(f, "no stated result at op {position}")?;
-                *count
+                count
             }
         };
         let ops = if count == 1 { "op" } else { "ops" };

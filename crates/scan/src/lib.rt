@@ -9,7 +9,7 @@ ghost use Rattle.block.specs.Checks.{Accepted, refused_or};
 ghost use Rattle.block.specs.Scan.{entry_rule, end_rule, RoomFor, Begins, ScannedAll, ScannedTo, Approved, Rejected};
 
 use block::Refusal;
-use declarations::scan_declarations;
+use declarations::{Misdeclared, scan_declarations};
 use kinds::Kinds;
 use limits::LABELS;
 use op_marks::mark_op;
@@ -18,16 +18,24 @@ use plans::{Lengths, Rank, Ranks};
 use rules::refusals::Refusals;
 use rules::{all_set, record_rule};
 
+// A refusal, after so many ops.
+#[derive(Clone, Copy)]
+struct Stop {
+    refusal: Refusal,
+    ops: usize,
+}
+
 // The refusal of a record that fails a test.
-fn stopped(block: &[u8], at: usize, ops: usize, vars: &[u8; 256], labels: &[u16; LABELS]) -> Refusal
+fn stopped(block: &[u8], at: usize, ops: usize, vars: &[u8; 256], labels: &[u16; LABELS]) -> Stop
     requires { at < length block.now }
-    ensures { (result.number ≡ entry_rule (entry_at block.now at) block.now at ops vars.now labels.now false) × (result.place ≡ at) }
+    ensures { (result.refusal.number ≡ entry_rule (entry_at block.now at) block.now at ops vars.now labels.now false) × (result.refusal.place ≡ at) × (result.ops ≡ ops) }
 {
     let kinds = Kinds::new();
     let entry = kinds.entry(block[at]);
-    Refusal {
-        number: record_rule(entry, block, at, ops, vars, labels),
-        place: at,
+    let number = record_rule(entry, block, at, ops, vars, labels);
+    Stop {
+        refusal: Refusal { number, place: at },
+        ops,
     }
 }
 
@@ -58,9 +66,9 @@ fn scan_ops(
     base: &[u8; 256],
     places: &mut [u16],
     labels: &mut [u16; LABELS],
-) -> Result<usize, Refusal>
+) -> Result<usize, Stop>
     requires { Begins row_of block.now base.now start × (labels.old ≡ replicate label_count 0) × RoomFor block.now places.old }
-    ensures { MatchResult result (λ ops. ScannedAll row_of block.now start places.old places.new labels.new ops) (λ r. ScannedTo row_of block.now start places.old places.new labels.new r) }
+    ensures { MatchResult result (λ ops. ScannedAll row_of block.now start places.old places.new labels.new ops) (λ s. ScannedTo row_of block.now start places.old places.new labels.new s.refusal s.ops) }
 {
     let ranks = Ranks::new();
     let lengths = Lengths::new();
@@ -83,11 +91,13 @@ fn scan_ops(
         last = rank;
         at += n;
     }
-    end_rule(last, &targets, labels, at)?;
-    Ok(ops)
+    match end_rule(last, &targets, labels, at) {
+        Ok(()) => Ok(ops),
+        Err(refusal) => Err(Stop { refusal, ops }),
+    }
 }
 
-// What the scan of an accepted block finds: the place of the first op; how many variables, globals and ops there are.
+// What the scan finds, of a refused block before the refusal's place: where the ops start; how many variables, globals and ops there are.
 #[derive(Clone, Copy, Debug, PartialEq, Eq)]
 pub struct Found {
     pub start: usize,
@@ -96,23 +106,64 @@ pub struct Found {
     pub ops: usize,
 }
 
+// A refused block: the refusal, and what the scan finds before its place.
+#[derive(Clone, Copy, Debug, PartialEq, Eq)]
+pub struct Broken {
+    pub refusal: Refusal,
+    pub found: Found,
+}
+
+impl From<Broken> for Refusal {
+    ghost from_gives = { λ b refusal. refusal ≡ b.refusal };
+
+    fn from(broken: Broken) -> Refusal {
+        broken.refusal
+    }
+}
+
+// A refused declaration: no op has been read.
+impl From<Misdeclared> for Broken {
+    ghost from_gives = { λ m b. (b.refusal ≡ m.refusal) × (b.found.start ≡ m.refusal.place) × (b.found.variables ≡ m.before.variables) × (b.found.globals ≡ m.before.globals) × (b.found.ops ≡ 0) };
+
+    fn from(m: Misdeclared) -> Broken {
+        Broken {
+            refusal: m.refusal,
+            found: Found {
+                start: m.refusal.place,
+                variables: m.before.variables,
+                globals: m.before.globals,
+                ops: 0,
+            },
+        }
+    }
+}
+
 // Reads a block; of an accepted one base then holds the variables' bytes at the start of an extended basic block, and the other arrays where each op and label is.
 pub fn scan(
     block: &[u8],
     base: &mut [u8; 256],
     places: &mut [u16],
     labels: &mut [u16; LABELS],
-) -> Result<Found, Refusal>
+) -> Result<Found, Broken>
     requires { (base.old ≡ replicate 256 15) × (labels.old ≡ replicate label_count 0) × RoomFor block.now places.old }
-    ensures { MatchResult result (λ f. Approved row_of block.now places.old base.new places.new labels.new f.start f.variables f.globals f.ops) (λ r. Rejected row_of block.now places.old base.new places.new labels.new r) }
+    ensures { MatchResult result (λ f. Approved row_of block.now places.old base.new places.new labels.new f.start f.variables f.globals f.ops) (λ b. Rejected row_of block.now places.old base.new places.new labels.new b.refusal b.found.start b.found.variables b.found.globals b.found.ops) }
 {
     let d = scan_declarations(block, base)?;
     let start = 3 * d.variables;
-    let ops = scan_ops(block, start, base, places, labels)?;
-    Ok(Found {
+    let found = Found {
         start,
         variables: d.variables,
         globals: d.globals,
-        ops,
-    })
+        ops: 0,
+    };
+    match scan_ops(block, start, base, places, labels) {
+        Ok(ops) => Ok(Found { ops, ..found }),
+        Err(stop) => Err(Broken {
+            refusal: stop.refusal,
+            found: Found {
+                ops: stop.ops,
+                ..found
+            },
+        }),
+    }
 }

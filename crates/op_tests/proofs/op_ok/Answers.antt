@@ -65,20 +65,20 @@ three_fit-requires c = let r = c.requires in there c.args.block.now c.args.at r.
 pub more_ok-requires : goal.more_ok-requires
 more_ok-requires c = let r = c.requires in there c.args.block.now c.args.at r.0 r.1 r.2 c.plan-plan.ensures c.if-block-at.false
 
-pub returns-then-not-three_fit-byte_ok : goal.returns-then-not-three_fit-byte_ok
-returns-then-not-three_fit-byte_ok c =
+pub returns-then-not-three_fit-pass : goal.returns-then-not-three_fit-pass
+returns-then-not-three_fit-pass c =
     let r = c.requires in
-    fails c.args.block.now c.args.at r.0 r.1 r.2 c.plan-plan.ensures c.if-block-at.false c.args.op c.args.vars.now c.args.labels.now c.three_fit.ensures c.byte_ask.ensures c.byte_at.ensures (search rules) c.byte_ok.ensures c.op_fits.ensures
-    c.if-not-three_fit-byte_ok.true
+    fails c.args.block.now c.args.at r.0 r.1 r.2 c.plan-plan.ensures c.if-block-at.false c.args.op c.args.vars.now c.args.labels.now c.three_fit.ensures c.byte_ask.ensures c.byte_at.ensures (search rules) c.pass.ensures c.op_fits.ensures
+    c.if-not-three_fit-pass.true
 
 pub returns-then-is_straight : goal.returns-then-is_straight
 returns-then-is_straight c =
     let r = c.requires in
-    straight c.args.block.now c.args.at r.0 r.1 r.2 c.plan-plan.ensures c.if-block-at.false c.args.op c.args.vars.now c.args.labels.now c.three_fit.ensures c.byte_ask.ensures c.byte_at.ensures (search rules) c.byte_ok.ensures c.op_fits.ensures
-    c.if-not-three_fit-byte_ok.false c.is_straight.ensures c.if-is_straight.true
+    straight c.args.block.now c.args.at r.0 r.1 r.2 c.plan-plan.ensures c.if-block-at.false c.args.op c.args.vars.now c.args.labels.now c.three_fit.ensures c.byte_ask.ensures c.byte_at.ensures (search rules) c.pass.ensures c.op_fits.ensures
+    c.if-not-three_fit-pass.false c.is_straight.ensures c.if-is_straight.true
 
 pub returns : goal.returns
 returns c =
     let r = c.requires in
-    passes c.args.block.now c.args.at r.0 r.1 r.2 c.plan-plan.ensures c.if-block-at.false c.args.op c.args.vars.now c.args.labels.now c.three_fit.ensures c.byte_ask.ensures c.byte_at.ensures (search rules) c.byte_ok.ensures c.op_fits.ensures
-    c.if-not-three_fit-byte_ok.false c.more_ok.ensures
+    passes c.args.block.now c.args.at r.0 r.1 r.2 c.plan-plan.ensures c.if-block-at.false c.args.op c.args.vars.now c.args.labels.now c.three_fit.ensures c.byte_ask.ensures c.byte_at.ensures (search rules) c.pass.ensures c.op_fits.ensures
+    c.if-not-three_fit-pass.false c.more_ok.ensures

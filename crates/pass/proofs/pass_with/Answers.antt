@@ -15,7 +15,7 @@ few : {o o' : Ops} (P : List ℕ) (n : ℕ) → o ≡ o' → o'.places.now ≡ t
 few P n e q = rw (e, q) (omega (arith, length-take n P))
 
 pub returns-in_err-s : goal.returns-in_err-s
-returns-in_err-s c = let h = pass_refuses c.args.block.now c.args.out.now c.in_err-s.ensures.scanned.answers in search (rules, h)
+returns-in_err-s c = let h = pass_refuses c.args.block.now c.args.out.now c.in_err-s.ensures.answers in search (rules, h)
 
 pub classes_of-classes-requires : goal.classes_of-classes-requires
 classes_of-classes-requires c = few_by c.in_ok-s.ensures

@@ -3,7 +3,6 @@ use mathlib.Core.Path.{refl, ◌∙◌}
 use Prim.Native.Nat.{ℕ, ◌%◌}
 use mathlib.Core.List.{List}
 use lib.ListN.{length-set}
-use borrow.Author.Rules.{rules}
 use Rattle.ops.specs.Rows.{Table}
 use Rattle.block.specs.Scan.{Reading}
 use Rattle.block.proofs.Scanning.{few_ops_here, stands_at, begins_start, begins_inside}
@@ -34,7 +33,8 @@ loop-at-init c =
 
 pub returns-then-not-op_ok : goal.returns-then-not-op_ok
 returns-then-not-op_ok c =
-    fails_at c.loop-at.invariant.1 c.loop-at-test.true c.op_ok.ensures c.if-not-op_ok.true c.stopped.ensures
+    let s = c.stopped.ensures in
+    rw s.2 (fails_at c.loop-at.invariant.1 c.loop-at-test.true c.op_ok.ensures c.if-not-op_ok.true (s.0, s.1))
 
 pub mark_op-requires : goal.mark_op-requires
 mark_op-requires c =
@@ -62,10 +62,8 @@ bounds-places-ops c =
     let e = c.loop-at.invariant.2 in
     rw e (room c.loop-at.invariant.1 c.loop-at-test.true c.op_ok.ensures c.if-not-op_ok.false c.rank-rank.ensures c.record_length-n.ensures c.requires.2)
 
-pub returns : goal.returns
-returns c =
-    ends_at c.loop-at.invariant.1 c.loop-at-test.false c.end_rule.ensures c.in_ok-end_rule.was
+pub returns-in-Ok : goal.returns-in-Ok
+returns-in-Ok c = ends_at c.loop-at.invariant.1 c.loop-at-test.false c.end_rule.ensures c.in-Ok.is
 
-pub returns-in_err-end_rule : goal.returns-in_err-end_rule
-returns-in_err-end_rule c =
-    let h = ends_refused c.loop-at.invariant.1 c.loop-at-test.false c.end_rule.ensures c.in_err-end_rule.was in search (rules, h)
+pub returns-in-Err : goal.returns-in-Err
+returns-in-Err c = ends_refused c.loop-at.invariant.1 c.loop-at-test.false c.end_rule.ensures c.in-Err.is
